@@ -1,0 +1,3 @@
+-- Laws of the Bool tests and of `do` blocks.
+pub mod Tests
+pub mod Outcomes

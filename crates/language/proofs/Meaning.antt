@@ -1,0 +1,8 @@
+-- Commands and programs keep a state valid.
+pub mod ValidValues
+pub mod Standing
+pub mod Adding
+pub mod Stores
+pub mod ValidCommands
+pub mod ValidRuns
+pub mod Weights

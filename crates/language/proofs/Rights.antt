@@ -1,0 +1,3 @@
+-- Laws of chains and denials.
+pub mod Search
+pub mod Denial

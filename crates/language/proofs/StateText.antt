@@ -1,0 +1,7 @@
+-- Laws of the state text.
+pub mod Names
+pub mod Shape
+pub mod Lines
+pub mod Clean
+pub mod RoundTrip
+pub mod Bound

@@ -1,0 +1,28 @@
+-- The definitions of document 01, each file a subject. Nothing else has to be believed.
+-- Texts and lists
+pub mod Text
+-- "Program text"
+pub mod Bytes
+pub mod Identifiers
+pub mod Syntax
+pub mod Tokens
+pub mod Grammar
+pub mod Programs
+-- "State text" and "Weight"
+pub mod State
+pub mod Weight
+pub mod Valid
+pub mod Encode
+pub mod Decode
+-- "Chains"
+pub mod Chains
+-- "Values" and "Commands"
+pub mod Values
+pub mod Output
+pub mod Commands
+-- "A run" and "Who gets which number"
+pub mod Run
+pub mod Calls
+-- "The book of demand 3"
+pub mod Events
+pub mod History

@@ -1,0 +1,69 @@
+-- Document 01, "Program text": the abstract syntax of expressions, commands and programs.
+use mathlib.Core.Bool.{Bool, true, false}
+use mathlib.Core.List.{List, [], _∷_}
+use Rattle.language.specs.Text.{Text}
+
+abbrev pub Name : Type 0
+Name = Text
+
+pub data Right : Type 0 where
+  read write append delegate : Right
+
+-- the order in which rights are handed out
+abbrev pub rights : List Right
+rights = read ∷ write ∷ append ∷ delegate ∷ []
+
+abbrev pub same : Right → Right → Bool
+same read read = true
+same read write = false
+same read append = false
+same read delegate = false
+same write read = false
+same write write = true
+same write append = false
+same write delegate = false
+same append read = false
+same append write = false
+same append append = true
+same append delegate = false
+same delegate read = false
+same delegate write = false
+same delegate append = false
+same delegate delegate = true
+
+-- what the grammar calls a value: x, x.y or a string
+pub data Operand : Type 0 where
+  name : Name → Operand
+  dot : Name → Name → Operand
+  quoted : Text → Operand
+
+pub record Binding : Type 0 where
+  pub label : Name
+  pub operand : Operand
+
+pub data Expr : Type 0 where
+  single : Operand → Expr
+  nothing : Expr
+  fields : List Binding → Expr
+
+pub data Target : Type 0 where
+  every : Target
+  only : Name → Target
+
+pub data Command : Type 0 where
+  create-principal : Name → Text → Command
+  change-password : Name → Text → Command
+  set : Name → Expr → Command
+  append-to : Name → Expr → Command
+  local : Name → Expr → Command
+  foreach : Name → Name → Expr → Command
+  set-delegation : Target → Name → Right → Name → Command
+  delete-delegation : Target → Name → Right → Name → Command
+  default-delegator : Name → Command
+  exit : Command
+  return : Expr → Command
+
+pub record Program : Type 0 where
+  pub sender : Name
+  pub password : Text
+  pub commands : List Command
