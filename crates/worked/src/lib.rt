@@ -1,0 +1,1 @@
+// The crate is its computed values (specs/).
