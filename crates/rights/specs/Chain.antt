@@ -1,0 +1,48 @@
+-- Chains of delegation: what a right is, as a relation over numbers. Admin is principal 0 and anyone is principal 1.
+use mathlib.Core.Path.{_≡_}
+use mathlib.Core.List.{List, List·Memᴰ}
+use Prim.Native.Nat.{ℕ, suc, _≤_, _<_}
+use Rattle.rights.specs.declared.Answer.{Answer}
+use Rattle.rights.specs.declared.Answer.the-variants.{Yes, No}
+
+infix 50 _∈_
+abbrev pub _∈_ : {A : Type 0} → A → List A → Type 0
+x ∈ l = List·Memᴰ x l
+
+-- the assertion `variable from right -> to`
+pub record Assertion : Type 0 where
+  pub variable : ℕ
+  pub from : ℕ
+  pub right : ℕ
+  pub to : ℕ
+
+-- the assertions that stand, how many principals there are (they are the numbers below `count`), and the variable and right asked for
+pub record Asked : Type 0 where
+  pub standing : List Assertion
+  pub count : ℕ
+  pub variable : ℕ
+  pub right : ℕ
+
+-- a step from q to p: a standing assertion with that variable and right, or from anyone to any principal
+pub data Step (a : Asked) : ℕ → ℕ → Type 0 where
+  assertion : {q p : ℕ} → record { variable = a .variable; from = q; right = a .right; to = p } ∈ a .standing → p < a .count → Step a q p
+  anyone : {q p : ℕ} → q ≡ 1 → p < a .count → Step a q p
+
+-- a chain of n steps from admin to p; admin has the chain of length 0
+pub data Chain (a : Asked) : ℕ → ℕ → Type 0 where
+  admin : 0 < a .count → Chain a 0 0
+  link : {n q p : ℕ} → Chain a n q → Step a q p → Chain a (suc n) p
+
+-- a chain of n steps leads to p and none is shorter; n is at most the principals less one
+pub record Shortest (a : Asked) (p n : ℕ) : Type 0 where
+  pub chain : Chain a n p
+  pub least : (m : ℕ) → Chain a m p → n ≤ m
+  pub short : n < a .count
+
+-- the answer is right: Yes n where the shortest chain has n steps, No where there is none of any length
+abbrev pub Answered : Asked → ℕ → Answer → Type 0
+Answered a p (Yes n) = Shortest a p n
+Answered a p No = (m : ℕ) → Chain a m p → ⊥
+
+abbrev pub asked : List Assertion → ℕ → ℕ → ℕ → Asked
+asked s n v w = record { standing = s; count = n; variable = v; right = w }

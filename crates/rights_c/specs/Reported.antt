@@ -1,0 +1,24 @@
+-- What the exported search reports, as one number.
+use mathlib.Core.Path.{_≡_}
+use mathlib.Core.List.{List, map}
+use mathlib.Core.Logic.{_⊎_}
+use Prim.Native.Nat.{ℕ, _≤_, _<_}
+use lib.ListN.{length}
+use Rattle.rights.specs.Chain.{asked, Answered}
+use Rattle.rights.specs.Packed.{fields}
+use Rattle.rights.specs.declared.Answer.{Answer}
+use Rattle.rights.specs.declared.Answer.the-variants.{Yes, No}
+
+-- an answer's number: the length of the shortest chain, always below 4,096, or 4,096 for no chain
+abbrev pub numberOf : Answer → ℕ
+numberOf (Yes n) = n
+numberOf No = 4096
+
+-- the number of a question that is refused: more than 4,096 principals or more than 2,048 assertions
+abbrev pub refused : ℕ
+refused = 4097
+
+-- r reports on the packed assertions s: refused, or the number of the right answer
+pub record Reported (s : List ℕ) (count variable right principal r : ℕ) : Type 0 where
+  pub refuses : (4096 < count) ⊎ (2048 < length s) → r ≡ refused
+  pub answers : count ≤ 4096 → length s ≤ 2048 → (a : Answer) × Answered (asked (map fields s) count variable right) principal a × (r ≡ numberOf a)

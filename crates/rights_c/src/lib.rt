@@ -1,0 +1,31 @@
+// The search of `rights` for programs in other languages. It asks nothing of its caller but what the types say: what the search does not
+// take is refused with a number.
+use rights::Answer;
+ghost use Rattle.rights_c.specs.Reported.{Reported};
+
+const NO: u64 = 4096;
+
+const REFUSED: u64 = 4097;
+
+// The length of the shortest chain to a principal, or the number for none, or for a question that is refused.
+#[no_mangle]
+pub extern "C" fn rights_shortest(
+    standing: &[u64],
+    count: usize,
+    variable: u16,
+    right: u16,
+    principal: usize,
+) -> u64
+    ensures { λ r. ⌜ Reported (now (standing .entry)) count variable right principal r ⌝ }
+{
+    if 4096 < count {
+        return REFUSED;
+    }
+    if 2048 < standing.len() {
+        return REFUSED;
+    }
+    match rights::shortest(standing, count, variable, right, principal) {
+        Answer::Yes(n) => n as u64,
+        Answer::No => NO,
+    }
+}
