@@ -1,0 +1,76 @@
+// What a program's text says, for programs in other languages: whether it parses, how many commands it has, and of which kind each is.
+use parser::Parsed;
+use parser::Walk;
+use parser::next_command;
+use syntax::command::Command;
+ghost use mathlib.Core.Path.{_≡_};
+ghost use mathlib.Core.List.{List};
+ghost use mathlib.Core.Option.{some};
+ghost use Prim.Native.Nat.{_≤_};
+ghost use lib.ListN.{length};
+ghost use Rattle.language.specs.Syntax as Syntax;
+ghost use Rattle.parser.specs.Walks.{commandsFrom};
+ghost use Rattle.parser_c.specs.Kinds.{code, SomeCommands, Listed, Reported};
+
+const NO: u64 = 65536;
+
+const REFUSED: u64 = 65537;
+
+fn kind(c: Command) -> u8
+    ensures { λ r. ⌜ r ≡ code c ⌝ }
+{
+    match c {
+        Command::CreatePrincipal(_, _) => 1,
+        Command::ChangePassword(_, _) => 2,
+        Command::Set(_, _) => 3,
+        Command::Append(_, _) => 4,
+        Command::Local(_, _) => 5,
+        Command::Foreach(_, _, _) => 6,
+        Command::SetDelegation(_, _, _, _) => 7,
+        Command::DeleteDelegation(_, _, _, _) => 8,
+        Command::DefaultDelegator(_) => 9,
+        Command::Return(_) => 10,
+        Command::Exit => 11,
+    }
+}
+
+// The kinds of the commands from the line at `at` on. How many there are.
+fn list(text: &[u8], at: usize, kinds: &mut [u8]) -> usize
+    requires { ⌜ SomeCommands (now text) at × (length (now text) ≤ 16384) × (16384 ≤ length (now kinds)) ⌝ }
+    ensures { λ r. ⌜ ((cs : List Syntax.Command) → commandsFrom (now (text .entry)) at ≡ some cs → Listed cs (now (kinds .entry)) (now (kinds .exit)) r) ⌝ }
+{
+    let mut p = at;
+    let mut n: usize = 0;
+    loop {
+        let step = next_command(text, p);
+        let Walk::Command(c, next) = step else {
+            return n;
+        };
+        kinds[n] = kind(c);
+        n += 1;
+        p = next;
+    }
+}
+
+// How many commands a program has, their kinds in the first bytes of `kinds`; or the number for a text that does not parse, or for too
+// little room.
+#[no_mangle]
+pub extern "C" fn parser_kinds(text: &[u8], kinds: &mut [u8]) -> u64
+    ensures { λ r. ⌜ Reported (now (text .entry)) (now (kinds .entry)) (now (kinds .exit)) r ⌝ }
+{
+    if kinds.len() < 16384 {
+        return REFUSED;
+    }
+    let parsed = parser::program(text);
+    match parsed {
+        Parsed::Program {
+            sender: _,
+            password: _,
+            at,
+        } => {
+            let n = list(text, at, kinds);
+            n as u64
+        }
+        Parsed::No => NO,
+    }
+}

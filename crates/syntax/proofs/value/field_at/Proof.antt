@@ -1,0 +1,191 @@
+use mathlib.Core.Path.{sym, _∙_}
+use native.Mathlib.Omega.{arith}
+use borrow.Author.Needs.{needs}
+use denote.Ref.{now}
+use lib.ListN.{drop}
+use Rattle.language.specs.Tokens.{lex}
+use Rattle.syntax.specs.Readers.{nextMeant, NextPlaced, foundMeant, FoundPlaced}
+use Rattle.syntax.specs.Values.{operandReadMeant, OperandPlaced}
+use Rattle.syntax.proofs.Reading.{told, known}
+use Rattle.syntax.proofs.Fuel.{record-step}
+use Rattle.syntax.proofs.Fields.{comma-field}
+use Rattle.syntax.proofs.value.field_at.Statement.{statement}
+use Rattle.syntax.proofs.value.field_at.Tie as tie
+
+name-at-requires : tie.Need-name-at-requires
+name-at-requires c κs = search needs
+
+enum-known-label : tie.Need-enum-known-label
+enum-known-label c = search needs
+
+enum-told : tie.Need-enum-told
+enum-told c = search needs
+
+returns : tie.Need-returns
+returns c =
+    let a = c .before .before .before .before .args in
+    let t = now (a .text) in
+    let ts = lex (drop (a .at) t) in
+    let e1 = told (foundMeant t) (c .before .before .name-at .ensures .0) (c .enum-told .given .1) in
+    (sym (record-step ts ∙ rw e1), tt)
+
+slice-aggregate-expect : tie.Need-slice-aggregate-expect
+slice-aggregate-expect c = search needs
+
+expect-requires : tie.Need-expect-requires
+expect-requires c κs =
+    let a = c .before .before .before .before .before .before .args in
+    let t = now (a .text) in
+    let ts = lex (drop (a .at) t) in
+    let p1 = known (FoundPlaced t (a .at)) (c .before .before .before .before .name-at .ensures .1) (c .before .before .label .given .1) in
+    omega arith
+
+enum-known-equals : tie.Need-enum-known-equals
+enum-known-equals c = search needs
+
+enum-told-2 : tie.Need-enum-told-2
+enum-told-2 c = search needs
+
+returns-2 : tie.Need-returns-2
+returns-2 c =
+    let a = c .before .before .before .before .before .before .before .before .before .args in
+    let t = now (a .text) in
+    let ts = lex (drop (a .at) t) in
+    let e1 = told (foundMeant t) (c .before .before .before .before .before .before .before .name-at .ensures .0) (c .before .before .before .before .before .label .given .1) in
+    let e2 = told (nextMeant t) (c .before .before .expect .ensures .0) (c .enum-told2 .given .1) in
+    (sym (record-step ts ∙ rw (e1, e2)), tt)
+
+operand-at-requires : tie.Need-operand-at-requires
+operand-at-requires c κs =
+    let a = c .before .before .before .before .before .before .before .before .before .before .args in
+    let t = now (a .text) in
+    let ts = lex (drop (a .at) t) in
+    let p1 = known (FoundPlaced t (a .at)) (c .before .before .before .before .before .before .before .before .name-at .ensures .1) (c .before .before .before .before .before .before .label .given .1) in
+    let p2 = known (NextPlaced t (c .before .before .before .before .before .before .label .given .0 .1 .0)) (c .before .before .before .expect .ensures .1) (c .before .equals .given .1) in
+    omega arith
+
+enum-known-value : tie.Need-enum-known-value
+enum-known-value c = search needs
+
+enum-told-3 : tie.Need-enum-told-3
+enum-told-3 c = search needs
+
+returns-3 : tie.Need-returns-3
+returns-3 c =
+    let a = c .before .before .before .before .before .before .before .before .before .before .before .before .before .args in
+    let t = now (a .text) in
+    let ts = lex (drop (a .at) t) in
+    let e1 = told (foundMeant t) (c .before .before .before .before .before .before .before .before .before .before .before .name-at .ensures .0) (c .before .before .before .before .before .before .before .before .before .label .given .1) in
+    let e2 = told (nextMeant t) (c .before .before .before .before .before .before .expect .ensures .0) (c .before .before .before .before .equals .given .1) in
+    let e3 = told (operandReadMeant t) (c .before .before .operand-at .ensures .0) (c .enum-told3 .given .1) in
+    (sym (record-step ts ∙ rw (e1, e2, e3)), tt)
+
+slice-aggregate-expect-2 : tie.Need-slice-aggregate-expect-2
+slice-aggregate-expect-2 c = search needs
+
+expect-requires-2 : tie.Need-expect-requires-2
+expect-requires-2 c κs =
+    let a = c .before .before .before .before .before .before .before .before .before .before .before .before .before .before .before .args in
+    let t = now (a .text) in
+    let ts = lex (drop (a .at) t) in
+    let p1 = known (FoundPlaced t (a .at)) (c .before .before .before .before .before .before .before .before .before .before .before .before .before .name-at .ensures .1) (c .before .before .before .before .before .before .before .before .before .before .before .label .given .1) in
+    let p2 = known (NextPlaced t (c .before .before .before .before .before .before .before .before .before .before .before .label .given .0 .1 .0)) (c .before .before .before .before .before .before .before .before .expect .ensures .1) (c .before .before .before .before .before .before .equals .given .1) in
+    let p3 = known (OperandPlaced t (c .before .before .before .before .before .before .equals .given .0 .0)) (c .before .before .before .before .operand-at .ensures .1) (c .before .before .value .given .1) in
+    omega arith
+
+enum-known-comma : tie.Need-enum-known-comma
+enum-known-comma c = search needs
+
+returns-4 : tie.Need-returns-4
+returns-4 c =
+    let a = c .before .before .before .before .before .before .before .before .before .before .before .before .before .before .before .before .before .before .before .args in
+    let t = now (a .text) in
+    let ts = lex (drop (a .at) t) in
+    let e1 = told (foundMeant t) (c .before .before .before .before .before .before .before .before .before .before .before .before .before .before .before .before .before .name-at .ensures .0) (c .before .before .before .before .before .before .before .before .before .before .before .before .before .before .before .label .given .1) in
+    let e2 = told (nextMeant t) (c .before .before .before .before .before .before .before .before .before .before .before .before .expect .ensures .0) (c .before .before .before .before .before .before .before .before .before .before .equals .given .1) in
+    let e3 = told (operandReadMeant t) (c .before .before .before .before .before .before .before .before .operand-at .ensures .0) (c .before .before .before .before .before .before .value .given .1) in
+    let e4 = told (nextMeant t) (c .before .before .before .expect2 .ensures .0) (c .before .comma .given .1) in
+    let p1 = known (FoundPlaced t (a .at)) (c .before .before .before .before .before .before .before .before .before .before .before .before .before .before .before .before .before .name-at .ensures .1) (c .before .before .before .before .before .before .before .before .before .before .before .before .before .before .before .label .given .1) in
+    let p2 = known (NextPlaced t (c .before .before .before .before .before .before .before .before .before .before .before .before .before .before .before .label .given .0 .1 .0)) (c .before .before .before .before .before .before .before .before .before .before .before .before .expect .ensures .1) (c .before .before .before .before .before .before .before .before .before .before .equals .given .1) in
+    let p3 = known (OperandPlaced t (c .before .before .before .before .before .before .before .before .before .before .equals .given .0 .0)) (c .before .before .before .before .before .before .before .before .operand-at .ensures .1) (c .before .before .before .before .before .before .value .given .1) in
+    let p4 = known (NextPlaced t (c .before .before .before .before .before .before .value .given .0 .1 .0)) (c .before .before .before .expect2 .ensures .1) (c .before .comma .given .1) in
+    (sym (record-step ts ∙ comma-field ts e1 e2 e3 e4), (omega arith, p3 .0, omega arith, omega arith))
+
+enum-told-4 : tie.Need-enum-told-4
+enum-told-4 c = search needs
+
+slice-aggregate-expect-3 : tie.Need-slice-aggregate-expect-3
+slice-aggregate-expect-3 c = search needs
+
+expect-requires-3 : tie.Need-expect-requires-3
+expect-requires-3 c κs =
+    let a = c .before .before .before .before .before .before .before .before .before .before .before .before .before .before .before .before .before .before .before .args in
+    let t = now (a .text) in
+    let ts = lex (drop (a .at) t) in
+    let p1 = known (FoundPlaced t (a .at)) (c .before .before .before .before .before .before .before .before .before .before .before .before .before .before .before .before .before .name-at .ensures .1) (c .before .before .before .before .before .before .before .before .before .before .before .before .before .before .before .label .given .1) in
+    let p2 = known (NextPlaced t (c .before .before .before .before .before .before .before .before .before .before .before .before .before .before .before .label .given .0 .1 .0)) (c .before .before .before .before .before .before .before .before .before .before .before .before .expect .ensures .1) (c .before .before .before .before .before .before .before .before .before .before .equals .given .1) in
+    let p3 = known (OperandPlaced t (c .before .before .before .before .before .before .before .before .before .before .equals .given .0 .0)) (c .before .before .before .before .before .before .before .before .operand-at .ensures .1) (c .before .before .before .before .before .before .value .given .1) in
+    omega arith
+
+enum-known-brace : tie.Need-enum-known-brace
+enum-known-brace c = search needs
+
+enum-told-5 : tie.Need-enum-told-5
+enum-told-5 c = search needs
+
+returns-5 : tie.Need-returns-5
+returns-5 c =
+    let a = c .before .before .before .before .before .before .before .before .before .before .before .before .before .before .before .before .before .before .before .before .before .before .args in
+    let t = now (a .text) in
+    let ts = lex (drop (a .at) t) in
+    let e1 = told (foundMeant t) (c .before .before .before .before .before .before .before .before .before .before .before .before .before .before .before .before .before .before .before .before .name-at .ensures .0) (c .before .before .before .before .before .before .before .before .before .before .before .before .before .before .before .before .before .before .label .given .1) in
+    let e2 = told (nextMeant t) (c .before .before .before .before .before .before .before .before .before .before .before .before .before .before .before .expect .ensures .0) (c .before .before .before .before .before .before .before .before .before .before .before .before .before .equals .given .1) in
+    let e3 = told (operandReadMeant t) (c .before .before .before .before .before .before .before .before .before .before .before .operand-at .ensures .0) (c .before .before .before .before .before .before .before .before .before .value .given .1) in
+    let e4 = told (nextMeant t) (c .before .before .before .before .before .before .expect2 .ensures .0) (c .before .before .before .before .enum-told4 .given .1) in
+    let e5 = told (nextMeant t) (c .before .before .expect3 .ensures .0) (c .enum-told5 .given .1) in
+    (sym (record-step ts ∙ rw (e1, e2, e3, e5, e4)), tt)
+
+returns-6 : tie.Need-returns-6
+returns-6 c =
+    let a = c .before .before .before .before .before .before .before .before .before .before .before .before .before .before .before .before .before .before .before .before .before .before .before .args in
+    let t = now (a .text) in
+    let ts = lex (drop (a .at) t) in
+    let e1 = told (foundMeant t) (c .before .before .before .before .before .before .before .before .before .before .before .before .before .before .before .before .before .before .before .before .before .name-at .ensures .0) (c .before .before .before .before .before .before .before .before .before .before .before .before .before .before .before .before .before .before .before .label .given .1) in
+    let e2 = told (nextMeant t) (c .before .before .before .before .before .before .before .before .before .before .before .before .before .before .before .before .expect .ensures .0) (c .before .before .before .before .before .before .before .before .before .before .before .before .before .before .equals .given .1) in
+    let e3 = told (operandReadMeant t) (c .before .before .before .before .before .before .before .before .before .before .before .before .operand-at .ensures .0) (c .before .before .before .before .before .before .before .before .before .before .value .given .1) in
+    let e4 = told (nextMeant t) (c .before .before .before .before .before .before .before .expect2 .ensures .0) (c .before .before .before .before .before .enum-told4 .given .1) in
+    let e5 = told (nextMeant t) (c .before .before .before .expect3 .ensures .0) (c .before .brace .given .1) in
+    let p1 = known (FoundPlaced t (a .at)) (c .before .before .before .before .before .before .before .before .before .before .before .before .before .before .before .before .before .before .before .before .before .name-at .ensures .1) (c .before .before .before .before .before .before .before .before .before .before .before .before .before .before .before .before .before .before .before .label .given .1) in
+    let p2 = known (NextPlaced t (c .before .before .before .before .before .before .before .before .before .before .before .before .before .before .before .before .before .before .before .label .given .0 .1 .0)) (c .before .before .before .before .before .before .before .before .before .before .before .before .before .before .before .before .expect .ensures .1) (c .before .before .before .before .before .before .before .before .before .before .before .before .before .before .equals .given .1) in
+    let p3 = known (OperandPlaced t (c .before .before .before .before .before .before .before .before .before .before .before .before .before .before .equals .given .0 .0)) (c .before .before .before .before .before .before .before .before .before .before .before .before .operand-at .ensures .1) (c .before .before .before .before .before .before .before .before .before .before .value .given .1) in
+    let p5 = known (NextPlaced t (c .before .before .before .before .before .before .before .before .before .before .value .given .0 .1 .0)) (c .before .before .before .expect3 .ensures .1) (c .before .brace .given .1) in
+    (sym (record-step ts ∙ rw (e1, e2, e3, e5)), (omega arith, p3 .0, omega arith, omega arith))
+
+pub field-at-spec : {M : Type 1} → statement M
+field-at-spec =
+    tie.close
+    (tie.spec
+    name-at-requires
+    enum-known-label
+    enum-told
+    returns
+    slice-aggregate-expect
+    expect-requires
+    enum-known-equals
+    enum-told-2
+    returns-2
+    operand-at-requires
+    enum-known-value
+    enum-told-3
+    returns-3
+    slice-aggregate-expect-2
+    expect-requires-2
+    enum-known-comma
+    returns-4
+    enum-told-4
+    slice-aggregate-expect-3
+    expect-requires-3
+    enum-known-brace
+    enum-told-5
+    returns-5
+    returns-6)

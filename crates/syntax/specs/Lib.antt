@@ -1,0 +1,6 @@
+-- What the crate's types mean in the terms of the language.
+pub mod Tokens
+pub mod Readers
+pub mod Values
+pub mod Forms
+pub mod Commands

@@ -1,0 +1,88 @@
+-- What values, fields and expressions that were read mean in the terms of document 01's grammar, and where they stand.
+use Prim.Native.Nat.{ℕ, _≤_, _<_}
+use mathlib.Core.Bool.{Bool, true, false}
+use mathlib.Core.Option.{Option, none, some}
+use mathlib.Core.List.{List, [], _∷_}
+use lib.ListN.{length, drop}
+use mathlib.Core.Path.{_≡_}
+use Rattle.language.specs.Text.{Text, _>>=_, present}
+use Rattle.language.specs.Tokens.{Token, lex}
+use Rattle.language.specs.Syntax as Syntax
+use Rattle.language.specs.Grammar.{anyFields}
+use Rattle.text.specs.Meaning.{part, Within}
+use Rattle.syntax.specs.declared.value.Operand.{Operand}
+use Rattle.syntax.specs.declared.value.Operand.the-variants.{Name, Field, Quoted}
+use Rattle.syntax.specs.declared.value.OperandRead.{OperandRead}
+use Rattle.syntax.specs.declared.value.OperandRead.the-variants as OperandIs
+use Rattle.syntax.specs.declared.value.FieldRead.{FieldRead}
+use Rattle.syntax.specs.declared.value.FieldRead.the-variants as FieldIs
+use Rattle.syntax.specs.declared.value.Expr.{Expr}
+use Rattle.syntax.specs.declared.value.Expr.the-variants.{Single, Empty, Record}
+use Rattle.syntax.specs.declared.value.ExprRead.{ExprRead}
+use Rattle.syntax.specs.declared.value.ExprRead.the-variants as ExprIs
+
+-- ---- values
+abbrev pub operandMeant : Text → Operand → Syntax.Operand
+operandMeant t (Name x) = Syntax.name (part t x)
+operandMeant t (Field x y) = Syntax.dot (part t x) (part t y)
+operandMeant t (Quoted s) = Syntax.quoted (part t s)
+
+abbrev pub OperandWithin : Text → Operand → Type 0
+OperandWithin t (Name x) = Within t x
+OperandWithin t (Field x y) = Within t x × Within t y
+OperandWithin t (Quoted s) = Within t s
+
+abbrev pub operandReadMeant : Text → OperandRead → Option (Syntax.Operand × List Token)
+operandReadMeant t (OperandIs.Found o n) = some (operandMeant t o, lex (drop n t))
+operandReadMeant t OperandIs.No = none
+
+abbrev pub OperandPlaced : Text → ℕ → OperandRead → Type 0
+OperandPlaced t at (OperandIs.Found o n) = OperandWithin t o × (at < n) × (n ≤ length t)
+OperandPlaced t at OperandIs.No = Unit
+
+-- ---- fields
+-- the fields of a record that stand from place `at` on, and the tokens past its brace
+abbrev pub recordAt : Text → ℕ → Option (List Syntax.Binding × List Token)
+recordAt t at = anyFields (length (lex (drop at t))) (lex (drop at t))
+
+abbrev pub skipped : Option (List Syntax.Binding × List Token) → Option (Unit {0} × List Token)
+skipped none = none
+skipped (some r) = some (tt, r .1)
+
+-- a field in front of others
+abbrev pub before : Syntax.Binding → Option (List Syntax.Binding × List Token) → Option (List Syntax.Binding × List Token)
+before b none = none
+before b (some r) = some (b ∷ r .0, r .1)
+
+-- the field b, and the others where there are more of them
+abbrev pub withField : Text → Syntax.Binding → Bool → ℕ → Option (List Syntax.Binding × List Token)
+withField t b true n = before b (recordAt t n)
+withField t b false n = some (b ∷ [], lex (drop n t))
+
+abbrev pub fieldMeant : Text → FieldRead → Option (List Syntax.Binding × List Token)
+fieldMeant t (FieldIs.Found x v more n) = withField t (record { label = part t x; operand = operandMeant t v }) more n
+fieldMeant t FieldIs.No = none
+
+abbrev pub FieldPlaced : Text → ℕ → FieldRead → Type 0
+FieldPlaced t at (FieldIs.Found x v more n) = Within t x × OperandWithin t v × (at < n) × (n ≤ length t)
+FieldPlaced t at FieldIs.No = Unit
+
+-- ---- expressions
+abbrev pub exprMeant : Text → Expr → Option Syntax.Expr
+exprMeant t (Single v) = some (Syntax.single (operandMeant t v))
+exprMeant t Empty = some Syntax.nothing
+exprMeant t (Record p) = recordAt t p >>= λ r. some (Syntax.fields (r .0))
+
+-- every place in an expression is within the text, and a record has its fields
+abbrev pub ExprWithin : Text → Expr → Type 0
+ExprWithin t (Single v) = OperandWithin t v
+ExprWithin t Empty = Unit
+ExprWithin t (Record p) = (p ≤ length t) × (present (recordAt t p) ≡ true)
+
+abbrev pub exprReadMeant : Text → ExprRead → Option (Syntax.Expr × List Token)
+exprReadMeant t (ExprIs.Found e n) = exprMeant t e >>= λ x. some (x, lex (drop n t))
+exprReadMeant t ExprIs.No = none
+
+abbrev pub ExprPlaced : Text → ℕ → ExprRead → Type 0
+ExprPlaced t at (ExprIs.Found e n) = ExprWithin t e × (at < n) × (n ≤ length t)
+ExprPlaced t at ExprIs.No = Unit

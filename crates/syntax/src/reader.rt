@@ -1,0 +1,87 @@
+// Readers of one token. A reader starts at a place of the text and, where it reads, gives the place past what it read.
+use crate::token::Token;
+use text::Span;
+ghost use mathlib.Core.Path.{_≡_};
+ghost use Prim.Native.Nat.{_≤_};
+ghost use lib.ListN.{length, drop};
+ghost use Rattle.language.specs.Tokens.{lex};
+ghost use Rattle.language.specs.Grammar.{theSign, anyName, anyString};
+ghost use Rattle.syntax.specs.Readers.{anySign, nextMeant, NextPlaced, foundMeant, FoundPlaced};
+
+// What was read says nothing but that it was there.
+pub enum Next {
+    At(usize),
+    No,
+}
+
+// What was read stands at a place.
+pub enum Found {
+    At(Span, usize),
+    No,
+}
+
+// A keyword or a mark.
+pub fn sign_at(text: &[u8], at: usize) -> Found
+    requires { ⌜ at ≤ length (now text) ⌝ }
+    ensures meant { λ r. ⌜ foundMeant (now (text .entry)) r ≡ anySign (lex (drop at (now (text .entry)))) ⌝ }
+    ensures placed { λ r. ⌜ FoundPlaced (now (text .entry)) at r ⌝ }
+{
+    let t = crate::token::token_at(text, at);
+    match t {
+        Token::End => Found::No,
+        Token::Sign(s, n) => Found::At(s, n),
+        Token::Name(_, _) => Found::No,
+        Token::Quoted(_, _) => Found::No,
+        Token::Wrong => Found::No,
+    }
+}
+
+// An identifier.
+pub fn name_at(text: &[u8], at: usize) -> Found
+    requires { ⌜ at ≤ length (now text) ⌝ }
+    ensures meant { λ r. ⌜ foundMeant (now (text .entry)) r ≡ anyName (lex (drop at (now (text .entry)))) ⌝ }
+    ensures placed { λ r. ⌜ FoundPlaced (now (text .entry)) at r ⌝ }
+{
+    let t = crate::token::token_at(text, at);
+    match t {
+        Token::End => Found::No,
+        Token::Sign(_, _) => Found::No,
+        Token::Name(s, n) => Found::At(s, n),
+        Token::Quoted(_, _) => Found::No,
+        Token::Wrong => Found::No,
+    }
+}
+
+// A string.
+pub fn string_at(text: &[u8], at: usize) -> Found
+    requires { ⌜ at ≤ length (now text) ⌝ }
+    ensures meant { λ r. ⌜ foundMeant (now (text .entry)) r ≡ anyString (lex (drop at (now (text .entry)))) ⌝ }
+    ensures placed { λ r. ⌜ FoundPlaced (now (text .entry)) at r ⌝ }
+{
+    let t = crate::token::token_at(text, at);
+    match t {
+        Token::End => Found::No,
+        Token::Sign(_, _) => Found::No,
+        Token::Name(_, _) => Found::No,
+        Token::Quoted(s, n) => Found::At(s, n),
+        Token::Wrong => Found::No,
+    }
+}
+
+// The keyword or mark `word`.
+pub fn expect(text: &[u8], at: usize, word: &[u8]) -> Next
+    requires { ⌜ at ≤ length (now text) ⌝ }
+    ensures meant { λ r. ⌜ nextMeant (now (text .entry)) r ≡ theSign (now (word .entry)) (lex (drop at (now (text .entry)))) ⌝ }
+    ensures placed { λ r. ⌜ NextPlaced (now (text .entry)) at r ⌝ }
+{
+    let sign = sign_at(text, at);
+    let Found::At(s, n) = sign else {
+        return Next::No;
+    };
+    let start = s.start;
+    let end = s.end;
+    if text::same_bytes(&text[start..end], word) {
+        return Next::At(n);
+    }
+    Next::No
+}

@@ -1,0 +1,148 @@
+// Readers of values, of the fields of a record, and of expressions.
+use crate::reader::Found;
+use crate::reader::Next;
+use crate::token::Token;
+use text::Span;
+ghost use mathlib.Core.Path.{_≡_};
+ghost use Prim.Native.Nat.{ℕ, _≤_, _<_};
+ghost use lib.ListN.{length, drop};
+ghost use Rattle.language.specs.Tokens.{lex};
+ghost use Rattle.language.specs.Grammar.{anyOperand, fieldOrVariable, anyExpression};
+ghost use Rattle.text.specs.Meaning.{part, Within};
+ghost use Rattle.syntax.specs.Readers.{nextMeant, NextPlaced};
+ghost use Rattle.syntax.specs.Values.{recordAt, skipped, operandReadMeant, OperandPlaced, fieldMeant, FieldPlaced, exprReadMeant, ExprPlaced};
+
+// A value: x, x.y or a string.
+pub enum Operand {
+    Name(Span),
+    Field(Span, Span),
+    Quoted(Span),
+}
+
+pub enum OperandRead {
+    Found(Operand, usize),
+    No,
+}
+
+// The value that starts with a name, from the place `at` past it: a field of the variable, or the variable.
+fn dotted(text: &[u8], name: Span, at: usize) -> OperandRead
+    requires { ⌜ at ≤ length (now text) ⌝ }
+    requires { ⌜ Within (now text) name ⌝ }
+    ensures meant { λ r. ⌜ operandReadMeant (now (text .entry)) r ≡ fieldOrVariable (part (now (text .entry)) name) (lex (drop at (now (text .entry)))) ⌝ }
+    ensures placed { λ r. ⌜ ((from : ℕ) → from < at → OperandPlaced (now (text .entry)) from r) ⌝ }
+{
+    let dot = crate::reader::expect(text, at, b".");
+    let Next::At(p) = dot else {
+        return OperandRead::Found(Operand::Name(name), at);
+    };
+    let field = crate::reader::name_at(text, p);
+    let Found::At(y, n) = field else {
+        return OperandRead::Found(Operand::Name(name), at);
+    };
+    OperandRead::Found(Operand::Field(name, y), n)
+}
+
+pub fn operand_at(text: &[u8], at: usize) -> OperandRead
+    requires { ⌜ at ≤ length (now text) ⌝ }
+    ensures meant { λ r. ⌜ operandReadMeant (now (text .entry)) r ≡ anyOperand (lex (drop at (now (text .entry)))) ⌝ }
+    ensures placed { λ r. ⌜ OperandPlaced (now (text .entry)) at r ⌝ }
+{
+    let t = crate::token::token_at(text, at);
+    match t {
+        Token::End => OperandRead::No,
+        Token::Sign(_, _) => OperandRead::No,
+        Token::Name(s, n) => dotted(text, s, n),
+        Token::Quoted(s, n) => OperandRead::Found(Operand::Quoted(s), n),
+        Token::Wrong => OperandRead::No,
+    }
+}
+
+// A field of a record: its label, its value, whether another field follows, and the place past the comma or the brace.
+pub enum FieldRead {
+    Found(Span, Operand, bool, usize),
+    No,
+}
+
+// The fields of a record from `at` on: the first one, and where the others stand.
+pub fn field_at(text: &[u8], at: usize) -> FieldRead
+    requires { ⌜ at ≤ length (now text) ⌝ }
+    ensures meant { λ r. ⌜ fieldMeant (now (text .entry)) r ≡ recordAt (now (text .entry)) at ⌝ }
+    ensures placed { λ r. ⌜ FieldPlaced (now (text .entry)) at r ⌝ }
+{
+    let label = crate::reader::name_at(text, at);
+    let Found::At(x, a) = label else {
+        return FieldRead::No;
+    };
+    let equals = crate::reader::expect(text, a, b"=");
+    let Next::At(b) = equals else {
+        return FieldRead::No;
+    };
+    let value = operand_at(text, b);
+    let OperandRead::Found(v, e) = value else {
+        return FieldRead::No;
+    };
+    let comma = crate::reader::expect(text, e, b",");
+    if let Next::At(n) = comma {
+        return FieldRead::Found(x, v, true, n);
+    }
+    let brace = crate::reader::expect(text, e, b"}");
+    let Next::At(n) = brace else {
+        return FieldRead::No;
+    };
+    FieldRead::Found(x, v, false, n)
+}
+
+// The place past the fields of a record and its brace.
+fn record_end(text: &[u8], at: usize) -> Next
+    requires { ⌜ at ≤ length (now text) ⌝ }
+    ensures meant { λ r. ⌜ nextMeant (now (text .entry)) r ≡ skipped (recordAt (now (text .entry)) at) ⌝ }
+    ensures placed { λ r. ⌜ NextPlaced (now (text .entry)) at r ⌝ }
+{
+    let mut p = at;
+    loop {
+        let field = field_at(text, p);
+        let FieldRead::Found(_, _, more, n) = field else {
+            return Next::No;
+        };
+        if !more {
+            return Next::At(n);
+        }
+        p = n;
+    }
+}
+
+// An expression: a value, `[]`, or a record, whose fields stand past the place of its brace.
+pub enum Expr {
+    Single(Operand),
+    Empty,
+    Record(usize),
+}
+
+pub enum ExprRead {
+    Found(Expr, usize),
+    No,
+}
+
+pub fn expression_at(text: &[u8], at: usize) -> ExprRead
+    requires { ⌜ at ≤ length (now text) ⌝ }
+    ensures meant { λ r. ⌜ exprReadMeant (now (text .entry)) r ≡ anyExpression (lex (drop at (now (text .entry)))) ⌝ }
+    ensures placed { λ r. ⌜ ExprPlaced (now (text .entry)) at r ⌝ }
+{
+    let empty = crate::reader::expect(text, at, b"[]");
+    if let Next::At(n) = empty {
+        return ExprRead::Found(Expr::Empty, n);
+    }
+    let brace = crate::reader::expect(text, at, b"{");
+    if let Next::At(p) = brace {
+        let last = record_end(text, p);
+        let Next::At(n) = last else {
+            return ExprRead::No;
+        };
+        return ExprRead::Found(Expr::Record(p), n);
+    }
+    let value = operand_at(text, at);
+    let OperandRead::Found(v, n) = value else {
+        return ExprRead::No;
+    };
+    ExprRead::Found(Expr::Single(v), n)
+}

@@ -1,0 +1,23 @@
+use native.Mathlib.Omega.{arith}
+use mathlib.Core.List.{[], _∷_}
+use mathlib.Core.Bool.{true, false}
+use Rattle.text.proofs.Classes.{in-interval, at-keys, sameBool, same-bool}
+use Rattle.language.specs.Text.{bytes}
+use Rattle.language.specs.Bytes.{_∈_}
+use Rattle.text.proofs.string_mark.Statement.{statement}
+use Rattle.text.proofs.string_mark.Tie as tie
+
+returns : tie.Need-returns
+returns c = in-interval sameBool same-bool (λ _. false) (λ x. x ∈ bytes "_,;.?!-") 0 44 (33 ∷ 59 ∷ 63 ∷ 95 ∷ []) tt (c .before .before .args .b) (omega arith) (omega arith) (c .before .match .rest .1)
+
+returns-2 : tie.Need-returns-2
+returns-2 c = in-interval sameBool same-bool (λ _. false) (λ x. x ∈ bytes "_,;.?!-") 47 209 (33 ∷ 59 ∷ 63 ∷ 95 ∷ []) tt (c .before .before .before .args .b) (omega arith) (omega arith) (c .before .before .match .rest .1)
+
+returns-3 : tie.Need-returns-3
+returns-3 c = at-keys sameBool same-bool (λ _. true) (λ x. x ∈ bytes "_,;.?!-") (33 ∷ 59 ∷ 63 ∷ 95 ∷ []) tt (c .before .args .b) (c .match .keys1)
+
+returns-4 : tie.Need-returns-4
+returns-4 c = in-interval sameBool same-bool (λ _. true) (λ x. x ∈ bytes "_,;.?!-") 44 3 [] tt (c .before .before .before .args .b) (omega arith) (omega arith) (λ z. z)
+
+pub string-mark-spec : {M : Type 1} → statement M
+string-mark-spec = tie.close (tie.spec returns returns-2 returns-3 returns-4)
