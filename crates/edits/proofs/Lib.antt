@@ -1,0 +1,6 @@
+-- Laws that belong to no one function.
+pub mod Splicing
+pub mod Rewriting
+pub mod Putting
+pub mod Adding
+pub mod PasswordChanges

@@ -1,0 +1,119 @@
+use mathlib.Core.Path.{_≡_, sym, _∙_}
+use mathlib.Core.List.{List, [], _∷_, map}
+use mathlib.Core.Option.{some}
+use Prim.Native.Nat.{_+_, _≤_, _<_}
+use native.Mathlib.Omega.{arith}
+use borrow.Author.Needs.{needs}
+use lib.ListN.{length, take}
+use lib.Seq.{length-take-le}
+use Rattle.language.specs.State.{Principal}
+use Rattle.language.specs.Encode.{newline}
+use Rattle.store.specs.Held.{Principals}
+use Rattle.store.specs.Rows.{principalRow, Placed}
+use Rattle.store.specs.Contents.{principalAt}
+use Rattle.store.proofs.Holders.{principals-rows, some-principals}
+use Rattle.store.proofs.Passwords.{lies}
+use Rattle.edits.proofs.Rewriting.{respelled-spot}
+use Rattle.edits.proofs.PasswordChanges.{bare-respelled, opened, store-outside}
+use Rattle.edits.proofs.change.open_line.Statement.{statement}
+use Rattle.edits.proofs.change.open_line.Tie as tie
+
+placed : (c : tie.After-nth) (ks : List Principal) → let a = c .before .before .before .before .before .before .args in Principals ks (take (a .len) (a .buf .now)) (a .count) (a .marks .now)
+    → Placed (map principalRow ks) (a .number) (c .nth .result)
+placed c ks K = let a = c .before .before .before .before .before .before .args in c .nth .ensures (map principalRow ks) (principals-rows ks (take (a .len) (a .buf .now)) (a .count) (a .marks .now) K)
+
+fits : (c : tie.Start) → c .args .len ≤ length (c .args .buf .now)
+fits c = omega (arith, c .pre .1)
+
+-- the record lies in the text
+safe : (c : tie.After-nth) → let r = c .nth .result in (r .start < r .mid) × (r .mid ≤ c .before .before .before .before .before .before .args .len)
+safe c =
+    let s = c .before .before .before .before .before .before in
+    let a = s .args in
+    let S = s .pre .3 in
+    let t = take (a .len) (a .buf .now) in
+    let l = lies (map principalRow (S .principals)) t (a .count) (a .marks .now) (principals-rows (S .principals) t (a .count) (a .marks .now) (S .held)) (a .number) (S .below) (c .nth .result) (placed c (S .principals) (S .held)) in
+    let n = length-take-le (a .len) (a .buf .now) (fits s) in
+    (omega (arith, l .first), omega (arith, l .middle, l .last, n))
+
+slice-reshare-prefix-nth : tie.Need-slice-reshare-prefix-nth
+slice-reshare-prefix-nth c = search needs
+
+slice-aggregate-nth : tie.Need-slice-aggregate-nth
+slice-aggregate-nth c = sym (length-take-le _ _ (fits (c .before .before .before .before)))
+
+nth-requires : tie.Need-nth-requires
+nth-requires c κs =
+    let s = c .before .before .before .before .before in
+    let a = s .args in
+    let S = s .pre .3 in
+    (some-principals (S .principals) (take (a .len) (a .buf .now)) (a .count) (a .marks .now) (S .held), S .below)
+
+slice-aggregate-rewrite : tie.Need-slice-aggregate-rewrite
+slice-aggregate-rewrite c = search needs
+
+rewrite-requires : tie.Need-rewrite-requires
+rewrite-requires c κs =
+    let s = c .before .before .before .before .before .before .before .before .before .before in
+    let a = s .args in
+    let p = s .pre in
+    let S = p .3 in
+    let t = take (a .len) (a .buf .now) in
+    let q = c .before .before .before .before .nth .result in
+    let P = placed (c .before .before .before .before) (S .principals) (S .held) in
+    let R = bare-respelled (S .principals) t (a .count) (a .marks .now) (S .held) (a .number) (S .below) q P (S .bare) in (
+      p .0,
+      fits s,
+      p .2,
+      respelled-spot (map principalRow (S .principals)) t (a .count) (a .marks .now) (principals-rows (S .principals) t (a .count) (a .marks .now) (S .held)) (a .number)
+          (q .mid) (q .mid) (9 ∷ []) (record { letter = 78; name = principalAt (S .principals) (a .number) .name; body = some (newline ∷ []) }) (S .below) R,
+      omega (arith, safe (c .before .before .before .before), p .1),
+    )
+
+slice-write-buf : tie.Need-slice-write-buf
+slice-write-buf c = omega (arith, safe (c .before .before .before .before .before .before .before .before .before .before .before), c .before .before .before .before .before .before .before .before .before .before .before .before .before .before .before .before .before .pre .1, c .before .before .before .before .before .before .rewrite .kept .0)
+
+same-length : tie.Need-same-length
+same-length c = search needs
+
+same-length-2 : tie.Need-same-length-2
+same-length-2 c = search needs
+
+same-length-3 : tie.Need-same-length-3
+same-length-3 c = search needs
+
+returns : tie.Need-returns
+returns c =
+    let s = c .before .before .before .before .before .before .before .before .before .before .before .before .before .before .before .before .before in
+    let a = s .args in
+    let t = take (a .len) (a .buf .now) in
+    let k = s .pre .3 .below in
+    let E = c .before .before .before .before .before .before .rewrite in
+    let q = c .before .before .before .before .before .before .before .before .before .before .before .nth .result in
+    let f = safe (c .before .before .before .before .before .before .before .before .before .before .before) in
+    let size : E .result ≡ a .len + 1 = E .ensures .0 ∙ omega (arith, f) in (
+      size,
+      (
+        store-outside (a .buf .now) (E .last .0) (E .result) (a .marks .now) (E .last .1 .1 .1 .0) (a .count) (q .start) 80 (omega (arith, f, size)) (E .ensures .1 .0),
+        λ ks K e.
+            opened ks t (a .count) (a .marks .now) K (a .number) k (E .last .0) (E .result) (q .start) (E .last .1 .1 .1 .0)
+            (E .ensures .1 .1 (map principalRow ks) (record { letter = 78; name = principalAt ks (a .number) .name; body = some (newline ∷ []) }) (principals-rows ks t (a .count) (a .marks .now) K)
+            (bare-respelled ks t (a .count) (a .marks .now) K (a .number) k q (placed (c .before .before .before .before .before .before .before .before .before .before .before) ks K) e))
+            (placed (c .before .before .before .before .before .before .before .before .before .before .before) ks K .starts) (omega (arith, f, size)),
+      ),
+    )
+
+pub open-line-spec : {M : Type 1} → statement M
+open-line-spec =
+    tie.close
+    (tie.spec
+    slice-reshare-prefix-nth
+    slice-aggregate-nth
+    nth-requires
+    slice-aggregate-rewrite
+    rewrite-requires
+    slice-write-buf
+    same-length
+    same-length-2
+    same-length-3
+    returns)

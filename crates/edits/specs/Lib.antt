@@ -1,0 +1,3 @@
+-- What the changes ask and leave.
+pub mod Splices
+pub mod Changes

@@ -1,0 +1,56 @@
+-- `render::state::put_header` meets its contract. A count has at most ten digits.
+-- Assumes nothing.
+use native.Mathlib.Omega.{arith}
+use Rattle.language.proofs.StateText.Clean.{digits-length}
+use Rattle.values.proofs.Pieces.{_▸_, rewritten, written-length}
+use Rattle.render.proofs.Lines.{count-digits}
+use Rattle.render.specs.Lines.{Digits}
+use borrow.Author.Needs.{needs}
+use Rattle.render.proofs.state.put_header.Statement.{statement}
+use Rattle.render.proofs.state.put_header.Tie as tie
+
+ten : (c : tie.Start) → Digits 9 (c .args .count)
+ten c = count-digits (c .args .count) (omega arith)
+
+open-letter-requires : tie.Need-open-letter-requires
+open-letter-requires c κs = search needs
+
+put-byte-requires : tie.Need-put-byte-requires
+put-byte-requires c κs = search needs
+
+put-byte-requires-2 : tie.Need-put-byte-requires-2
+put-byte-requires-2 c κs = search needs
+
+put-digits-requires : tie.Need-put-digits-requires
+put-digits-requires c κs = record {
+  more = 9;
+  enough = ten (c .before .before .before .before .before .before .before .before .before .before .before);
+  room = omega (arith, c .before .before .before .before .before .before .before .before .before .before .before .pre, digits-length 9 (c .before .before .before .before .before .before .before .before .before .before .before .args .count), c .before .before .before .before .before .before .before .put-byte .ensures .ends, c .before .before .before .put-byte2 .ensures .ends, written-length (c .before .before .before .before .before .before .before .put-byte .ensures), written-length (c .before .before .before .put-byte2 .ensures));
+}
+
+put-byte-requires-3 : tie.Need-put-byte-requires-3
+put-byte-requires-3 c κs =
+    let W = c .before .before .before .put-digits .ensures 9 (ten (c .before .before .before .before .before .before .before .before .before .before .before .before .before .before .before)) in
+    omega (arith, c .before .before .before .before .before .before .before .before .before .before .before .before .before .before .before .pre, digits-length 9 (c .before .before .before .before .before .before .before .before .before .before .before .before .before .before .before .args .count), c .before .before .before .before .before .before .before .before .before .before .before .put-byte .ensures .ends, c .before .before .before .before .before .before .before .put-byte2 .ensures .ends, W .ends)
+
+same-length : tie.Need-same-length
+same-length c = search needs
+
+returns : tie.Need-returns
+returns c =
+    rewritten (c .before .before .before .before .before .before .before .before .before .before .before .before .before .before .before .open-letter .ensures) (c .before .before .before .before .before .before .before .before .before .before .before .before .before .before .put-byte .ensures)
+    ▸ c .before .before .before .before .before .before .before .before .before .before .put-byte2 .ensures
+    ▸ c .before .before .before .before .before .before .put-digits .ensures 9 (ten (c .before .before .before .before .before .before .before .before .before .before .before .before .before .before .before .before .before .before))
+    ▸ c .before .before .put-byte3 .ensures
+
+pub put-header-spec : {M : Type 1} → statement M
+put-header-spec =
+    tie.close
+    (tie.spec
+    open-letter-requires
+    put-byte-requires
+    put-byte-requires-2
+    put-digits-requires
+    put-byte-requires-3
+    same-length
+    returns)

@@ -1,0 +1,4 @@
+-- The standing assertions as numbers.
+pub mod Standing
+pub mod Shapes
+pub mod Known

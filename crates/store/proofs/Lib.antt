@@ -1,0 +1,7 @@
+-- Laws that belong to no one function.
+pub mod Records
+pub mod Positions
+pub mod Lookups
+pub mod Holders
+pub mod Answers
+pub mod Passwords

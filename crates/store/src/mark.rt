@@ -1,0 +1,124 @@
+// Records by name and by number. A mark is the print of the record's name times 65,536 plus the place where the record starts, so that a
+// name is looked for among numbers, and bytes are compared only where the prints are equal.
+ghost use mathlib.Core.Path.{_≡_};
+ghost use mathlib.Core.List.{List};
+ghost use Prim.Native.Nat.{ℕ, _+_, _-_, _/_, _%_, _≤_, _<_};
+ghost use lib.ListN.{length, getD};
+ghost use Rattle.language.specs.Text.{_==_};
+ghost use Rattle.store.specs.Held.{part, print};
+ghost use Rattle.store.specs.Rows.{Row, Rows, SomeRows, place, Placed};
+ghost use Rattle.store.specs.Scans.{FirstHit};
+use text::Alphabet;
+
+// Where a record stands: its number, and its text from `start` up to `end`.
+pub enum Found {
+    At {
+        number: usize,
+        start: usize,
+        end: usize,
+    },
+    Missing,
+}
+
+// A record of a known number: its text from `start` up to `end`; its name from `start + 2` up to `mid`.
+pub struct Place {
+    pub start: usize,
+    pub mid: usize,
+    pub end: usize,
+}
+
+fn wide(b: u8) -> u64
+    ensures { λ r. ⌜ r ≡ b ⌝ }
+{
+    b as u64
+}
+
+// A name's print.
+pub fn print(name: &[u8]) -> u64
+    ensures { λ r. ⌜ r ≡ print (now (name .entry)) ⌝ }
+{
+    let mut h = 0;
+    let mut i = 0;
+    while i < name.len() {
+        h = (h * 31 + wide(name[i])) % 4294967296;
+        i += 1;
+    }
+    h
+}
+
+// The first of the marks from `from` up to `to` that has the print `p`, or `to` where there is none.
+fn scan(marks: &[u64], from: usize, to: usize, p: u64) -> usize
+    requires { ⌜ (from ≤ to) × (to ≤ length (now marks)) ⌝ }
+    ensures { λ r. ⌜ FirstHit (now (marks .entry)) from to p r ⌝ }
+{
+    let mut i = from;
+    while i < to {
+        if marks[i] / 65536 == p {
+            return i;
+        }
+        i += 1;
+    }
+    i
+}
+
+// Where the record of a mark starts.
+fn start_of(marks: &[u64], number: usize) -> usize
+    requires { ⌜ number < length (now marks) ⌝ }
+    ensures { λ r. ⌜ r ≡ getD (now (marks .entry)) number 0 % 65536 ⌝ }
+{
+    (marks[number] % 65536) as usize
+}
+
+// The record of a number.
+pub fn nth(text: &[u8], marks: &[u64], count: usize, number: usize) -> Place
+    requires { ⌜ SomeRows (now text) count (now marks) × (number < count) ⌝ }
+    ensures { λ r. ⌜ ((rows : List Row) → Rows rows (now (text .entry)) count (now (marks .entry)) → Placed rows number r) ⌝ }
+{
+    let start = start_of(marks, number);
+    let at = start + 2;
+    let mid = text::run_end(text, at, Alphabet::Word);
+    let next = number + 1;
+    if next < count {
+        let end = start_of(marks, next);
+        return Place { start, mid, end };
+    }
+    let end = text.len();
+    Place { start, mid, end }
+}
+
+// Whether the bytes from `from` up to `to` are the name.
+fn is_named(text: &[u8], from: usize, to: usize, name: &[u8]) -> bool
+    requires { ⌜ (from ≤ to) × (to ≤ length (now text)) ⌝ }
+    ensures { λ r. ⌜ r ≡ (part (now (text .entry)) from to == now (name .entry)) ⌝ }
+{
+    text::same_bytes(&text[from..to], name)
+}
+
+// The record of a name.
+pub fn find(text: &[u8], marks: &[u64], count: usize, name: &[u8]) -> Found
+    requires { ⌜ SomeRows (now text) count (now marks) ⌝ }
+    ensures { λ r. ⌜ ((rows : List Row) → Rows rows (now (text .entry)) count (now (marks .entry)) → r ≡ place rows (now (name .entry))) ⌝ }
+{
+    let p = print(name);
+    let mut i = 0;
+    while i < count {
+        let k = scan(marks, i, count, p);
+        if k == count {
+            return Found::Missing;
+        }
+        let at = nth(text, marks, count, k);
+        let start = at.start;
+        let from = start + 2;
+        let to = at.mid;
+        if is_named(text, from, to, name) {
+            let end = at.end;
+            return Found::At {
+                number: k,
+                start,
+                end,
+            };
+        }
+        i = k + 1;
+    }
+    Found::Missing
+}

@@ -1,0 +1,9 @@
+-- Laws of a value's text, of the places in it, of its weight, and of writing.
+pub mod Texts
+pub mod Standing
+pub mod Lines
+pub mod FirstByte
+pub mod Searching
+pub mod Listing
+pub mod Weighing
+pub mod Pieces
