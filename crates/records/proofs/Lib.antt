@@ -1,0 +1,8 @@
+-- Laws of records read one after the other, and of each sort of record.
+pub mod Opening
+pub mod Follow
+pub mod Sorts
+pub mod Marking
+pub mod Labels
+pub mod Values
+pub mod Variables

@@ -1,0 +1,208 @@
+// The records of the state text: fields, elements, values and variables, each read from a place on, or shown not to stand there.
+use lines::Cut;
+use store::mark::Found;
+use text::Alphabet;
+ghost use mathlib.Core.Path.{_≡_};
+ghost use mathlib.Core.Bool.{not};
+ghost use mathlib.Core.List.{List};
+ghost use Prim.Native.Nat.{_+_, _*_, _-_, _≤_};
+ghost use lib.ListN.{length, drop, getD};
+ghost use Rattle.lines.specs.Cuts.{part};
+ghost use Rattle.store.specs.Rows.{Row, Rows};
+ghost use Rattle.records.specs.Entering.{Entering, Entered};
+ghost use Rattle.records.specs.Sections.{offElement, Safe, StringMeant, FieldMeant, FieldsMeant, ElementMeant, ElementsMeant, ValueMeant, VariableMeant};
+
+// A record: where it ends, and what is weighed with it.
+pub enum Item {
+    Good(usize, usize),
+    Bad,
+}
+
+// A record with a name: where the name ends, where the record ends, and what is weighed with it.
+pub enum Entry {
+    Good(usize, usize, usize),
+    Bad,
+}
+
+// Records one after the other: where they end, how many, and what is weighed with them.
+pub enum Section {
+    Good(usize, usize, usize),
+    Bad,
+}
+
+// A string that ends its line.
+pub fn string_at(text: &[u8], at: usize, w: usize) -> Item
+    requires { ⌜ (at ≤ length (now text)) × (w ≤ 16384) ⌝ }
+    ensures { λ r. ⌜ StringMeant (now (text .entry)) at w r ⌝ }
+{
+    let cut = lines::run_cut(text, at, Alphabet::Text, 10);
+    let Cut::At(e) = cut else {
+        return Item::Bad;
+    };
+    let size = e - at;
+    if size > 8192 {
+        return Item::Bad;
+    }
+    let after = w + size;
+    if after > 8192 {
+        return Item::Bad;
+    }
+    Item::Good(e + 1, after)
+}
+
+// A field line.
+fn field_at(text: &[u8], at: usize, w: usize) -> Entry
+    requires { ⌜ (getD (now text) at 0 ≡ 70) × (w ≤ 8193) ⌝ }
+    ensures { λ r. ⌜ FieldMeant (now (text .entry)) at w r ⌝ }
+{
+    if lines::byte_at(text, at + 1) != 9 {
+        return Entry::Bad;
+    }
+    let label = lines::name_end(text, at + 2, 9);
+    let Cut::At(m) = label else {
+        return Entry::Bad;
+    };
+    let string = string_at(text, m + 1, w + 1 + (m - (at + 2)));
+    let Item::Good(e, after) = string else {
+        return Entry::Bad;
+    };
+    Entry::Good(m, e, after)
+}
+
+// A name that starts at i + 2 and ends at m is entered as the n-th of the records that stand from `at` up to i, if it is new.
+pub fn enter(text: &[u8], at: usize, i: usize, m: usize, marks: &mut [u64], n: usize) -> bool
+    requires { ⌜ Entering (now text) at i m n (now marks) ⌝ }
+    ensures { λ r. ⌜ ((rows : List Row) → Rows rows (part (now (text .entry)) at i) n (now (marks .entry))
+        → Entered rows (part (now (text .entry)) (i + 2) m) (i - at) n (now (marks .entry)) (now (marks .exit)) r) ⌝ }
+{
+    let from = i + 2;
+    let seen = store::mark::find(&text[at..i], marks, n, &text[from..m]);
+    let Found::Missing = seen else {
+        return false;
+    };
+    marks[n] = store::mark::print(&text[from..m]) * 65536 + (i - at) as u64;
+    true
+}
+
+// Field lines with different labels. The marks of the labels go to `marks`, to tell whether one is there twice.
+fn fields(text: &[u8], at: usize, w: usize, marks: &mut [u64]) -> Section
+    requires { ⌜ Safe (now text) at w (now marks) ⌝ }
+    ensures { λ r. ⌜ FieldsMeant (now (text .entry)) at w r ⌝ }
+{
+    let mut i = at;
+    let mut n = 0;
+    let mut now = w;
+    while lines::byte_at(text, i) == 70 {
+        let line = field_at(text, i, now);
+        let Entry::Good(m, e, after) = line else {
+            return Section::Bad;
+        };
+        if !enter(text, at, i, m, marks, n) {
+            return Section::Bad;
+        }
+        n += 1;
+        i = e;
+        now = after;
+    }
+    if now > 8192 {
+        return Section::Bad;
+    }
+    Section::Good(i, n, now)
+}
+
+// A string or a record, as an element of a list or a whole value.
+fn element_at(text: &[u8], at: usize, w: usize, marks: &mut [u64]) -> Item
+    requires { ⌜ Safe (now text) at w (now marks) ⌝ }
+    ensures { λ r. ⌜ ElementMeant (now (text .entry)) at w r ⌝ }
+{
+    let first = lines::byte_at(text, at);
+    if first == 83 {
+        if lines::byte_at(text, at + 1) != 9 {
+            return Item::Bad;
+        }
+        return string_at(text, at + 2, w);
+    }
+    if first != 82 {
+        return Item::Bad;
+    }
+    if lines::byte_at(text, at + 1) != 10 {
+        return Item::Bad;
+    }
+    let found = fields(text, at + 2, w, marks);
+    let Section::Good(e, n, after) = found else {
+        return Item::Bad;
+    };
+    if n == 0 {
+        return Item::Bad;
+    }
+    Item::Good(e, after)
+}
+
+// Whether a list goes on here; a field that no record has before it is none of its elements.
+fn goes_on(text: &[u8], at: usize) -> bool
+    ensures { λ r. ⌜ r ≡ not (offElement (drop at (now (text .entry)))) ⌝ }
+{
+    let first = lines::byte_at(text, at);
+    if first == 83 {
+        return true;
+    }
+    if first == 82 {
+        return true;
+    }
+    first == 70
+}
+
+// The elements of a list.
+fn elements(text: &[u8], at: usize, w: usize, marks: &mut [u64]) -> Item
+    requires { ⌜ Safe (now text) at w (now marks) × (w ≤ 8192) ⌝ }
+    ensures { λ r. ⌜ ElementsMeant (now (text .entry)) at w r ⌝ }
+{
+    let mut i = at;
+    let mut now = w;
+    while goes_on(text, i) {
+        let item = element_at(text, i, now + 1, marks);
+        let Item::Good(e, after) = item else {
+            return Item::Bad;
+        };
+        i = e;
+        now = after;
+    }
+    Item::Good(i, now)
+}
+
+// The value of a variable.
+fn value_at(text: &[u8], at: usize, w: usize, marks: &mut [u64]) -> Item
+    requires { ⌜ Safe (now text) at w (now marks) × (w ≤ 8192) ⌝ }
+    ensures { λ r. ⌜ ValueMeant (now (text .entry)) at w r ⌝ }
+{
+    if lines::byte_at(text, at) != 76 {
+        return element_at(text, at, w, marks);
+    }
+    if lines::byte_at(text, at + 1) != 10 {
+        return Item::Bad;
+    }
+    elements(text, at + 2, w, marks)
+}
+
+// A variable: its name, and its value.
+pub fn variable_at(text: &[u8], at: usize, w: usize, marks: &mut [u64]) -> Entry
+    requires { ⌜ Safe (now text) at w (now marks) × (getD (now text) at 0 ≡ 86) ⌝ }
+    ensures { λ r. ⌜ VariableMeant (now (text .entry)) at w r ⌝ }
+{
+    if lines::byte_at(text, at + 1) != 9 {
+        return Entry::Bad;
+    }
+    let name = lines::name_end(text, at + 2, 9);
+    let Cut::At(m) = name else {
+        return Entry::Bad;
+    };
+    let before = w + 1 + (m - (at + 2));
+    if before > 8192 {
+        return Entry::Bad;
+    }
+    let value = value_at(text, m + 1, before, marks);
+    let Item::Good(e, after) = value else {
+        return Entry::Bad;
+    };
+    Entry::Good(m, e, after)
+}

@@ -1,0 +1,205 @@
+-- The loop over the principals: their order, and their marks.
+-- Assumes nothing.
+use mathlib.Core.Path.{_≡_, refl, sym, ap, subst, _∙_}
+use Prim.Native.Nat.{ℕ, suc, _+_, _-_, _≤_, _<_}
+use native.Mathlib.Omega.{arith}
+use mathlib.Core.Bool.{Bool, true, false, _&&_}
+use mathlib.Core.Option.{Option, none, some}
+use mathlib.Core.List.{List, [], _∷_, _++_, map}
+use lib.Dec.{T}
+use lib.ListN.{length, drop}
+use Rattle.language.specs.Text.{Text, all, _==_, joined, distinct}
+use Rattle.language.specs.State.{Principal, admin, anyone}
+use Rattle.language.specs.Weight.{principalWeight}
+use Rattle.language.specs.Identifiers.{isName}
+use Rattle.language.specs.Valid.{validPassword, validPrincipal, validOrder, hasPassword}
+use Rattle.language.proofs.Logic.Tests.{both, and, three, four}
+use Rattle.lines.specs.Cuts.{part}
+use Rattle.store.specs.Rows.{Row, Rows, rowText, principalRow}
+use Rattle.store.proofs.Holders.{principal-text}
+use Rattle.records.specs.Sections.{Fails, lightOne, lightAll, Entitled, anyText}
+use Rattle.records.specs.Entering.{Entering, Entered}
+use Rattle.records.proofs.Follow.{stuck, spoilt, finish}
+use Rattle.records.proofs.Marking.{Going, going-start, going-held, going-rows, entering, go-on, again, light, ahead}
+use Rattle.validate.specs.People.{personText, offPerson, inPlace, orderly, goodPeople}
+use Rattle.validate.specs.Listed.{Listed}
+use Rattle.validate.proofs.Persons.{name-light, place-other}
+
+-- ---- order
+
+shift : (m n : ℕ) (k : Principal) → T (inPlace (m + suc n) (k .name) (hasPassword k)) → T (inPlace (suc m + n) (k .name) (hasPassword k))
+shift m n k h = let e : m + suc n ≡ suc m + n = omega arith in subst (λ (x : ℕ). T (inPlace x (k .name) (hasPassword k))) e h
+
+shift-back : (m n : ℕ) (k : Principal) → T (inPlace (suc m + n) (k .name) (hasPassword k)) → T (inPlace (m + suc n) (k .name) (hasPassword k))
+shift-back m n k h = let e : suc m + n ≡ m + suc n = omega arith in subst (λ (x : ℕ). T (inPlace x (k .name) (hasPassword k))) e h
+
+zero-sum : (m : ℕ) (k : Principal) → T (inPlace (m + 0) (k .name) (hasPassword k)) → T (inPlace m (k .name) (hasPassword k))
+zero-sum m k h = let e : m + 0 ≡ m = omega arith in subst (λ (x : ℕ). T (inPlace x (k .name) (hasPassword k))) e h
+
+sum-zero : (m : ℕ) (k : Principal) → T (inPlace m (k .name) (hasPassword k)) → T (inPlace (m + 0) (k .name) (hasPassword k))
+sum-zero m k h = let e : m ≡ m + 0 = omega arith in subst (λ (x : ℕ). T (inPlace x (k .name) (hasPassword k))) e h
+
+orderly-last : (m : ℕ) (ks : List Principal) (k : Principal) → T (orderly m ks) → T (inPlace (m + length ks) (k .name) (hasPassword k)) → T (orderly m (ks ++ k ∷ []))
+orderly-last m [] k h p = and (inPlace m (k .name) (hasPassword k)) true (zero-sum m k p) tt
+orderly-last m (l ∷ ks) k h p =
+    let (h₁, h₂) = both (inPlace m (l .name) (hasPassword l)) (orderly (suc m) ks) h in
+    and (inPlace m (l .name) (hasPassword l)) (orderly (suc m) (ks ++ k ∷ [])) h₁ (orderly-last (suc m) ks k h₂ (shift m (length ks) k p))
+
+orderly-at : (m : ℕ) (ks ms : List Principal) (k : Principal) → T (orderly m (ks ++ k ∷ ms)) → T (inPlace (m + length ks) (k .name) (hasPassword k))
+orderly-at m [] ms k h = sum-zero m k (both (inPlace m (k .name) (hasPassword k)) (orderly (suc m) ms) h .0)
+orderly-at m (l ∷ ks) ms k h =
+    shift-back m (length ks) k (orderly-at (suc m) ks ms k (both (inPlace m (l .name) (hasPassword l)) (orderly (suc m) (ks ++ k ∷ ms)) h .1))
+
+others-orderly : (m : ℕ) (ks : List Principal) → T (all hasPassword ks) → T (orderly (suc (suc m)) ks)
+others-orderly m [] h = tt
+others-orderly m (k ∷ ks) h =
+    let (h₁, h₂) = both (hasPassword k) (all hasPassword ks) h in
+    let z : suc (suc m) ≡ 0 → ⊥ = λ e. omega arith in
+    let o : suc (suc m) ≡ 1 → ⊥ = λ e. omega arith in
+    and (inPlace (suc (suc m)) (k .name) (hasPassword k)) (orderly (suc (suc (suc m))) ks)
+    (subst (λ (b : Bool). T b) (place-other (suc (suc m)) (k .name) (hasPassword k) z o) h₁) (others-orderly (suc m) ks h₂)
+
+orderly-others : (m : ℕ) (ks : List Principal) → T (orderly (suc (suc m)) ks) → T (all hasPassword ks)
+orderly-others m [] h = tt
+orderly-others m (k ∷ ks) h =
+    let (h₁, h₂) = both (inPlace (suc (suc m)) (k .name) (hasPassword k)) (orderly (suc (suc (suc m))) ks) h in
+    let z : suc (suc m) ≡ 0 → ⊥ = λ e. omega arith in
+    let o : suc (suc m) ≡ 1 → ⊥ = λ e. omega arith in
+    and (hasPassword k) (all hasPassword ks)
+    (subst (λ (b : Bool). T b) (sym (place-other (suc (suc m)) (k .name) (hasPassword k) z o)) h₁) (orderly-others (suc m) ks h₂)
+
+order-orderly : (ks : List Principal) → T (validOrder ks) → (2 ≤ length ks) × T (orderly 0 ks)
+order-orderly [] h = absurd h
+order-orderly (k ∷ []) h = absurd h
+order-orderly (k ∷ l ∷ ks) h =
+    let (a, b, c, d) = four (k .name == admin) (hasPassword k) (l .name == anyone) (all hasPassword ks) h in (
+      omega arith,
+      and ((k .name == admin) && hasPassword k) ((l .name == anyone) && orderly 2 ks) (and (k .name == admin) (hasPassword k) a b)
+          (and (l .name == anyone) (orderly 2 ks) c (others-orderly 0 ks d)),
+    )
+
+orderly-order : (ks : List Principal) → 2 ≤ length ks → T (orderly 0 ks) → T (validOrder ks)
+orderly-order [] l h = absurd (omega arith)
+orderly-order (k ∷ []) l h = absurd (omega arith)
+orderly-order (k ∷ m ∷ ks) l h =
+    let (h₁, h₂) = both ((k .name == admin) && hasPassword k) ((m .name == anyone) && orderly 2 ks) h in
+    let (a, b) = both (k .name == admin) (hasPassword k) h₁ in
+    let (c, d) = both (m .name == anyone) (orderly 2 ks) h₂ in
+    and ((k .name == admin) && hasPassword k && (m .name == anyone)) (all hasPassword ks)
+    (and ((k .name == admin) && hasPassword k) (m .name == anyone) (and (k .name == admin) (hasPassword k) a b) c) (orderly-others 0 ks d)
+
+-- ---- the loop
+
+person-clear : (k : Principal) (q : Text) → T (anyText (personText k ++ q))
+person-clear k q = tt
+
+person-on : (k : Principal) (q : Text) → T (offPerson (personText k ++ q)) → ⊥
+person-on k q h = go (k .password) h
+  where
+    go : (o : Option Text) → T (offPerson (personText (record { name = k .name; password = o }) ++ q)) → ⊥
+    go none h = h
+    go (some u) h = h
+
+person-named : (k : Principal) → T (validPrincipal k) → T (isName (k .name))
+person-named k h = both (isName (k .name)) (validPassword (k .password)) h .0
+
+person-two : (k : Principal) → T (validPrincipal k) → 2 ≤ principalWeight k
+person-two k h = let l = name-light (k .name) (person-named k h) in omega (arith, l .0)
+
+person-some : (k : Principal) → 0 < length (personText k)
+person-some k = go (k .password)
+  where
+    go : (o : Option Text) → 0 < length (personText (record { name = k .name; password = o }))
+    go none = omega arith
+    go (some u) = omega arith
+
+person-text : (k : Principal) → personText k ≡ rowText (principalRow k)
+person-text k = principal-text (k .name) (k .password)
+
+-- what the loop over the principals knows
+pub record Ranking (t : Text) (at : ℕ) (marks : List ℕ) (i n now : ℕ) : Type 0 where
+  pub going : Going (λ (k : Principal). k .name) personText validPrincipal principalWeight offPerson t at 0 marks i n now
+  pub in-order : T (orderly 0 (going .rows))
+
+pub ranking-start : (t : Text) (at : ℕ) (marks : List ℕ) → at ≤ length t → Ranking t at marks at 0 0
+unfolding going-start
+ranking-start t at marks h = record {
+  going = going-start (λ (k : Principal). k .name) personText validPrincipal principalWeight anyText offPerson (λ q h. tt) person-clear person-on t at 0 marks h;
+  in-order = tt;
+}
+
+module _ (t : Text) (at : ℕ) (marks : List ℕ) (i n now : ℕ) (K : Ranking t at marks i n now) where
+  abbrev NoPeople : Type 0
+  NoPeople = Fails (joined personText) (lightAll validPrincipal goodPeople principalWeight 0) offPerson t at
+
+  abbrev G : Going (λ (k : Principal). k .name) personText validPrincipal principalWeight offPerson t at 0 marks i n now
+  G = K .going
+
+  -- where no principal follows, these are all
+  module _ (o : T (offPerson (drop i t))) where
+    pub too-few : n < 2 → now ≤ 8192 → NoPeople
+    too-few l lt ks q f oq d =
+        let (a, g, w) = three (all validPrincipal ks) (goodPeople ks) _ f in
+        let r = finish personText validPrincipal principalWeight anyText offPerson (λ q h. tt) person-clear person-on t at 0 (λ l. true) (G .rows) i now (G .run) o tt lt in
+        let (same, left) = r .only ks q (and (all validPrincipal ks && true) _ (and (all validPrincipal ks) true a tt) w) oq d in
+        let (two, x) = order-orderly ks (both (validOrder ks) (distinct (map (λ k. k .name) ks)) g .0) in
+        omega (arith, G .counted, ap length same)
+
+    pub people-good : 2 ≤ n → now ≤ 8192 → length t ≤ 65536 → Listed (λ (k : Principal). k .name) personText validPrincipal goodPeople principalWeight offPerson t at 0 marks i n now
+    people-good l lt small = record {
+      records = record {
+        rows = G .rows;
+        reads = finish personText validPrincipal principalWeight anyText offPerson (λ q h. tt) person-clear person-on t at 0 goodPeople (G .rows) i now (G .run) o
+            (and (validOrder (G .rows)) (distinct (map (λ k. k .name) (G .rows))) (orderly-order (G .rows) (omega (arith, G .counted)) (K .in-order)) (G .apart)) lt;
+        weighed = G .run .weighed;
+        counted = G .counted;
+        ends = o;
+      };
+      held = going-held (λ (k : Principal). k .name) personText validPrincipal principalWeight anyText offPerson (λ q h. tt) person-clear person-on person-named person-two principalRow person-text (λ k. refl) t at 0 marks i n now G small;
+    }
+
+  module _ (on : T (offPerson (drop i t)) → ⊥) where
+    pub people-stuck : Fails personText (lightOne validPrincipal principalWeight now) anyText t i → NoPeople
+    people-stuck = stuck personText validPrincipal principalWeight anyText offPerson (λ q h. tt) person-clear person-on t at 0 (G .rows) i now (G .run) on goodPeople
+
+    module _ (m e after : ℕ) (E : Entitled (λ (k : Principal). k .name) personText validPrincipal principalWeight anyText t i now m e after) where
+      -- what the test of the place says
+      placed : (has : Bool) → has ≡ hasPassword (E .one .row) → inPlace n (part t (i + 2) m) has ≡ inPlace (0 + length (G .rows)) (E .one .row .name) (hasPassword (E .one .row))
+      placed has h =
+          let z : n ≡ 0 + length (G .rows) = omega (arith, G .counted) in
+          ap (λ (x : ℕ). inPlace x (part t (i + 2) m) has) z
+          ∙ ap (λ (x : Text). inPlace (0 + length (G .rows)) x has) (E .is-name)
+          ∙ ap (λ (b : Bool). inPlace (0 + length (G .rows)) (E .one .row .name) b) h
+
+      pub person-ahead : i < e
+      person-ahead = ahead t (personText (E .one .row)) i e (E .one .reads .here) (person-some (E .one .row)) (E .one .reads .low) (E .one .reads .high)
+
+      pub person-light : after ≤ 8192
+      person-light = light (λ (k : Principal). k .name) personText validPrincipal principalWeight anyText offPerson (λ q h. tt) person-clear person-on person-named person-two principalRow person-text (λ k. refl) t at 0 marks i n now G m e after E
+
+      pub person-entering : length t ≤ 65536 → length marks ≡ 4096 → Entering t at i m n marks
+      person-entering small l = entering (λ (k : Principal). k .name) personText validPrincipal principalWeight anyText offPerson (λ q h. tt) person-clear person-on person-named person-two principalRow person-text (λ k. refl) t at 0 marks i n now G m e after E small (omega arith)
+
+      module _ (has : Bool) (is : has ≡ hasPassword (E .one .row)) where
+        pub misplaced : inPlace n (part t (i + 2) m) has ≡ false → NoPeople
+        misplaced p =
+            spoilt personText validPrincipal principalWeight anyText offPerson (λ q h. tt) person-clear person-on t at 0 (G .rows) i now (G .run) on (E .one .row) e after (E .one .reads) (E .one .weighed) goodPeople
+            (λ ms g.
+            let (two, x) = order-orderly (G .rows ++ E .one .row ∷ ms) (both (validOrder (G .rows ++ E .one .row ∷ ms)) (distinct (map (λ k. k .name) (G .rows ++ E .one .row ∷ ms))) g .0) in
+            subst (λ (b : Bool). T b) (sym (placed has is) ∙ p) (orderly-at 0 (G .rows) ms (E .one .row) x))
+
+        module _ (small : length t ≤ 65536) (marks' : List ℕ) where
+          pub person-again : ((rows : List Row) → Rows rows (part t at i) n marks → Entered rows (part t (i + 2) m) (i - at) n marks marks' false) → NoPeople
+          person-again f =
+              again (λ (k : Principal). k .name) personText validPrincipal principalWeight anyText offPerson (λ q h. tt) person-clear person-on person-named person-two principalRow person-text (λ k. refl) t at 0 marks i n now G m e after E on goodPeople
+              (λ l g. both (validOrder l) (distinct (map (λ k. k .name) l)) g .1) marks'
+              (f _ (going-rows (λ (k : Principal). k .name) personText validPrincipal principalWeight anyText offPerson (λ q h. tt) person-clear person-on person-named person-two principalRow person-text (λ k. refl) t at 0 marks i n now G small))
+
+          pub person-next : length marks ≡ 4096 → inPlace n (part t (i + 2) m) has ≡ true → ((rows : List Row) → Rows rows (part t at i) n marks → Entered rows (part t (i + 2) m) (i - at) n marks marks' true) → Ranking t at marks' e (n + 1) after
+          unfolding go-on
+          person-next l p f = record {
+            going =
+                go-on (λ (k : Principal). k .name) personText validPrincipal principalWeight anyText offPerson (λ q h. tt) person-clear person-on person-named person-two principalRow person-text (λ k. refl) t at 0 marks i n now G m e after E on (omega arith) marks'
+                (f _ (going-rows (λ (k : Principal). k .name) personText validPrincipal principalWeight anyText offPerson (λ q h. tt) person-clear person-on person-named person-two principalRow person-text (λ k. refl) t at 0 marks i n now G small));
+            in-order = orderly-last 0 (G .rows) (E .one .row) (K .in-order) (subst (λ (b : Bool). T b) (sym (sym (placed has is) ∙ p)) tt);
+          }
