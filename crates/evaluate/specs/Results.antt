@@ -1,0 +1,73 @@
+-- What an answer of the evaluation says of the value of an expression.
+use mathlib.Core.Path.{_≡_}
+use Prim.Native.Nat.{ℕ, _≤_, _<_}
+use mathlib.Core.Option.{Option, none, some}
+use mathlib.Core.List.{List}
+use lib.Dec.{T}
+use lib.ListN.{length, take}
+use Rattle.language.specs.Text.{Text, _>>=_}
+use Rattle.language.specs.Tokens.{Token}
+use Rattle.language.specs.Syntax.{Name, Binding, Expr, fields}
+use Rattle.language.specs.Identifiers.{isString}
+use Rattle.language.specs.Values.{asString}
+use Rattle.language.specs.State.{Value, single, string}
+use Rattle.language.specs.Weight.{limit, valueWeight}
+use Rattle.language.proofs.Logic.Outcomes.{Where}
+use Rattle.language.proofs.Parsing.ValidPrograms.{validExpr}
+use Rattle.syntax.specs.declared.value.Expr as Read
+use Rattle.syntax.specs.Values.{recordAt, exprMeant, ExprWithin}
+use Rattle.values.specs.Encoding.{Holds}
+use Rattle.values.specs.Answers.{fieldOf}
+use Rattle.evaluate.specs.declared.result.Evaluated.{Evaluated}
+use Rattle.evaluate.specs.declared.result.Evaluated.the-variants as Is
+
+-- the value is there, its text is the first n bytes of out, and it weighs w
+pub record Written (o : Option Value) (out : Text) (n w : ℕ) : Type 0 where
+  pub value : Value
+  pub is-value : o ≡ some value
+  pub held : Holds value (take n out)
+  pub within : n ≤ length out
+  pub weighs : w ≡ valueWeight value
+  pub light : w ≤ limit
+
+-- the value is there, and weighs more than document 01 allows
+pub record TooHeavy (o : Option Value) : Type 0 where
+  pub value : Value
+  pub is-value : o ≡ some value
+  pub heavy : limit < valueWeight value
+
+abbrev pub Valued : Evaluated → Option Value → Text → Type 0
+Valued (Is.Value n w) o out = Written o out n w
+Valued Is.Missing o out = o ≡ none
+Valued Is.Heavy o out = TooHeavy o
+
+-- the string that a value is, and the one that its field y is, where there is one
+abbrev pub stringIn : Option Value → Option Text
+stringIn o = o >>= asString
+
+abbrev pub fieldIn : Option Value → Name → Option Text
+fieldIn o y = o >>= λ v. fieldOf v y
+
+-- a text that was found is of the string alphabet
+abbrev pub MaybeString : Option Text → Type 0
+MaybeString o = Where (λ t. T (isString t)) o
+
+-- the value that a text is as a string
+abbrev pub stringValue : Option Text → Option Value
+stringValue none = none
+stringValue (some t) = some (single (string t))
+
+-- the program's text says a valid expression at these places
+pub record SomeExpr (t : Text) (e : Read.Expr) : Type 0 where
+  pub expression : Expr
+  pub meant : exprMeant t e ≡ some expression
+  pub within : ExprWithin t e
+  pub is-valid : T (validExpr expression)
+
+-- the program's text says a valid record from place `at` on, past its brace
+pub record SomeRecord (t : Text) (at : ℕ) : Type 0 where
+  pub bindings : List Binding
+  pub others : List Token
+  pub here : recordAt t at ≡ some (bindings, others)
+  pub within : at ≤ length t
+  pub is-valid : T (validExpr (fields bindings))

@@ -1,0 +1,33 @@
+-- The variables of a running program as texts: the shared ones, and the locals.
+use mathlib.Core.Path.{_≡_}
+use Prim.Native.Nat.{ℕ}
+use mathlib.Core.Option.{Option, none, some}
+use mathlib.Core.List.{List, []}
+use lib.Dec.{T}
+use Rattle.language.specs.Text.{Text, all}
+use Rattle.language.specs.State.{Value}
+use Rattle.language.specs.Values.{Session}
+use Rattle.language.specs.Valid.{validVariable}
+use Rattle.store.specs.Held.{Variables}
+use Rattle.values.specs.Encoding.{Holds}
+
+-- `shared` and `locals`, with their marks, hold the variables of the session s, all of them valid
+pub record Scope (s : Session) (shared : Text) (marks : List ℕ) (count : ℕ) (locals : Text) (lmarks : List ℕ) (lcount : ℕ) : Type 0 where
+  pub shared-held : Variables (s .store .variables) shared count marks
+  pub locals-held : Variables (s .locals) locals lcount lmarks
+  pub shared-valid : T (all validVariable (s .store .variables))
+  pub locals-valid : T (all validVariable (s .locals))
+
+-- those of some session
+pub record SomeScope (shared : Text) (marks : List ℕ) (count : ℕ) (locals : Text) (lmarks : List ℕ) (lcount : ℕ) : Type 0 where
+  pub session : Session
+  pub scope : Scope session shared marks count locals lmarks lcount
+
+-- t is what reading a name gives: the text of its value, or nothing where it has none
+abbrev pub ReadAs : Option Value → Text → Type 0
+ReadAs none t = t ≡ []
+ReadAs (some v) t = Holds v t
+
+pub record SomeRead (t : Text) : Type 0 where
+  pub value : Option Value
+  pub held : ReadAs value t

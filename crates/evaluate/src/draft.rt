@@ -1,0 +1,133 @@
+// A record that is written field by field, with a mark for each label.
+use store::mark::Found as Label;
+use values::Found;
+ghost use mathlib.Core.Path.{_≡_};
+ghost use mathlib.Core.Bool.{not};
+ghost use mathlib.Core.Option.{some};
+ghost use mathlib.Core.List.{List, [], _∷_, _++_};
+ghost use Prim.Native.Nat.{_+_, _≤_, _<_};
+ghost use lib.Dec.{T};
+ghost use lib.ListN.{length};
+ghost use Rattle.language.specs.Text.{member};
+ghost use Rattle.language.specs.Programs.{longest};
+ghost use Rattle.language.specs.State.{Field};
+ghost use Rattle.language.specs.Identifiers.{isString};
+ghost use Rattle.store.specs.Held.{mark};
+ghost use Rattle.store.specs.Rows.{Row, Rows, SomeRows, rowNames};
+ghost use Rattle.values.specs.Writing.{Written};
+ghost use Rattle.values.specs.Answers.{textAt, Placed};
+ghost use Rattle.evaluate.specs.Results.{MaybeString};
+ghost use Rattle.evaluate.specs.Drafts.{Drafted, SomeDraft, Lent, Extends, spelling};
+
+// How far a record is written, how many fields it has, and what they weigh. Of fields that are too heavy only the labels are written.
+pub struct Draft {
+    pub end: usize,
+    pub count: usize,
+    pub weight: usize,
+}
+
+pub enum Added {
+    Done(Draft),
+    No,
+}
+
+// A record without fields.
+pub fn start(out: &mut [u8], marks: &[u64]) -> Draft
+    requires { ⌜ Lent (now out) (now marks) ⌝ }
+    ensures { λ r. ⌜ Drafted [] (now (out .exit)) (now (marks .entry)) r ⌝ }
+{
+    let end = values::put_record(out, 0);
+    Draft {
+        end,
+        count: 0,
+        weight: 0,
+    }
+}
+
+// A row that has a label only.
+fn put_label(out: &mut [u8], at: usize, label: &[u8]) -> usize
+    requires { ⌜ at + length (now label) + 3 ≤ length (now out) ⌝ }
+    ensures { λ r. ⌜ Written (now (out .entry)) at (70 ∷ 9 ∷ (now (label .entry) ++ 10 ∷ [])) r (now (out .exit)) ⌝ }
+{
+    let a = values::copy_in(out, at, b"F\t");
+    let b = values::copy_in(out, a, label);
+    values::put_byte(out, b, b'\n')
+}
+
+// Whether no row has that label.
+fn is_new(rows: &[u8], marks: &[u64], count: usize, label: &[u8]) -> bool
+    requires { ⌜ SomeRows (now rows) count (now marks) ⌝ }
+    ensures { λ r. ⌜ ((l : List Row) → Rows l (now (rows .entry)) count (now (marks .entry)) → r ≡ not (member (now (label .entry)) (rowNames l))) ⌝ }
+{
+    let found = store::mark::find(rows, marks, count, label);
+    match found {
+        Label::At {
+            number: _,
+            start: _,
+            end: _,
+        } => false,
+        Label::Missing => true,
+    }
+}
+
+// The mark of a row that starts at a place.
+fn mark_of(label: &[u8], at: usize) -> u64
+    requires { ⌜ at < 65536 ⌝ }
+    ensures { λ r. ⌜ r ≡ mark (now (label .entry)) at ⌝ }
+{
+    store::mark::print(label) * 65536 + at as u64
+}
+
+// Adds a field, unless its label is there already.
+pub fn add(out: &mut [u8], marks: &mut [u64], d: Draft, label: &[u8], text: &[u8]) -> Added
+    requires { ⌜ Lent (now out) (now marks) × SomeDraft (now out) (now marks) d (now label) ⌝ }
+    requires { ⌜ T (isString (now text)) × (length (now text) ≤ 65536) ⌝ }
+    ensures { λ r. ⌜ ((fs : List Field) → Drafted fs (now (out .entry)) (now (marks .entry)) d → spelling fs + length (now (label .entry)) + 3 ≤ longest
+        → Extends fs (now (label .entry)) (some (now (text .entry))) r (now (out .exit)) (now (marks .exit))) ⌝ }
+{
+    let end = d.end;
+    let count = d.count;
+    if !is_new(&out[2..end], &marks[0..count], count, label) {
+        return Added::No;
+    }
+    marks[count] = mark_of(label, end - 2);
+    let weight = d.weight + 1 + label.len() + text.len();
+    if 8192 < weight {
+        let next = put_label(out, end, label);
+        return Added::Done(Draft {
+            end: next,
+            count: count + 1,
+            weight,
+        });
+    }
+    let next = values::put_field(out, end, label, text);
+    Added::Done(Draft {
+        end: next,
+        count: count + 1,
+        weight,
+    })
+}
+
+// Adds a field whose text was found in a value, or was not.
+pub fn add_found(
+    out: &mut [u8],
+    marks: &mut [u64],
+    d: Draft,
+    label: &[u8],
+    value: &[u8],
+    found: Found,
+) -> Added
+    requires { ⌜ Lent (now out) (now marks) × SomeDraft (now out) (now marks) d (now label) ⌝ }
+    requires { ⌜ Placed (now value) found × MaybeString (textAt (now value) found) × (length (now value) ≤ 65536) ⌝ }
+    ensures { λ r. ⌜ ((fs : List Field) → Drafted fs (now (out .entry)) (now (marks .entry)) d → spelling fs + length (now (label .entry)) + 3 ≤ longest
+        → Extends fs (now (label .entry)) (textAt (now (value .entry)) found) r (now (out .exit)) (now (marks .exit))) ⌝ }
+{
+    match found {
+        Found::At(s) => {
+            let a = s.start;
+            let b = s.end;
+            add(out, marks, d, label, &value[a..b])
+        }
+        Found::Missing => Added::No,
+    }
+}

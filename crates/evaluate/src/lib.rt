@@ -1,0 +1,71 @@
+// The value of an expression of a program, over a session whose variables are texts.
+mod draft; // a record that is written field by field
+mod operand; // the value of x, of x.y or of a string
+pub mod permit; // what the sender may do, and may read
+mod record; // the value of a record
+pub mod result; // what evaluation answers
+
+use result::Evaluated;
+use syntax::value::Expr;
+ghost use mathlib.Core.Path.{_≡_};
+ghost use mathlib.Core.Option.{some};
+ghost use mathlib.Core.List.{[]};
+ghost use Prim.Native.Nat.{_≤_};
+ghost use lib.ListN.{length};
+ghost use Rattle.language.specs.Syntax as Syntax;
+ghost use Rattle.language.specs.Programs.{longest};
+ghost use Rattle.language.specs.State.{list};
+ghost use Rattle.language.specs.Values as Values;
+ghost use Rattle.syntax.specs.Values.{exprMeant};
+ghost use Rattle.evaluate.specs.Scopes.{Scope, SomeScope};
+ghost use Rattle.evaluate.specs.Results.{Valued, SomeExpr};
+ghost use Rattle.evaluate.specs.Drafts.{Lent};
+
+// Writes the empty list.
+fn put_empty(out: &mut [u8]) -> Evaluated
+    requires { ⌜ 32768 ≤ length (now out) ⌝ }
+    ensures { λ r. ⌜ Valued r (some (list [])) (now (out .exit)) ⌝ }
+{
+    let len = values::put_list(out, 0);
+    Evaluated::Value { len, weight: 0 }
+}
+
+// The value of the expression that the program's text says at the places e, written from the start of `out` on; whatever the rights.
+// `labels` is room for the marks of a record's labels.
+pub fn value<'a>(
+    shared: &'a [u8],
+    marks: &[u64],
+    count: usize,
+    locals: &'a [u8],
+    lmarks: &[u64],
+    lcount: usize,
+    text: &[u8],
+    e: Expr,
+    out: &mut [u8],
+    labels: &mut [u64],
+) -> Evaluated
+    requires { ⌜ SomeScope (now shared) (now marks) count (now locals) (now lmarks) lcount ⌝ }
+    requires { ⌜ SomeExpr (now text) e × (length (now text) ≤ longest) ⌝ }
+    requires { ⌜ Lent (now out) (now labels) ⌝ }
+    ensures { λ r. ⌜ ((s : Values.Session) (x : Syntax.Expr) → Scope s (now (shared .entry)) (now (marks .entry)) count (now (locals .entry)) (now (lmarks .entry)) lcount
+        → exprMeant (now (text .entry)) e ≡ some x → Valued r (Values.value s x) (now (out .exit))) ⌝ }
+{
+    match e {
+        Expr::Single(v) => {
+            operand::put_operand(shared, marks, count, locals, lmarks, lcount, text, v, out)
+        }
+        Expr::Empty => put_empty(out),
+        Expr::Record(at) => record::put_fields(
+            shared,
+            marks,
+            count,
+            locals,
+            lmarks,
+            lcount,
+            text,
+            at,
+            out,
+            labels,
+        ),
+    }
+}
