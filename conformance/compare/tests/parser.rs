@@ -1,0 +1,70 @@
+//! The proved parser against the model, on random programs, whole and damaged: parses or not, how many commands, and of which kinds.
+
+use compare::programs::{damage, whole};
+use compare::random::Random;
+use compare::parser::{kinds, model_kinds, Answer, ROOM};
+use model::parse::parse;
+
+const PROGRAMS: usize = 120_000;
+
+fn compare(text: &[u8], room: &mut [u8]) -> Answer {
+    let proved = kinds(text, room);
+    let expected = match parse(text) {
+        Some(program) => Answer::Parses(model_kinds(&program)),
+        None => Answer::No,
+    };
+    assert_eq!(proved, expected, "{:?}", String::from_utf8_lossy(text));
+    proved
+}
+
+#[test]
+fn random_programs() {
+    let seed = 20_261_115;
+    println!("seed {seed}");
+    let mut random = Random(seed);
+    let mut room = vec![0; ROOM];
+    let mut seen = [0usize; 12];
+    let mut refused = 0;
+    for at in 0..PROGRAMS {
+        let mut text = whole(&mut random);
+        if at % 2 == 1 {
+            damage(&mut random, &mut text);
+        }
+        match compare(&text, &mut room) {
+            Answer::Parses(found) => found.iter().for_each(|kind| seen[*kind as usize] += 1),
+            Answer::No => refused += 1,
+            Answer::Refused => panic!("refused with room for all"),
+        }
+    }
+    println!("{PROGRAMS} programs: {refused} do not parse; commands by kind {:?}", &seen[1..]);
+    assert!(seen[1..].iter().all(|count| *count > 1_000), "a kind that hardly came");
+    assert!(refused > PROGRAMS / 10 && refused < PROGRAMS * 9 / 10);
+}
+
+#[test]
+fn sizes() {
+    let mut room = vec![0; ROOM];
+    for length in [16_383, 16_384, 16_385, 20_000] {
+        let head = b"as principal admin password \"desk\" do\nreturn \"";
+        let tail = b"\"\n***";
+        let mut text = head.to_vec();
+        text.resize(length - tail.len(), b'a');
+        text.extend_from_slice(tail);
+        let answer = compare(&text, &mut room);
+        assert_eq!(answer != Answer::No, length <= 16_384);
+    }
+    // As many commands as fit.
+    let mut text = b"as principal a password \"\" do\n".to_vec();
+    while text.len() + 13 < 16_384 {
+        text.extend_from_slice(b"set x=y\n");
+    }
+    text.extend_from_slice(b"exit\n***");
+    assert!(matches!(compare(&text, &mut room), Answer::Parses(found) if found.len() > 2_000));
+}
+
+#[test]
+fn too_little_room() {
+    let mut room = vec![7; ROOM - 1];
+    assert_eq!(kinds(b"as principal a password \"\" do\nexit\n***", &mut room), Answer::Refused);
+    assert!(room.iter().all(|byte| *byte == 7));
+}

@@ -1,0 +1,119 @@
+//! The calls of the host program and of the installer, on lent buffers (01,
+//! Who gets which number). A refused call changes no byte.
+
+use crate::bytes::STRING;
+use crate::engine::{self, End};
+use crate::lines::Lines;
+use crate::rights::{self, Right};
+use crate::state::State;
+use crate::text::{decode, encode, BUFFER};
+
+/// The longest first password of admin.
+pub const LONGEST_PASSWORD: usize = 1_024;
+
+/// Why a call was refused; the number is 01's.
+#[derive(Clone, Copy, PartialEq, Eq, Debug)]
+pub enum Refusal {
+    OutputSize = 1,
+    StateSize = 2,
+    WorkSize = 3,
+    NotWellFormed = 4,
+    Closed = 5,
+    UnknownPrincipal = 6,
+    UnknownVariableOrRight = 7,
+    PasswordByte = 8,
+    PasswordLength = 9,
+}
+
+impl Refusal {
+    pub fn number(self) -> u8 {
+        self as u8
+    }
+}
+
+/// The result of a run that was not refused: the kind of end, how many lines
+/// and how many bytes of output.
+#[derive(Clone, Copy, PartialEq, Eq, Debug)]
+pub struct Report {
+    pub end: End,
+    pub lines: usize,
+    pub bytes: usize,
+}
+
+fn require(condition: bool, refusal: Refusal) -> Result<(), Refusal> {
+    if condition {
+        Ok(())
+    } else {
+        Err(refusal)
+    }
+}
+
+/// Makes a server: the buffer then holds the fresh state's text and zeros.
+pub fn make(state: &mut [u8], password: &[u8]) -> Result<(), Refusal> {
+    require(state.len() == BUFFER, Refusal::StateSize)?;
+    require(STRING.holds_all(password), Refusal::PasswordByte)?;
+    require(password.len() <= LONGEST_PASSWORD, Refusal::PasswordLength)?;
+    let length = encode(&State::fresh(password), state);
+    state[length..].fill(0);
+    Ok(())
+}
+
+/// Runs a program. The output then holds its lines and zeros, the work buffer
+/// is zero, and the state holds the new text and zeros or, where the program
+/// was not completed, what it held.
+pub fn run(
+    state: &mut [u8],
+    work: &mut [u8],
+    output: &mut [u8],
+    program: &[u8],
+) -> Result<Report, Refusal> {
+    require(output.len() == BUFFER, Refusal::OutputSize)?;
+    require(state.len() == BUFFER, Refusal::StateSize)?;
+    require(work.len() == BUFFER, Refusal::WorkSize)?;
+    let (before, old_length) = decode(state).ok_or(Refusal::NotWellFormed)?;
+    require(before.open, Refusal::Closed)?;
+    let mut lines = Lines::new(output);
+    let (end, after) = engine::run(before, program, &mut lines);
+    lines.finish();
+    if let Some(length) = after.map(|after| encode(&after, work)) {
+        state[..length].copy_from_slice(&work[..length]);
+        // The bytes after the old text are zero already.
+        if length < old_length {
+            state[length..old_length].fill(0);
+        }
+    }
+    work.fill(0);
+    Ok(Report {
+        end,
+        lines: lines.count(),
+        bytes: lines.bytes(),
+    })
+}
+
+/// The question whether a name holds a right on a shared variable: the length
+/// of a shortest chain, none where there is no chain.
+pub fn ask(
+    state: &[u8],
+    name: &[u8],
+    variable: &[u8],
+    right: u8,
+) -> Result<Option<usize>, Refusal> {
+    require(state.len() == BUFFER, Refusal::StateSize)?;
+    let (state, _) = decode(state).ok_or(Refusal::NotWellFormed)?;
+    let principal = state
+        .principals
+        .find(name)
+        .ok_or(Refusal::UnknownPrincipal)?;
+    let variable = state
+        .variables
+        .find(variable)
+        .ok_or(Refusal::UnknownVariableOrRight)?;
+    let right = Right::of_letter(right).ok_or(Refusal::UnknownVariableOrRight)?;
+    Ok(rights::shortest(
+        state.standing(),
+        state.principals.count(),
+        variable,
+        right.number(),
+        usize::from(principal),
+    ))
+}

@@ -1,0 +1,281 @@
+//! Commands and whole programs (01, Commands and A run).
+//!
+//! Each command is asked three things in turn: is it denied, can it be done,
+//! and is what it leaves too heavy. So DENIED goes before FAILED and FAILED
+//! before FULL, whichever part of the command each is in.
+
+use std::rc::Rc;
+
+use crate::lines::{status, Lines};
+use crate::parse::parse;
+use crate::rights::{Assertion, Right, ADMIN};
+use crate::session::{Place, Session};
+use crate::state::{State, HEAVIEST};
+use crate::syntax::{Command, Delegation, Expression, Foreach, Last, Target};
+use crate::value::Value;
+
+/// How a program ended.
+#[derive(Clone, Copy, PartialEq, Eq, Debug)]
+pub enum End {
+    Returned,
+    Exited,
+    Denied,
+    Failed,
+    Full,
+}
+
+/// Runs a program on an open state: the lines, how it ended and, where it was
+/// completed, the new state.
+pub fn run<'a>(state: State<'a>, program: &'a [u8], lines: &mut Lines) -> (End, Option<State<'a>>) {
+    match complete(state, program, lines) {
+        Ok((end, state)) => (end, Some(state)),
+        Err(undone) => {
+            lines.restart();
+            let (end, status) = match undone {
+                Undone::Denied => (End::Denied, "DENIED"),
+                Undone::Failed => (End::Failed, "FAILED"),
+                Undone::Full => (End::Full, "FULL"),
+            };
+            lines.status(status);
+            (end, None)
+        }
+    }
+}
+
+/// Why a program is not completed.
+enum Undone {
+    Denied,
+    Failed,
+    Full,
+}
+
+fn complete<'a>(
+    state: State<'a>,
+    program: &'a [u8],
+    lines: &mut Lines,
+) -> Result<(End, State<'a>), Undone> {
+    let program = parse(program).ok_or(Undone::Failed)?;
+    let sender = state
+        .principals
+        .find(program.principal)
+        .ok_or(Undone::Failed)?;
+    if state.principals.get(sender).password != Some(program.password) {
+        return Err(Undone::Denied);
+    }
+    let mut session = Session::new(state, sender);
+    for command in &program.commands {
+        session.step(command)?;
+        lines.status(status(command));
+    }
+    let end = session.last(&program.last, lines)?;
+    let mut state = session.state;
+    state.completed = state.completed.saturating_add(1);
+    Ok((end, state))
+}
+
+impl<'a> Session<'a> {
+    /// Every value of these commands is kept in a variable, so one that is too
+    /// heavy makes the state with its locals too heavy.
+    fn step(&mut self, command: &Command<'a>) -> Result<(), Undone> {
+        if self.denied(command) {
+            return Err(Undone::Denied);
+        }
+        self.perform(command).ok_or(Undone::Failed)?;
+        if self.weight() > HEAVIEST {
+            return Err(Undone::Full);
+        }
+        Ok(())
+    }
+
+    fn last(&mut self, last: &Last<'a>, lines: &mut Lines) -> Result<End, Undone> {
+        match last {
+            Last::Exit if !self.by_admin() => Err(Undone::Denied),
+            Last::Exit => {
+                self.state.open = false;
+                lines.status("EXITING");
+                Ok(End::Exited)
+            }
+            Last::Return(expression) => {
+                if self.unreadable(expression) {
+                    return Err(Undone::Denied);
+                }
+                let value = self.evaluate(expression).ok_or(Undone::Failed)?;
+                if value.weight() > HEAVIEST {
+                    return Err(Undone::Full);
+                }
+                lines.returning(&value);
+                Ok(End::Returned)
+            }
+        }
+    }
+
+    /// Whether the command is reserved to others or needs a right that is not
+    /// had.
+    fn denied(&mut self, command: &Command) -> bool {
+        match command {
+            Command::CreatePrincipal(..) | Command::DefaultDelegator(_) => !self.by_admin(),
+            Command::ChangePassword(name, _) => !self.by_admin() && !self.by(name),
+            Command::Set(name, expression) => {
+                self.lacks_all(&[Right::Write], name) || self.unreadable(expression)
+            }
+            Command::Append(name, expression) => {
+                self.lacks_all(&[Right::Write, Right::Append], name) || self.unreadable(expression)
+            }
+            Command::Local(_, expression) => self.unreadable(expression),
+            Command::Foreach(foreach) => {
+                self.lacks_all(&[Right::Read], foreach.list)
+                    || self.lacks_all(&[Right::Write], foreach.list)
+                    || self.foreach_evaluates(foreach) && self.unreadable(&foreach.expression)
+            }
+            Command::SetDelegation(delegation) => self.set_delegation_denied(delegation),
+            Command::DeleteDelegation(delegation) => self.delete_delegation_denied(delegation),
+        }
+    }
+
+    /// Whether the name is a shared variable's on which the sender has none of
+    /// the rights.
+    fn lacks_all(&mut self, rights: &[Right], name: &[u8]) -> bool {
+        match self.find(name) {
+            Some(Place::Shared(number)) => !rights.iter().any(|&right| self.may(right, number)),
+            _ => false,
+        }
+    }
+
+    /// Delegate is asked of the existing q, even where admin is the sender.
+    fn set_delegation_denied(&self, delegation: &Delegation) -> bool {
+        if !self.by_admin() && !self.by(delegation.from) {
+            return true;
+        }
+        let Target::Variable(name) = delegation.target else {
+            return false;
+        };
+        let from = self.state.principals.find(delegation.from);
+        let variable = self.state.variables.find(name);
+        match (from, variable) {
+            (Some(from), Some(variable)) => !self.has(from, Right::Delegate, variable),
+            _ => false,
+        }
+    }
+
+    /// A principal may always give up what was delegated to it; who withdraws
+    /// what it delegated to others needs delegate.
+    fn delete_delegation_denied(&mut self, delegation: &Delegation) -> bool {
+        if self.by_admin() {
+            return false;
+        }
+        match delegation.target {
+            Target::All => !self.by(delegation.from),
+            Target::Variable(_) if self.by(delegation.to) => false,
+            Target::Variable(_) if !self.by(delegation.from) => true,
+            Target::Variable(name) => match self.state.variables.find(name) {
+                Some(variable) => !self.may(Right::Delegate, variable),
+                None => false,
+            },
+        }
+    }
+
+    /// Does a command that is not denied; none where it fails.
+    fn perform(&mut self, command: &Command<'a>) -> Option<()> {
+        match command {
+            Command::CreatePrincipal(name, password) => self.create_principal(name, password),
+            Command::ChangePassword(name, password) => {
+                let number = self.state.principals.find(name)?;
+                self.state.principals.set_password(number, password);
+                Some(())
+            }
+            Command::Set(name, expression) => self.set(name, expression),
+            Command::Append(name, expression) => {
+                let value = self.evaluate(expression)?;
+                let place = self.find(name)?;
+                self.append(place, value)
+            }
+            Command::Local(name, expression) => {
+                let value = self.evaluate(expression)?;
+                if self.state.variables.find(name).is_some() {
+                    return None;
+                }
+                self.locals.add(name, value).map(|_| ())
+            }
+            Command::Foreach(foreach) => self.foreach(foreach),
+            Command::SetDelegation(delegation) => self.set_delegation(delegation),
+            Command::DeleteDelegation(delegation) => self.delete_delegation(delegation),
+            Command::DefaultDelegator(name) => {
+                self.state.delegator = self.state.principals.find(name)?;
+                Some(())
+            }
+        }
+    }
+
+    /// What is entered here is delegated to the new principal only, so the
+    /// default delegator has delegate on the same variables before each of
+    /// the four rights.
+    fn create_principal(&mut self, name: &'a [u8], password: &'a [u8]) -> Option<()> {
+        let number = self.state.principals.add(name, Some(password))?;
+        let delegator = self.state.delegator;
+        let variables = self.delegable(delegator);
+        for right in Right::ALL {
+            self.delegate(&variables, delegator, right, number);
+        }
+        Some(())
+    }
+
+    /// A new variable is shared, and admin delegates every right on it to the
+    /// sender.
+    fn set(&mut self, name: &'a [u8], expression: &Expression<'a>) -> Option<()> {
+        let value = self.evaluate(expression)?;
+        match self.find(name) {
+            Some(place) => self.store(place, value),
+            None => {
+                let number = self.state.variables.add(name, value)?;
+                if !self.by_admin() {
+                    for right in Right::ALL {
+                        self.delegate(&[number], ADMIN, right, self.sender);
+                    }
+                }
+            }
+        }
+        Some(())
+    }
+
+    fn foreach(&mut self, foreach: &Foreach<'a>) -> Option<()> {
+        let list = self.replaced(foreach)?;
+        let place = self.find(foreach.list)?;
+        self.store(place, Value::List(Rc::new(list)));
+        Some(())
+    }
+
+    fn set_delegation(&mut self, delegation: &Delegation) -> Option<()> {
+        let (variables, from, to) = self.resolve(delegation)?;
+        self.delegate(&variables, from, delegation.right, to);
+        Some(())
+    }
+
+    fn delete_delegation(&mut self, delegation: &Delegation) -> Option<()> {
+        let (variables, from, to) = self.resolve(delegation)?;
+        self.withdraw(&variables, from, delegation.right, to);
+        Some(())
+    }
+
+    /// The variables, q and p of a delegation; none where one is missing.
+    fn resolve(&self, delegation: &Delegation) -> Option<(Vec<u16>, u16, u16)> {
+        let from = self.state.principals.find(delegation.from)?;
+        let to = self.state.principals.find(delegation.to)?;
+        let variables = match delegation.target {
+            Target::All => self.delegable(from),
+            Target::Variable(name) => vec![self.state.variables.find(name)?],
+        };
+        Some((variables, from, to))
+    }
+
+    /// Enters `x from right -> to` for each of the variables x, in their order.
+    fn delegate(&mut self, variables: &[u16], from: u16, right: Right, to: u16) {
+        for &variable in variables {
+            self.enter(Assertion {
+                variable,
+                from,
+                right: right.number(),
+                to,
+            });
+        }
+    }
+}

@@ -1,0 +1,215 @@
+//! Expressions (01, Values). None is FAILED; whether the sender may read what
+//! an expression names is asked before, by `unreadable`.
+
+use std::rc::Rc;
+
+use crate::names::distinct;
+use crate::rights::Right;
+use crate::session::{Place, Session};
+use crate::state::HEAVIEST;
+use crate::syntax::{Expression, Foreach, Operand};
+use crate::value::{Field, Item, List, Record, Value};
+
+impl<'a> Session<'a> {
+    /// Whether evaluating the expression needs a read that the sender lacks.
+    pub fn unreadable(&mut self, expression: &Expression) -> bool {
+        if self.by_admin() {
+            return false;
+        }
+        match expression {
+            Expression::Operand(operand) => self.operand_unreadable(operand),
+            Expression::EmptyList => false,
+            Expression::Record(fields) => fields
+                .iter()
+                .any(|(_, operand)| self.operand_unreadable(operand)),
+        }
+    }
+
+    fn operand_unreadable(&mut self, operand: &Operand) -> bool {
+        match *operand {
+            Operand::Variable(name) | Operand::Field(name, _) => match self.find(name) {
+                Some(Place::Shared(number)) => !self.may(Right::Read, number),
+                _ => false,
+            },
+            Operand::Text(_) => false,
+        }
+    }
+
+    pub fn evaluate(&self, expression: &Expression<'a>) -> Option<Value<'a>> {
+        match expression {
+            Expression::Operand(Operand::Variable(name)) => self.read(name).cloned(),
+            Expression::Operand(operand) => self.text(operand).map(Value::of_text),
+            Expression::EmptyList => Some(Value::List(Rc::default())),
+            Expression::Record(fields) => {
+                let record = self.record(fields)?;
+                Some(Value::Item(Item::Record(record)))
+            }
+        }
+    }
+
+    /// The operand's value where it is a string.
+    fn text(&self, operand: &Operand<'a>) -> Option<&'a [u8]> {
+        match *operand {
+            Operand::Variable(name) => self.read(name)?.item()?.text(),
+            Operand::Field(name, label) => self.read(name)?.item()?.field(label),
+            Operand::Text(text) => Some(text),
+        }
+    }
+
+    fn record(&self, fields: &[(&'a [u8], Operand<'a>)]) -> Option<Record<'a>> {
+        if !distinct(fields.iter().map(|&(label, _)| label)) {
+            return None;
+        }
+        let fields = fields
+            .iter()
+            .map(|&(label, ref operand)| {
+                let text = self.text(operand)?;
+                Some(Field { label, text })
+            })
+            .collect::<Option<Vec<_>>>()?;
+        Some(Record::new(&fields))
+    }
+
+    /// Whether foreach evaluates its expression: where x is a list with an
+    /// element and y is undefined.
+    pub fn foreach_evaluates(&self, foreach: &Foreach) -> bool {
+        self.find(foreach.element).is_none()
+            && self
+                .read(foreach.list)
+                .and_then(Value::list)
+                .is_some_and(|list| !list.items().is_empty())
+    }
+
+    /// The list that foreach leaves. Beyond the weight limit items are not
+    /// kept any more, only tried: the command is FAILED or FULL by then.
+    pub fn replaced(&self, foreach: &Foreach<'a>) -> Option<List<'a>> {
+        let list = self.read(foreach.list)?.list()?;
+        if self.find(foreach.element).is_some() {
+            return None;
+        }
+        let mut replaced = List::with_room(list.items().len());
+        if list.items().is_empty() {
+            return Some(replaced);
+        }
+        let template = self.template(foreach)?;
+        for item in list.items() {
+            if replaced.weight() > HEAVIEST {
+                template.applies(item).then_some(())?;
+            } else {
+                replaced.push(template.apply(item)?);
+            }
+        }
+        Some(replaced)
+    }
+
+    /// Evaluates what does not depend on the element, once for all elements.
+    fn template(&self, foreach: &Foreach<'a>) -> Option<Template<'a>> {
+        let element = foreach.element;
+        match &foreach.expression {
+            Expression::Operand(operand) => match Part::of_element(operand, element) {
+                Some(part) => Some(Template::Part(part)),
+                None => self.constant(&foreach.expression),
+            },
+            Expression::Record(fields)
+                if fields
+                    .iter()
+                    .any(|(_, operand)| Part::of_element(operand, element).is_some()) =>
+            {
+                self.record_template(fields, element)
+            }
+            expression => self.constant(expression),
+        }
+    }
+
+    /// A result that is a list is FAILED.
+    fn constant(&self, expression: &Expression<'a>) -> Option<Template<'a>> {
+        let value = self.evaluate(expression)?;
+        value.item().cloned().map(Template::Constant)
+    }
+
+    fn record_template(
+        &self,
+        fields: &[(&'a [u8], Operand<'a>)],
+        element: &[u8],
+    ) -> Option<Template<'a>> {
+        if !distinct(fields.iter().map(|&(label, _)| label)) {
+            return None;
+        }
+        fields
+            .iter()
+            .map(|&(label, ref operand)| {
+                let part = match Part::of_element(operand, element) {
+                    Some(part) => part,
+                    None => Part::Text(self.text(operand)?),
+                };
+                Some((label, part))
+            })
+            .collect::<Option<Vec<_>>>()
+            .map(Template::Record)
+    }
+}
+
+/// The expression of a foreach, all but the element evaluated.
+enum Template<'a> {
+    Constant(Item<'a>),
+    Part(Part<'a>),
+    Record(Vec<(&'a [u8], Part<'a>)>),
+}
+
+impl<'a> Template<'a> {
+    fn apply(&self, item: &Item<'a>) -> Option<Item<'a>> {
+        match self {
+            Template::Constant(constant) => Some(constant.clone()),
+            Template::Part(Part::Element) => Some(item.clone()),
+            Template::Part(part) => part.text(item).map(Item::Text),
+            Template::Record(parts) => {
+                let fields = parts
+                    .iter()
+                    .map(|&(label, ref part)| {
+                        let text = part.text(item)?;
+                        Some(Field { label, text })
+                    })
+                    .collect::<Option<Vec<_>>>()?;
+                Some(Item::Record(Record::new(&fields)))
+            }
+        }
+    }
+
+    /// Whether `apply` gives a value.
+    fn applies(&self, item: &Item<'a>) -> bool {
+        match self {
+            Template::Constant(_) | Template::Part(Part::Element) => true,
+            Template::Part(part) => part.text(item).is_some(),
+            Template::Record(parts) => parts.iter().all(|(_, part)| part.text(item).is_some()),
+        }
+    }
+}
+
+/// An operand of foreach's expression.
+enum Part<'a> {
+    Text(&'a [u8]),
+    /// The element itself.
+    Element,
+    /// The element's field of this label.
+    Field(&'a [u8]),
+}
+
+impl<'a> Part<'a> {
+    /// The part that an operand naming the element is.
+    fn of_element(operand: &Operand<'a>, element: &[u8]) -> Option<Part<'a>> {
+        match *operand {
+            Operand::Variable(name) if name == element => Some(Part::Element),
+            Operand::Field(name, label) if name == element => Some(Part::Field(label)),
+            _ => None,
+        }
+    }
+
+    /// The part's value for the element, where it is a string.
+    fn text(&self, item: &Item<'a>) -> Option<&'a [u8]> {
+        match *self {
+            Part::Text(text) => Some(text),
+            Part::Element => item.text(),
+            Part::Field(label) => item.field(label),
+        }
+    }
+}

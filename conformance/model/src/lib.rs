@@ -1,0 +1,26 @@
+//! An independent model of the data server of document 01: shared variables,
+//! principals and delegated rights. It is written from the papers alone and is
+//! the partner of random tests and benchmarks.
+//!
+//! From the bottom up: [`bytes`] and [`names`] know the alphabets, [`syntax`],
+//! [`token`] and [`parse`] the program text, [`value`], [`state`] and [`text`]
+//! the state and its text, [`rights`] the chains, [`session`], [`evaluate`],
+//! [`lines`] and [`engine`] what a program does, and [`calls`] what the host
+//! program may call.
+
+#![forbid(unsafe_code)]
+
+pub mod bytes;
+pub mod calls;
+pub mod engine;
+pub mod evaluate;
+pub mod lines;
+pub mod names;
+pub mod parse;
+pub mod rights;
+pub mod session;
+pub mod state;
+pub mod syntax;
+pub mod text;
+pub mod token;
+pub mod value;

@@ -1,0 +1,146 @@
+//! Identifiers, keywords, and tables from names to numbers.
+
+use std::collections::{HashMap, HashSet};
+use std::hash::{BuildHasherDefault, Hasher};
+
+use crate::bytes::{class, Class};
+
+/// The longest identifier (001, Grammar).
+pub const LONGEST_NAME: usize = 255;
+
+/// 01: Keywords. Those of 001's optional features are reserved without a use.
+#[derive(Clone, Copy, PartialEq, Eq, Debug)]
+pub enum Keyword {
+    All,
+    Append,
+    As,
+    Change,
+    Create,
+    Default,
+    Delegate,
+    Delegation,
+    Delegator,
+    Delete,
+    Do,
+    Exit,
+    Foreach,
+    In,
+    Local,
+    Password,
+    Principal,
+    Read,
+    Replacewith,
+    Return,
+    Set,
+    To,
+    With,
+    Write,
+    Reserved,
+}
+
+pub fn keyword(word: &[u8]) -> Option<Keyword> {
+    Some(match word {
+        b"all" => Keyword::All,
+        b"append" => Keyword::Append,
+        b"as" => Keyword::As,
+        b"change" => Keyword::Change,
+        b"create" => Keyword::Create,
+        b"default" => Keyword::Default,
+        b"delegate" => Keyword::Delegate,
+        b"delegation" => Keyword::Delegation,
+        b"delegator" => Keyword::Delegator,
+        b"delete" => Keyword::Delete,
+        b"do" => Keyword::Do,
+        b"exit" => Keyword::Exit,
+        b"foreach" => Keyword::Foreach,
+        b"in" => Keyword::In,
+        b"local" => Keyword::Local,
+        b"password" => Keyword::Password,
+        b"principal" => Keyword::Principal,
+        b"read" => Keyword::Read,
+        b"replacewith" => Keyword::Replacewith,
+        b"return" => Keyword::Return,
+        b"set" => Keyword::Set,
+        b"to" => Keyword::To,
+        b"with" => Keyword::With,
+        b"write" => Keyword::Write,
+        b"split" | b"concat" | b"tolower" | b"notequal" | b"equal" | b"filtereach" | b"let" => {
+            Keyword::Reserved
+        }
+        _ => return None,
+    })
+}
+
+/// Whether a run of word bytes is a name or label that a state text may hold:
+/// an identifier, no keyword.
+pub fn may_be_kept(run: &[u8]) -> bool {
+    run.first()
+        .is_some_and(|&first| class(first) == Class::Letter)
+        && run.len() <= LONGEST_NAME
+        && keyword(run).is_none()
+}
+
+/// A quick hash of short byte strings and of single numbers.
+#[derive(Default)]
+pub struct QuickHasher(u64);
+
+const SEED: u64 = 0x2545_F491_4F6C_DD1D;
+const FACTOR: u64 = 0x9E37_79B9_7F4A_7C15;
+
+impl Hasher for QuickHasher {
+    fn write(&mut self, bytes: &[u8]) {
+        let mut chunks = bytes.chunks_exact(8);
+        for chunk in &mut chunks {
+            let mut eight = [0; 8];
+            eight.copy_from_slice(chunk);
+            self.write_u64(u64::from_le_bytes(eight));
+        }
+        let rest = chunks.remainder();
+        if !rest.is_empty() {
+            let word = rest
+                .iter()
+                .fold(0, |word, &byte| word << 8 | u64::from(byte));
+            self.write_u64(word);
+        }
+    }
+
+    /// Both halves of the product are kept, so that every bit of the word has
+    /// a part in the low bits, from which a table takes its place.
+    fn write_u64(&mut self, word: u64) {
+        let product = u128::from(self.0.rotate_left(23) ^ word ^ SEED) * u128::from(FACTOR);
+        self.0 = product as u64 ^ (product >> 64) as u64;
+    }
+
+    fn write_usize(&mut self, number: usize) {
+        self.write_u64(number as u64);
+    }
+
+    fn finish(&self) -> u64 {
+        self.0
+    }
+}
+
+pub type QuickSet<T> = HashSet<T, BuildHasherDefault<QuickHasher>>;
+
+/// From a name to its number, numbers being given in order of creation.
+pub type Numbers<'a> = HashMap<&'a [u8], u16, BuildHasherDefault<QuickHasher>>;
+
+/// Whether no name stands twice. Few names are compared each with each, many
+/// by a set.
+pub fn distinct<'a, I>(names: I) -> bool
+where
+    I: ExactSizeIterator<Item = &'a [u8]> + Clone,
+{
+    const FEW: usize = 8;
+    if names.len() > FEW {
+        let mut seen = QuickSet::default();
+        return names.into_iter().all(|name| seen.insert(name));
+    }
+    let mut rest = names;
+    while let Some(name) = rest.next() {
+        if rest.clone().any(|other| other == name) {
+            return false;
+        }
+    }
+    true
+}

@@ -1,0 +1,71 @@
+//! Abstract syntax of programs (01, Program text). Names and strings are parts
+//! of the program's own bytes.
+
+use crate::rights::Right;
+
+#[derive(Clone, PartialEq, Eq, Debug)]
+pub struct Program<'a> {
+    pub principal: &'a [u8],
+    pub password: &'a [u8],
+    pub commands: Vec<Command<'a>>,
+    pub last: Last<'a>,
+}
+
+/// The last command: `exit` or `return` expression.
+#[derive(Clone, PartialEq, Eq, Debug)]
+pub enum Last<'a> {
+    Exit,
+    Return(Expression<'a>),
+}
+
+#[derive(Clone, PartialEq, Eq, Debug)]
+pub enum Command<'a> {
+    CreatePrincipal(&'a [u8], &'a [u8]),
+    ChangePassword(&'a [u8], &'a [u8]),
+    Set(&'a [u8], Expression<'a>),
+    Append(&'a [u8], Expression<'a>),
+    Local(&'a [u8], Expression<'a>),
+    Foreach(Foreach<'a>),
+    SetDelegation(Delegation<'a>),
+    DeleteDelegation(Delegation<'a>),
+    DefaultDelegator(&'a [u8]),
+}
+
+/// `foreach element in list replacewith expression`
+#[derive(Clone, PartialEq, Eq, Debug)]
+pub struct Foreach<'a> {
+    pub element: &'a [u8],
+    pub list: &'a [u8],
+    pub expression: Expression<'a>,
+}
+
+/// `target from right -> to`
+#[derive(Clone, Copy, PartialEq, Eq, Debug)]
+pub struct Delegation<'a> {
+    pub target: Target<'a>,
+    pub from: &'a [u8],
+    pub right: Right,
+    pub to: &'a [u8],
+}
+
+#[derive(Clone, Copy, PartialEq, Eq, Debug)]
+pub enum Target<'a> {
+    All,
+    Variable(&'a [u8]),
+}
+
+#[derive(Clone, PartialEq, Eq, Debug)]
+pub enum Expression<'a> {
+    Operand(Operand<'a>),
+    EmptyList,
+    /// Labels with operands, as written; a label may stand twice.
+    Record(Vec<(&'a [u8], Operand<'a>)>),
+}
+
+/// 01's "value": x, x.y or a string.
+#[derive(Clone, Copy, PartialEq, Eq, Debug)]
+pub enum Operand<'a> {
+    Variable(&'a [u8]),
+    Field(&'a [u8], &'a [u8]),
+    Text(&'a [u8]),
+}

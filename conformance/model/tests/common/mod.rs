@@ -1,0 +1,199 @@
+//! A server in memory whose every call is held to what 01 says of the lent
+//! buffers. State texts are written as in 01, a `|` for each tab.
+#![allow(dead_code)]
+
+use model::calls::{self, Refusal, Report};
+use model::engine::End;
+use model::text::{decode, BUFFER};
+
+/// What a byte of a lent buffer is before the call, where it does not matter.
+pub const DIRT: u8 = 0xA5;
+
+pub static ZEROS: [u8; BUFFER] = [0; BUFFER];
+
+pub struct Server {
+    pub state: Vec<u8>,
+}
+
+/// The state of 01's session after its two programs.
+pub const SESSION: &str = "O|2\nP|admin|desk\nN|anyone\nP|rosa|r1\nD|anyone\nV|queue|L\nR\n\
+                           F|song|Blue Moon\nF|key|F\nA|queue|admin|a|rosa\n";
+
+pub const FRESH: &str = "O|0\nP|admin|desk\nN|anyone\nD|anyone\n";
+
+/// A buffer that holds the text and zeros.
+pub fn buffer(text: &str) -> Vec<u8> {
+    let mut bytes = text.replace('|', "\t").into_bytes();
+    assert!(bytes.len() <= BUFFER);
+    bytes.resize(BUFFER, 0);
+    bytes
+}
+
+/// A program of lines, with its first and last line.
+pub fn program(name: &str, password: &str, lines: &[&str]) -> String {
+    let mut text = format!("as principal {name} password \"{password}\" do\n");
+    for line in lines {
+        text.push_str(line);
+        text.push('\n');
+    }
+    text + "***\n"
+}
+
+pub fn statuses(names: &[&str]) -> String {
+    names
+        .iter()
+        .map(|name| format!("{{\"status\":\"{name}\"}}\n"))
+        .collect()
+}
+
+pub fn returning(value: &str) -> String {
+    format!("{{\"status\":\"RETURNING\",\"output\":{value}}}\n")
+}
+
+impl Server {
+    pub fn new(password: &str) -> Server {
+        let mut state = vec![DIRT; BUFFER];
+        assert_eq!(calls::make(&mut state, password.as_bytes()), Ok(()));
+        Server { state }
+    }
+
+    pub fn of_text(text: &str) -> Server {
+        let state = buffer(text);
+        assert!(decode(&state).is_some(), "not well formed: {text}");
+        Server { state }
+    }
+
+    pub fn session() -> Server {
+        Server::of_text(SESSION)
+    }
+
+    /// Bob and carol, a string s, a record r and a list l of admin's, on which
+    /// bob has no right but delegate on l.
+    pub fn venue() -> Server {
+        let mut server = Server::new("desk");
+        server.prepare(&[
+            "create principal bob \"b\"",
+            "create principal carol \"c\"",
+            "set s = \"text\"",
+            "set r = {a=\"1\",b=\"2\"}",
+            "set l = []",
+            "append to l with \"x\"",
+            "append to l with {a=\"y\"}",
+            "set delegation l admin delegate -> bob",
+        ]);
+        server
+    }
+
+    /// The state text, which is followed by zeros only.
+    pub fn text(&self) -> String {
+        let end = self.state.iter().rposition(|&byte| byte != 0).unwrap() + 1;
+        let text = std::str::from_utf8(&self.state[..end]).unwrap();
+        text.replace('\t', "|")
+    }
+
+    pub fn weight(&self) -> usize {
+        decode(&self.state).expect("well formed").0.weight()
+    }
+
+    /// A run that is not refused, and all that 01 says of the buffers after it.
+    pub fn send(&mut self, program: &[u8]) -> (End, String) {
+        let before = self.state.clone();
+        let mut work = vec![DIRT; BUFFER];
+        let mut output = vec![DIRT; BUFFER];
+        let report = calls::run(&mut self.state, &mut work, &mut output, program);
+        let Report { end, lines, bytes } = report.expect("not refused");
+        let text = String::from_utf8(output[..bytes].to_vec()).unwrap();
+        assert!(work == ZEROS);
+        assert!(output[bytes..] == ZEROS[bytes..]);
+        assert!(text.ends_with('\n'));
+        assert_eq!(text.matches('\n').count(), lines);
+        let refused = match end {
+            End::Returned | End::Exited => None,
+            End::Denied => Some("DENIED"),
+            End::Failed => Some("FAILED"),
+            End::Full => Some("FULL"),
+        };
+        match refused {
+            Some(status) => {
+                assert_eq!(text, statuses(&[status]));
+                assert!(self.state == before);
+            }
+            None => assert!(decode(&self.state).is_some()),
+        }
+        (end, text)
+    }
+
+    pub fn run(&mut self, name: &str, password: &str, lines: &[&str]) -> (End, String) {
+        self.send(program(name, password, lines).as_bytes())
+    }
+
+    pub fn admin(&mut self, lines: &[&str]) -> (End, String) {
+        self.run("admin", "desk", lines)
+    }
+
+    pub fn rosa(&mut self, lines: &[&str]) -> (End, String) {
+        self.run("rosa", "r1", lines)
+    }
+
+    /// A program that ends so. Names other than admin have their first letter
+    /// for a password.
+    pub fn ends(&mut self, name: &str, lines: &[&str], expected: End) {
+        let password = if name == "admin" { "desk" } else { &name[..1] };
+        let (end, text) = self.run(name, password, lines);
+        assert_eq!(end, expected, "{name} sends {lines:?}, which gives {text}");
+    }
+
+    /// A program of one command and a return that ends so.
+    pub fn one(&mut self, name: &str, line: &str, expected: End) {
+        self.ends(name, &[line, "return \"\""], expected);
+    }
+
+    /// The admin's commands are done; a return is added to them.
+    pub fn prepare(&mut self, lines: &[&str]) {
+        let lines = [lines, &["return \"\""]].concat();
+        let (end, text) = self.admin(&lines);
+        assert_eq!(end, End::Returned, "{lines:?} gives {text}");
+    }
+
+    pub fn ask(&self, name: &str, variable: &str, right: u8) -> Result<Option<usize>, Refusal> {
+        let before = self.state.clone();
+        let answer = calls::ask(&self.state, name.as_bytes(), variable.as_bytes(), right);
+        assert!(self.state == before);
+        answer
+    }
+}
+
+/// 01's keywords.
+pub const KEYWORDS: [&str; 31] = [
+    "all",
+    "append",
+    "as",
+    "change",
+    "create",
+    "default",
+    "delegate",
+    "delegation",
+    "delegator",
+    "delete",
+    "do",
+    "exit",
+    "foreach",
+    "in",
+    "local",
+    "password",
+    "principal",
+    "read",
+    "replacewith",
+    "return",
+    "set",
+    "to",
+    "write",
+    "split",
+    "concat",
+    "tolower",
+    "notequal",
+    "equal",
+    "filtereach",
+    "with",
+    "let",
+];

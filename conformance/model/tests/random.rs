@@ -1,0 +1,298 @@
+//! Programs and states that look random, whole and damaged: every call keeps
+//! what 01 says of lent buffers, and what is left is well formed, weighs what
+//! was counted, and answers questions by the rules.
+
+mod common;
+
+use common::{buffer, program, Server, DIRT, FRESH, SESSION};
+use model::calls;
+use model::engine::{self, End};
+use model::lines::Lines;
+use model::text::{decode, encode, BUFFER};
+
+/// Numbers that look random and are the same each time.
+struct Numbers(u64);
+
+impl Numbers {
+    fn below(&mut self, bound: usize) -> usize {
+        self.0 ^= self.0 << 13;
+        self.0 ^= self.0 >> 7;
+        self.0 ^= self.0 << 17;
+        (self.0 >> 33) as usize % bound
+    }
+
+    fn one<'a>(&mut self, words: &[&'a str]) -> &'a str {
+        words[self.below(words.len())]
+    }
+}
+
+const PRINCIPALS: [&str; 6] = ["admin", "anyone", "bob", "carol", "dave", "eve"];
+const VARIABLES: [&str; 6] = ["u", "v", "w", "x", "y", "z"];
+const RIGHTS: [&str; 4] = ["read", "write", "append", "delegate"];
+
+fn operand(numbers: &mut Numbers) -> String {
+    let variable = numbers.one(&VARIABLES);
+    match numbers.below(5) {
+        0 => variable.to_string(),
+        1 => format!("{variable}.{}", numbers.one(&["a", "b"])),
+        2 => format!("\"{}\"", "t".repeat(numbers.below(60) * numbers.below(60))),
+        _ => format!("\"{}\"", numbers.one(&["", "s", "a b", "-_,;.?!"])),
+    }
+}
+
+fn expression(numbers: &mut Numbers) -> String {
+    match numbers.below(6) {
+        0 | 1 => operand(numbers),
+        2 | 3 => "[]".to_string(),
+        4 => format!("{{a={}}}", operand(numbers)),
+        _ => format!("{{a={},b={}}}", operand(numbers), operand(numbers)),
+    }
+}
+
+fn command(numbers: &mut Numbers) -> String {
+    let (x, y) = (numbers.one(&VARIABLES), numbers.one(&VARIABLES));
+    let (q, p) = (numbers.one(&PRINCIPALS), numbers.one(&PRINCIPALS));
+    let right = numbers.one(&RIGHTS);
+    let target = if numbers.below(4) == 0 { "all" } else { x };
+    match numbers.below(16) {
+        0 => format!("create principal {p} \"{p}\""),
+        1 => format!("change password {p} \"{p}\""),
+        2..=4 => format!("set {x} = {}", expression(numbers)),
+        5..=7 => format!("append to {x} with {}", expression(numbers)),
+        8 => format!("local {x} = {}", expression(numbers)),
+        9 => format!("foreach {y} in {x} replacewith {}", expression(numbers)),
+        10 => match numbers.below(2) {
+            0 => format!("foreach e in {x} replacewith {{a=e}}"),
+            _ => format!("append to {x} with {x}"),
+        },
+        11 => format!("delete delegation {target} {q} {right} -> {p}"),
+        12 => format!("default delegator = {p}"),
+        13 => format!("set delegation {target} admin {right} -> {p}"),
+        _ => format!("set delegation {target} {q} {right} -> {p}"),
+    }
+}
+
+fn any_program(numbers: &mut Numbers) -> String {
+    let sender = match numbers.below(3) {
+        0 => "admin",
+        _ => numbers.one(&PRINCIPALS),
+    };
+    let count = numbers.below(4);
+    let mut lines: Vec<String> = (0..count).map(|_| command(numbers)).collect();
+    lines.push(match numbers.below(200) {
+        0 => "exit".to_string(),
+        _ => format!("return {}", expression(numbers)),
+    });
+    let lines: Vec<&str> = lines.iter().map(String::as_str).collect();
+    program(sender, sender, &lines)
+}
+
+/// Names and variables to start with, so that most commands can be done, and
+/// a heavy string, so that some cannot.
+fn peopled() -> Server {
+    let mut server = Server::new("admin");
+    let heavy = format!("set w = \"{}\"", "t".repeat(7_800));
+    let lines = [
+        "create principal bob \"bob\"",
+        "create principal carol \"carol\"",
+        "create principal dave \"dave\"",
+        "change password anyone \"anyone\"",
+        "set u = []",
+        "append to u with {a=\"1\",b=\"2\"}",
+        "set v = u",
+        "append to v with \"s\"",
+        &heavy,
+        "set x = {a=\"1\",b=\"2\"}",
+        "set delegation u admin read -> anyone",
+        "set delegation u admin delegate -> bob",
+        "set delegation all admin write -> carol",
+        "return \"\"",
+    ];
+    let (end, _) = server.run("admin", "admin", &lines);
+    assert_eq!(end, End::Returned);
+    server
+}
+
+/// The weight that the engine counted is the weight of the text it leaves.
+fn weight_is_kept(state: &[u8], program: &str) {
+    let mut output = vec![0; BUFFER];
+    let (before, _) = decode(state).unwrap();
+    let (_, after) = engine::run(before, program.as_bytes(), &mut Lines::new(&mut output));
+    if let Some(after) = after {
+        let mut text = vec![0; BUFFER];
+        encode(&after, &mut text);
+        let (again, _) = decode(&text).expect("well formed");
+        assert_eq!(again.weight(), after.weight());
+    }
+}
+
+/// The length of a shortest chain, from the lines of the state text.
+fn length_by_text(text: &str, name: &str, variable: &str, right: &str) -> Option<usize> {
+    let mut reached = vec!["admin"];
+    for round in 0.. {
+        if reached.contains(&name) {
+            return Some(round);
+        }
+        let mut next = Vec::new();
+        for line in text.lines() {
+            let fields: Vec<&str> = line.split('|').collect();
+            match fields[..] {
+                ["A", x, q, r, p] if (x, r) == (variable, right) && reached.contains(&q) => {
+                    next.push(p)
+                }
+                ["P", p, _] if reached.contains(&"anyone") => next.push(p),
+                _ => {}
+            }
+        }
+        next.retain(|p| !reached.contains(p));
+        if next.is_empty() {
+            return None;
+        }
+        reached.extend(next);
+    }
+    None
+}
+
+fn questions_are_answered(server: &Server) -> (usize, usize) {
+    let text = server.text();
+    let (mut yes, mut no) = (0, 0);
+    for name in PRINCIPALS {
+        for variable in VARIABLES {
+            for right in ["r", "w", "a", "d"] {
+                let answer = server.ask(name, variable, right.as_bytes()[0]);
+                match answer.map_err(|refusal| refusal.number()) {
+                    Ok(length) => {
+                        assert_eq!(length, length_by_text(&text, name, variable, right));
+                        yes += usize::from(length.is_some());
+                        no += usize::from(length.is_none());
+                    }
+                    Err(6) => assert!(!text.contains(&format!("\nP|{name}|")) && name != "anyone"),
+                    Err(7) => assert!(!text.contains(&format!("\nV|{variable}|"))),
+                    Err(number) => panic!("refused with {number}"),
+                }
+            }
+        }
+    }
+    (yes, no)
+}
+
+#[test]
+fn whole_programs() {
+    let mut numbers = Numbers(0x0123_4567_89ab_cdef);
+    let mut ends = [0; 5];
+    let (mut yes, mut no) = (0, 0);
+    for _ in 0..150 {
+        let mut server = peopled();
+        for _ in 0..60 {
+            let program = any_program(&mut numbers);
+            weight_is_kept(&server.state, &program);
+            let (end, _) = server.send(program.as_bytes());
+            ends[end as usize] += 1;
+            if end == End::Exited {
+                break;
+            }
+        }
+        let (more_yes, more_no) = questions_are_answered(&server);
+        yes += more_yes;
+        no += more_no;
+    }
+    // Every kind of end and of answer comes up.
+    assert!(ends[End::Exited as usize] > 0, "{ends:?}");
+    for end in [End::Returned, End::Denied, End::Failed, End::Full] {
+        assert!(ends[end as usize] > 100, "{ends:?}");
+    }
+    assert!(yes > 1_000 && no > 1_000, "{yes} {no}");
+}
+
+#[test]
+fn damaged_programs() {
+    let mut numbers = Numbers(0xdead_beef_cafe_f00d);
+    let mut server = Server::session();
+    for _ in 0..20_000 {
+        let mut bytes = any_program(&mut numbers)
+            .replacen("admin\"", "desk\"", 1)
+            .into_bytes();
+        for _ in 0..1 + numbers.below(2) {
+            let at = numbers.below(bytes.len());
+            match numbers.below(3) {
+                0 => bytes[at] = numbers.below(256) as u8,
+                1 => drop(bytes.remove(at)),
+                _ => bytes.insert(at, b" \n/*.,={}[]->\"_a1\t\0"[numbers.below(19)]),
+            }
+        }
+        let (end, _) = server.send(&bytes);
+        if end == End::Exited || server.weight() > 4_000 {
+            server = Server::session();
+        }
+    }
+}
+
+#[test]
+fn damaged_states() {
+    let mut numbers = Numbers(0x0bad_5eed_0bad_5eed);
+    let program = program("admin", "desk", &["set n = \"\"", "return \"\""]);
+    let (mut good, mut bad) = (0, 0);
+    for _ in 0..3_000 {
+        let mut state = buffer(SESSION);
+        for _ in 0..1 + numbers.below(2) {
+            let at = numbers.below(SESSION.len());
+            state[at] = match numbers.below(2) {
+                0 => numbers.below(256) as u8,
+                _ => state[numbers.below(SESSION.len())],
+            };
+        }
+        let before = state.clone();
+        let (mut work, mut output) = (vec![DIRT; BUFFER], vec![DIRT; BUFFER]);
+        let result = calls::run(&mut state, &mut work, &mut output, program.as_bytes());
+        match decode(&before) {
+            None => {
+                bad += 1;
+                assert_eq!(result.unwrap_err().number(), 4);
+                assert!(state == before && work == [DIRT; BUFFER] && output == [DIRT; BUFFER]);
+            }
+            Some((decoded, length)) => {
+                good += 1;
+                let mut text = vec![0; BUFFER];
+                assert_eq!(encode(&decoded, &mut text), length);
+                assert!(text == before);
+            }
+        }
+    }
+    assert!(good > 100 && bad > 100);
+}
+
+#[test]
+fn the_largest_output() {
+    // 77 records of 52 fields with labels of one letter, and a string x.
+    let labels = (b'a'..=b'z').chain(b'A'..=b'Z').map(char::from);
+    let fields: String = labels.map(|label| format!("F|{label}|\n")).collect();
+    let list = format!("R\n{fields}").repeat(77);
+    let text = FRESH.replace("|desk", "|");
+    let mut server = Server::of_text(&format!("{text}V|x|S|\nV|l|L\n{list}"));
+    assert_eq!(server.weight(), 2 + 2 + 2 + (2 + 77 * (1 + 52 * 2)));
+    let first = "as principal admin password\"\"do\n";
+    let commands = (16_384 - first.len() - 12) / 8;
+    let program = format!("{first}{}return l\n***", "set x=x\n".repeat(commands));
+    let (end, text) = server.send(program.as_bytes());
+    assert_eq!(end, End::Returned);
+    let record = 2 + 52 * 6 + 51;
+    let value = 2 + 77 * record + 76;
+    let status = "{\"status\":\"SET\"}\n".len();
+    let frame = "{\"status\":\"RETURNING\",\"output\":}\n".len();
+    assert_eq!(text.len(), commands * status + frame + value);
+    assert!(text.len() > 62_000);
+}
+
+#[test]
+fn the_largest_state_text() {
+    // A one-letter label with no text weighs 2 and takes 5 bytes; one more
+    // byte for each record's own line.
+    let labels = (b'a'..=b'z').chain(b'A'..=b'Z').map(char::from);
+    let fields: String = labels.map(|label| format!("F|{label}|\n")).collect();
+    let names = (b'a'..=b'z').chain(b'A'..=b'Z').map(char::from);
+    let variables: String = names.map(|name| format!("V|{name}|R\n{fields}")).collect();
+    let mut server = Server::of_text(&format!("{FRESH}{variables}"));
+    assert_eq!(server.weight(), 8 + 52 * (2 + 52 * 2));
+    server.prepare(&["set more = \"\""]);
+    assert!(server.text().ends_with("V|more|S|\n"));
+}
