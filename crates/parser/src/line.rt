@@ -19,7 +19,7 @@ fn ends_at(text: &[u8], at: usize) -> bool
     requires { ⌜ at ≤ length (now text) ⌝ }
     ensures { λ r. ⌜ r ≡ isNil (lex (drop at (now (text .entry)))) ⌝ }
 {
-    let t = syntax::token::token_at(text, at);
+    let t = syntax::scanner::first_token(text, at);
     match t {
         Token::End => true,
         Token::Sign(_, _) => false,

@@ -3,5 +3,8 @@ pub mod Marking
 pub mod Passing
 pub mod Rounding
 pub mod Searching
+pub mod Turns
 pub mod Answers
+pub mod Again
+pub mod Laid
 mod Examples

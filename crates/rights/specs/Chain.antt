@@ -2,6 +2,7 @@
 use mathlib.Core.Path.{_≡_}
 use mathlib.Core.List.{List, List·Memᴰ}
 use Prim.Native.Nat.{ℕ, suc, _≤_, _<_}
+use Rattle.rights.specs.declared.Assertion as Declared
 use Rattle.rights.specs.declared.Answer.{Answer}
 use Rattle.rights.specs.declared.Answer.the-variants.{Yes, No}
 
@@ -9,12 +10,9 @@ infix 50 _∈_
 abbrev pub _∈_ : {A : Type 0} → A → List A → Type 0
 x ∈ l = List·Memᴰ x l
 
--- the assertion `variable from right -> to`
-pub record Assertion : Type 0 where
-  pub variable : ℕ
-  pub from : ℕ
-  pub right : ℕ
-  pub to : ℕ
+-- the assertion `variable from right -> to`: the code's record of four numbers
+abbrev pub Assertion : Type 0
+Assertion = Declared.Assertion
 
 -- the assertions that stand, how many principals there are (they are the numbers below `count`), and the variable and right asked for
 pub record Asked : Type 0 where

@@ -3,7 +3,7 @@
 use mathlib.Core.Path.{_≡_}
 use mathlib.Core.List.{List, [], _∷_}
 use mathlib.Core.Bool.{Bool, true, false, cond}
-use Prim.Native.Nat.{ℕ, zero, suc, _+_, _/_, _%_, _^_}
+use Prim.Native.Nat.{ℕ, zero, suc, _+_}
 use lib.ListN.{length, getD, set, replicate}
 use lib.Dec.{ltb, eqb}
 use Rattle.rights.specs.Chain.{Assertion, Asked}
@@ -15,27 +15,19 @@ pub record Delegation : Type 0 where
   pub from : ℕ
   pub to : ℕ
 
+abbrev pub handed : Assertion → Delegation
+handed a = record { from = a .from; to = a .to }
+
 -- the delegations for variable v and right w, in order of entry
 unfoldable pub delegations : ℕ → ℕ → List Assertion → List Delegation
 delegations v w [] = []
 delegations v w (a ∷ s) =
     let rest : List Delegation = delegations v w s in
-    cond (eqb (a .variable) v) (cond (eqb (a .right) w) (record { from = a .from; to = a .to } ∷ rest) rest) rest
+    cond (eqb (a .variable) v) (cond (eqb (a .right) w) (handed a ∷ rest) rest) rest
 
 -- the delegations that are asked about
 abbrev pub relevant : Asked → List Delegation
 relevant a = delegations (a .variable) (a .right) (a .standing)
-
--- a delegation in one number below 2 ^ 32, the lower half of a packed assertion
-abbrev pub delegation : ℕ → Delegation
-delegation n = record { from = n / 2 ^ 16; to = n % 2 ^ 16 }
-
--- the lower halves of those packed assertions whose upper half is the key
-unfoldable pub gathered : ℕ → List ℕ → List ℕ
-gathered key [] = []
-gathered key (n ∷ s) =
-    let rest : List ℕ = gathered key s in
-    cond (eqb (n / 2 ^ 32) key) (n % 2 ^ 32 ∷ rest) rest
 
 -- the mark of a principal that no round has reached
 abbrev pub unreached : ℕ
@@ -67,6 +59,21 @@ left (x ∷ l) = one-if (eqb x unreached) + left l
 pub record Marks (old new last : List ℕ) (r : ℕ) : Type 0 where
   pub marks : last ≡ new
   pub counts : r + left last ≡ left old
+
+-- the length to report for p after round d, which reached n, at the marks l: none if nobody was reached; d + 1 if p is; one more if
+-- anyone is, who is a step from everybody; 0 while the search goes on
+abbrev pub lengthAfter : ℕ → ℕ → ℕ → List ℕ → ℕ
+lengthAfter n d p l = cond (eqb n 0) unreached (cond (eqb (getD l p 0) unreached) (cond (eqb (getD l 1 0) (d + 1)) (d + 2) 0) (d + 1))
+
+-- round d by the delegations s: the marks were `old` and are `last`, and r is the length to report for p
+pub record Rounded (s : List Delegation) (d p : ℕ) (old last : List ℕ) (r : ℕ) : Type 0 where
+  pub reached : ℕ
+  pub marks : Marks old (oneRound d s old) last reached
+  pub reports : r ≡ lengthAfter reached d p last
+
+-- the answer that a length is
+abbrev pub answerOf : ℕ → Answer
+answerOf n = cond (eqb n unreached) No (Yes n)
 
 -- admin alone is reached, among n
 unfoldable pub start : ℕ → List ℕ

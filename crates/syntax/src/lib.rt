@@ -2,5 +2,6 @@
 pub mod command;
 pub mod form;
 pub mod reader;
+pub mod scanner;
 pub mod token;
 pub mod value;

@@ -26,7 +26,7 @@ pub fn sign_at(text: &[u8], at: usize) -> Found
     ensures meant { λ r. ⌜ foundMeant (now (text .entry)) r ≡ anySign (lex (drop at (now (text .entry)))) ⌝ }
     ensures placed { λ r. ⌜ FoundPlaced (now (text .entry)) at r ⌝ }
 {
-    let t = crate::token::token_at(text, at);
+    let t = crate::scanner::first_token(text, at);
     match t {
         Token::End => Found::No,
         Token::Sign(s, n) => Found::At(s, n),
@@ -42,7 +42,7 @@ pub fn name_at(text: &[u8], at: usize) -> Found
     ensures meant { λ r. ⌜ foundMeant (now (text .entry)) r ≡ anyName (lex (drop at (now (text .entry)))) ⌝ }
     ensures placed { λ r. ⌜ FoundPlaced (now (text .entry)) at r ⌝ }
 {
-    let t = crate::token::token_at(text, at);
+    let t = crate::scanner::first_token(text, at);
     match t {
         Token::End => Found::No,
         Token::Sign(_, _) => Found::No,
@@ -58,7 +58,7 @@ pub fn string_at(text: &[u8], at: usize) -> Found
     ensures meant { λ r. ⌜ foundMeant (now (text .entry)) r ≡ anyString (lex (drop at (now (text .entry)))) ⌝ }
     ensures placed { λ r. ⌜ FoundPlaced (now (text .entry)) at r ⌝ }
 {
-    let t = crate::token::token_at(text, at);
+    let t = crate::scanner::first_token(text, at);
     match t {
         Token::End => Found::No,
         Token::Sign(_, _) => Found::No,

@@ -1,4 +1,4 @@
-// The scanner: one token at a place of the text. The longest token is taken.
+// The tokenizer: one token at a place of the text. The longest token is taken.
 use text::Alphabet;
 use text::Class;
 use text::Span;

@@ -47,7 +47,7 @@ pub fn operand_at(text: &[u8], at: usize) -> OperandRead
     ensures meant { λ r. ⌜ operandReadMeant (now (text .entry)) r ≡ anyOperand (lex (drop at (now (text .entry)))) ⌝ }
     ensures placed { λ r. ⌜ OperandPlaced (now (text .entry)) at r ⌝ }
 {
-    let t = crate::token::token_at(text, at);
+    let t = crate::scanner::first_token(text, at);
     match t {
         Token::End => OperandRead::No,
         Token::Sign(_, _) => OperandRead::No,

@@ -5,8 +5,8 @@ use borrow.Author.Needs.{needs}
 use Rattle.parser.proofs.line.ends_at.Statement.{statement}
 use Rattle.parser.proofs.line.ends_at.Tie as tie
 
-token-at-requires : tie.Need-token-at-requires
-token-at-requires c κs = search needs
+first-token-requires : tie.Need-first-token-requires
+first-token-requires c κs = search needs
 
 enum-told : tie.Need-enum-told
 enum-told c = search needs
@@ -26,38 +26,38 @@ enum-told-5 c = search needs
 returns : tie.Need-returns
 returns c =
     let a = c .before .before .before .before .args in
-    let r = c .before .before .token-at in
+    let r = c .before .before .first-token in
     read-as (now (a .text)) (a .at) (r .result) (c .enum-told .given .1) isNil (r .ensures .0)
 
 returns-2 : tie.Need-returns-2
 returns-2 c =
     let a = c .before .before .before .before .args in
-    let r = c .before .before .token-at in
+    let r = c .before .before .first-token in
     read-as (now (a .text)) (a .at) (r .result) (c .enum-told2 .given .1) isNil (r .ensures .0)
 
 returns-3 : tie.Need-returns-3
 returns-3 c =
     let a = c .before .before .before .before .args in
-    let r = c .before .before .token-at in
+    let r = c .before .before .first-token in
     read-as (now (a .text)) (a .at) (r .result) (c .enum-told3 .given .1) isNil (r .ensures .0)
 
 returns-4 : tie.Need-returns-4
 returns-4 c =
     let a = c .before .before .before .before .args in
-    let r = c .before .before .token-at in
+    let r = c .before .before .first-token in
     read-as (now (a .text)) (a .at) (r .result) (c .enum-told4 .given .1) isNil (r .ensures .0)
 
 returns-5 : tie.Need-returns-5
 returns-5 c =
     let a = c .before .before .before .before .args in
-    let r = c .before .before .token-at in
+    let r = c .before .before .first-token in
     read-as (now (a .text)) (a .at) (r .result) (c .enum-told5 .given .1) isNil (r .ensures .0)
 
 pub ends-at-spec : {M : Type 1} → statement M
 ends-at-spec =
     tie.close
     (tie.spec
-    token-at-requires
+    first-token-requires
     enum-told
     enum-told-2
     enum-told-3

@@ -5,8 +5,8 @@ use borrow.Author.Needs.{needs}
 use Rattle.syntax.proofs.reader.string_at.Statement.{statement}
 use Rattle.syntax.proofs.reader.string_at.Tie as tie
 
-token-at-requires : tie.Need-token-at-requires
-token-at-requires c κs = search needs
+first-token-requires : tie.Need-first-token-requires
+first-token-requires c κs = search needs
 
 enum-told : tie.Need-enum-told
 enum-told c = search needs
@@ -26,7 +26,7 @@ enum-told-4 c = search needs
 returns : tie.Need-returns
 returns c =
     let a = c .before .before .before .before .args in
-    let r = c .before .before .token-at in
+    let r = c .before .before .first-token in
     let t = now (a .text) in
     let is = c .enum-told .given .1 in
     (read-as t (a .at) (r .result) is anyString (r .ensures .0), tt)
@@ -34,7 +34,7 @@ returns c =
 returns-2 : tie.Need-returns-2
 returns-2 c =
     let a = c .before .before .before .before .args in
-    let r = c .before .before .token-at in
+    let r = c .before .before .first-token in
     let t = now (a .text) in
     let is = c .enum-told2 .given .1 in
     (read-as t (a .at) (r .result) is anyString (r .ensures .0), tt)
@@ -42,7 +42,7 @@ returns-2 c =
 returns-3 : tie.Need-returns-3
 returns-3 c =
     let a = c .before .before .before .before .args in
-    let r = c .before .before .token-at in
+    let r = c .before .before .first-token in
     let t = now (a .text) in
     let is = c .enum-told3 .given .1 in
     (read-as t (a .at) (r .result) is anyString (r .ensures .0), tt)
@@ -50,7 +50,7 @@ returns-3 c =
 returns-4 : tie.Need-returns-4
 returns-4 c =
     let a = c .before .before .before .before .before .args in
-    let r = c .before .before .before .token-at in
+    let r = c .before .before .before .first-token in
     let t = now (a .text) in
     let is = c .before .t .given .1 in
     (read-as t (a .at) (r .result) is anyString (r .ensures .0), placed-as t (a .at) (r .result) is (r .ensures .1))
@@ -58,7 +58,7 @@ returns-4 c =
 returns-5 : tie.Need-returns-5
 returns-5 c =
     let a = c .before .before .before .before .args in
-    let r = c .before .before .token-at in
+    let r = c .before .before .first-token in
     let t = now (a .text) in
     let is = c .enum-told4 .given .1 in
     (read-as t (a .at) (r .result) is anyString (r .ensures .0), tt)
@@ -67,7 +67,7 @@ pub string-at-spec : {M : Type 1} → statement M
 string-at-spec =
     tie.close
     (tie.spec
-    token-at-requires
+    first-token-requires
     enum-told
     enum-told-2
     enum-told-3

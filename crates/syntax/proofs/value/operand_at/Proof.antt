@@ -10,8 +10,8 @@ use borrow.Author.Needs.{needs}
 use Rattle.syntax.proofs.value.operand_at.Statement.{statement}
 use Rattle.syntax.proofs.value.operand_at.Tie as tie
 
-token-at-requires : tie.Need-token-at-requires
-token-at-requires c κs = search needs
+first-token-requires : tie.Need-first-token-requires
+first-token-requires c κs = search needs
 
 enum-told : tie.Need-enum-told
 enum-told c = search needs
@@ -25,7 +25,7 @@ enum-known-t c = search needs
 dotted-requires : tie.Need-dotted-requires
 dotted-requires c κs =
     let a = c .before .before .before .before .before .args in
-    let r = c .before .before .before .token-at in
+    let r = c .before .before .before .first-token in
     let p = placed-as (now (a .text)) (a .at) (r .result) (c .before .t .given .1) (r .ensures .1) in
     (omega arith, omega arith)
 
@@ -38,7 +38,7 @@ enum-told-3 c = search needs
 returns : tie.Need-returns
 returns c =
     let a = c .before .before .before .before .args in
-    let r = c .before .before .token-at in
+    let r = c .before .before .first-token in
     let t = now (a .text) in
     let is = c .enum-told .given .1 in
     (read-as t (a .at) (r .result) is anyOperand (r .ensures .0), tt)
@@ -46,7 +46,7 @@ returns c =
 returns-2 : tie.Need-returns-2
 returns-2 c =
     let a = c .before .before .before .before .args in
-    let r = c .before .before .token-at in
+    let r = c .before .before .first-token in
     let t = now (a .text) in
     let is = c .enum-told2 .given .1 in
     (read-as t (a .at) (r .result) is anyOperand (r .ensures .0), tt)
@@ -54,7 +54,7 @@ returns-2 c =
 returns-3 : tie.Need-returns-3
 returns-3 c =
     let a = c .before .before .before .before .before .before .args in
-    let r = c .before .before .before .before .token-at in
+    let r = c .before .before .before .before .first-token in
     let t = now (a .text) in
     let is = c .before .before .t .given .1 in
     let p = placed-as t (a .at) (r .result) is (r .ensures .1) in
@@ -66,7 +66,7 @@ returns-3 c =
 returns-4 : tie.Need-returns-4
 returns-4 c =
     let a = c .before .before .before .before .before .args in
-    let r = c .before .before .before .token-at in
+    let r = c .before .before .before .first-token in
     let t = now (a .text) in
     let is = c .before .t2 .given .1 in
     let p = placed-as t (a .at) (r .result) is (r .ensures .1) in
@@ -75,7 +75,7 @@ returns-4 c =
 returns-5 : tie.Need-returns-5
 returns-5 c =
     let a = c .before .before .before .before .args in
-    let r = c .before .before .token-at in
+    let r = c .before .before .first-token in
     let t = now (a .text) in
     let is = c .enum-told3 .given .1 in
     (read-as t (a .at) (r .result) is anyOperand (r .ensures .0), tt)
@@ -84,7 +84,7 @@ pub operand-at-spec : {M : Type 1} → statement M
 operand-at-spec =
     tie.close
     (tie.spec
-    token-at-requires
+    first-token-requires
     enum-told
     enum-told-2
     enum-known-t
