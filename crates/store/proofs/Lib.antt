@@ -5,3 +5,4 @@ pub mod Lookups
 pub mod Holders
 pub mod Answers
 pub mod Passwords
+pub mod Scanning

@@ -7,7 +7,7 @@ ghost use lib.ListN.{length, getD};
 ghost use Rattle.language.specs.Text.{_==_};
 ghost use Rattle.store.specs.Held.{part, print};
 ghost use Rattle.store.specs.Rows.{Row, Rows, SomeRows, place, Placed};
-ghost use Rattle.store.specs.Scans.{FirstHit};
+ghost use Rattle.store.specs.Scans.{FirstHit, HitMeant};
 use text::Alphabet;
 
 // Where a record stands: its number, and its text from `start` up to `end`.
@@ -46,8 +46,24 @@ pub fn print(name: &[u8]) -> u64
     h
 }
 
+// Whether one of the marks from `from` up to `to` has the print `p`. The loop has no exit, so that some marks are looked at together.
+fn hits(marks: &[u64], from: usize, to: usize, p: u64) -> bool
+    requires { ⌜ (from ≤ to) × (to ≤ length (now marks)) ⌝ }
+    ensures { λ r. ⌜ HitMeant (now (marks .entry)) from to p r ⌝ }
+{
+    let mut hit = false;
+    let mut i = from;
+    while i < to {
+        if marks[i] / 65536 == p {
+            hit = true;
+        }
+        i += 1;
+    }
+    hit
+}
+
 // The first of the marks from `from` up to `to` that has the print `p`, or `to` where there is none.
-fn scan(marks: &[u64], from: usize, to: usize, p: u64) -> usize
+fn first_of(marks: &[u64], from: usize, to: usize, p: u64) -> usize
     requires { ⌜ (from ≤ to) × (to ≤ length (now marks)) ⌝ }
     ensures { λ r. ⌜ FirstHit (now (marks .entry)) from to p r ⌝ }
 {
@@ -57,6 +73,33 @@ fn scan(marks: &[u64], from: usize, to: usize, p: u64) -> usize
             return i;
         }
         i += 1;
+    }
+    i
+}
+
+// Where the block that starts at `i` ends: 64 marks further, or at the last.
+fn block_end(i: usize, to: usize) -> usize
+    requires { ⌜ i < to ⌝ }
+    ensures { λ r. ⌜ (i < r) × (r ≤ to) ⌝ }
+{
+    if to - i > 64 {
+        return i + 64;
+    }
+    to
+}
+
+// The same as `first_of`, block by block, because most blocks have no such mark.
+fn scan(marks: &[u64], from: usize, to: usize, p: u64) -> usize
+    requires { ⌜ (from ≤ to) × (to ≤ length (now marks)) ⌝ }
+    ensures { λ r. ⌜ FirstHit (now (marks .entry)) from to p r ⌝ }
+{
+    let mut i = from;
+    while i < to {
+        let next = block_end(i, to);
+        if hits(marks, i, next, p) {
+            return first_of(marks, i, next, p);
+        }
+        i = next;
     }
     i
 }

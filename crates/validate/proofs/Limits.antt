@@ -4,9 +4,10 @@ use mathlib.Core.Path.{_≡_, refl, sym, ap, _∙_}
 use Prim.Native.Nat.{ℕ, zero, suc, _+_, _≤_, _<_}
 use native.Mathlib.Omega.{arith}
 use native.Mathlib.Numerals.{add-one}
-use mathlib.Core.Bool.{Bool, true, false}
+use mathlib.Core.Bool.{Bool, true, false, not}
 use mathlib.Core.List.{[], _∷_, _++_, append-assoc}
-use lib.Dec.{leb→le, le→leb}
+use borrow.Author.Tests.{eq-eqb, ne-eqb}
+use lib.Dec.{eqb, leb→le, le→leb}
 use lib.ListN.{length, getD, drop, replicate}
 use lib.Seq.{drop-cons}
 use Rattle.language.specs.Text.{Text, if_then_else_, decimal}
@@ -36,6 +37,23 @@ zero-bytes (b ∷ t) h =
 pub bytes-zero : (n : ℕ) → total (replicate n 0) ≡ 0
 bytes-zero zero = refl
 bytes-zero (suc n) = let h = bytes-zero n in omega arith
+
+-- of bytes that sum up to a, those left sum up to b: none of the others is over 0, or one is
+abbrev pub Seen : Bool → ℕ → ℕ → Type 0
+Seen false a b = a ≡ b
+Seen true a b = 0 < a
+
+pub seen-one : (seen : Bool) (a b x c : ℕ) → Seen seen a b → b ≡ x + c → 0 < x → Seen true a c
+seen-one false a b x c h e l = omega arith
+seen-one true a b x c h e l = h
+
+pub seen-none : (seen : Bool) (a b x c : ℕ) → Seen seen a b → b ≡ x + c → x ≤ 0 → Seen seen a c
+seen-none false a b x c h e l = omega arith
+seen-none true a b x c h e l = h
+
+pub seen-all : (seen : Bool) (a : ℕ) → Seen seen a 0 → not seen ≡ eqb a 0
+seen-all false a h = sym (eq-eqb a 0 h)
+seen-all true a h = sym (ne-eqb a 0 (λ e. omega arith))
 
 -- ---- the first line
 

@@ -30,22 +30,18 @@ pub fn head_at(text: &[u8]) -> Head
     Head::No
 }
 
-fn wide(b: u8) -> u64
-    ensures { λ r. ⌜ r ≡ b ⌝ }
-{
-    b as u64
-}
-
-// Whether all bytes from `at` on are 0. The bytes are summed and not tested one by one, so that the loop has no exit.
+// Whether all bytes from `at` on are 0. The loop has no exit, so that many bytes are looked at together.
 pub fn zeros_from(text: &[u8], at: usize) -> bool
     requires { ⌜ (at ≤ length (now text)) × (length (now text) ≤ 65536) ⌝ }
     ensures { λ r. ⌜ r ≡ isZero (drop at (now (text .entry))) ⌝ }
 {
-    let mut sum: u64 = 0;
+    let mut seen = false;
     let mut i = at;
     while i < text.len() {
-        sum += wide(text[i]);
+        if text[i] > 0 {
+            seen = true;
+        }
         i += 1;
     }
-    sum == 0
+    !seen
 }

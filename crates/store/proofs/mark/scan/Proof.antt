@@ -1,9 +1,10 @@
-use mathlib.Core.Path.{_≡_}
+use mathlib.Core.Path.{_≡_, subst}
+use mathlib.Core.Bool.{Bool}
 use Prim.Native.Nat.{ℕ, _-_, _/_, _≤_, _<_}
 use native.Mathlib.Omega.{arith}
-use borrow.Author.Needs.{needs}
 use lib.ListN.{getD}
-use borrow.Author.Count.{below-more}
+use Rattle.store.specs.Scans.{HitMeant}
+use Rattle.store.proofs.Scanning.{block-passed, block-first}
 use Rattle.store.proofs.mark.scan.Statement.{statement}
 use Rattle.store.proofs.mark.scan.Tie as tie
 
@@ -18,28 +19,36 @@ abbrev μ-loop : tie.MeasureT-loop
 loop-holds : tie.Need-loop-holds Inv-loop μ-loop
 loop-holds c = (omega arith, omega arith, λ j h k e. omega arith)
 
-mul-if1 : tie.Need-mul-if1 Inv-loop μ-loop
-mul-if1 c = search needs
+block-end-requires : tie.Need-block-end-requires Inv-loop μ-loop
+block-end-requires c κs = c .loop-test .taken
 
-shared-slice-read-if1 : tie.Need-shared-slice-read-if1 Inv-loop μ-loop
-shared-slice-read-if1 c = omega arith
+hits-requires : tie.Need-hits-requires Inv-loop μ-loop
+hits-requires c κs = let b = c .block-end .ensures in (omega (arith, b), omega (arith, b))
+
+first-of-requires : tie.Need-first-of-requires Inv-loop μ-loop
+first-of-requires c κs = let b = c .before .before .block-end .ensures in (omega (arith, b), omega (arith, b))
 
 returns : tie.Need-returns Inv-loop μ-loop
 returns c =
-    let l = c .before .before .before .loop in
-    record { low = l .inv .0; high = l .inv .1; none-before = l .inv .2; hit = λ h. c .if1 .taken }
-
-add-i : tie.Need-add-i Inv-loop μ-loop
-add-i c = omega arith
+    let a = c .before .before .before .before .before .before .before .args in
+    let l = c .before .before .before .before .before .loop in
+    let b = c .before .before .before .block-end in
+    block-first (a .marks .now) (a .from) (a .p) (l .i) (b .result) (a .to) (c .first-of .result) (l .inv .0) (b .ensures .1) (l .inv .2)
+    (subst (λ (h : Bool). HitMeant (a .marks .now) (l .i) (b .result) (a .p) h) (c .before .if1 .taken) (c .before .before .hits .ensures)) (c .first-of .ensures)
 
 loop-less : tie.Need-loop-less Inv-loop μ-loop
-loop-less c = omega arith
+loop-less c = let b = c .before .before .block-end .ensures in omega (arith, b)
 
 loop-again : tie.Need-loop-again Inv-loop μ-loop
 loop-again c =
-    let l = c .before .before .before .loop in
-    let s = c .before .before .before .before in
-    (omega arith, omega arith, below-more _ _ (l .inv .2) (λ h. c .if1 .left))
+    let a = c .before .before .before .before .before .before .args in
+    let l = c .before .before .before .before .loop in
+    let b = c .before .before .block-end in (
+      omega (arith, l .inv .0, b .ensures),
+      b .ensures .1,
+      block-passed (a .marks .now) (a .from) (a .p) (l .i) (b .result) (l .inv .2)
+          (subst (λ (h : Bool). HitMeant (a .marks .now) (l .i) (b .result) (a .p) h) (c .if1 .left) (c .before .hits .ensures)),
+    )
 
 returns-2 : tie.Need-returns-2 Inv-loop μ-loop
 returns-2 c =
@@ -53,10 +62,10 @@ scan-spec =
     Inv-loop
     μ-loop
     loop-holds
-    mul-if1
-    shared-slice-read-if1
+    block-end-requires
+    hits-requires
+    first-of-requires
     returns
-    add-i
     loop-less
     loop-again
     returns-2)

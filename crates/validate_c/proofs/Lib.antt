@@ -1,0 +1,4 @@
+-- Laws that belong to no one function.
+pub mod Saying
+pub mod Lookups
+pub mod Reporting

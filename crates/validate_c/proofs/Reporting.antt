@@ -1,0 +1,61 @@
+-- What a call reports of a buffer: refused, not well formed, or the answer for its state.
+-- Assumes nothing.
+use mathlib.Core.Path.{_≡_, refl, sym, ap, subst, _∙_}
+use mathlib.Core.Logic.{⊎-elim}
+use mathlib.Core.Option.{Option, none, some}
+use mathlib.Core.List.{List, _∷_, _++_, map}
+use Prim.Native.Nat.{ℕ, _≤_, _<_}
+use native.Mathlib.Omega.{arith}
+use lib.ListN.{length, take, length-map}
+use lib.Seq.{length-take-le}
+use Rattle.language.specs.Text.{Text}
+use Rattle.language.specs.State.{State}
+use Rattle.language.specs.Decode.{decode}
+use Rattle.lines.specs.Cuts.{part}
+use Rattle.store.specs.Rows.{Rows, principalRow, variableRow}
+use Rattle.store.proofs.Records.{marks-long}
+use Rattle.store.proofs.Holders.{principals-rows, variables-rows}
+use Rattle.numbers.specs.Numbers.{people, variables, numbered}
+use Rattle.validate.specs.Checked.{Represents}
+use Rattle.validate.specs.declared.Parts.{Parts}
+use Rattle.validate_c.specs.Reported.{Look, figures, flag, Says, Answers, Reported, bad, refused}
+use Rattle.validate_c.specs.Tallies.{tally}
+
+module _ (room : ℕ) (look : State → Look) (t : Text) (old : List ℕ) where
+  pub no-size : (length t ≡ 65536 → ⊥) → Reported room look t old old refused
+  no-size n = record { refuses = λ h. (refl, refl); answers = λ e. absurd (n e) }
+
+  pub no-room : length old < room → Reported room look t old old refused
+  no-room l = record { refuses = λ h. (refl, refl); answers = λ e h. absurd (omega arith) }
+
+  module _ (size : length t ≡ 65536) (fits : room ≤ length old) where
+    answered : {new : List ℕ} {r : ℕ} → Answers look (decode t) old new r → Reported room look t old new r
+    answered a = record { refuses = λ h. absurd (⊎-elim (λ x. x size) (λ x. omega arith) h); answers = λ e h. a }
+
+    pub not-formed : decode t ≡ none → Reported room look t old old bad
+    not-formed e = answered (subst (λ (o : Option State). Answers look o old old bad) (sym e) (refl, refl))
+
+    pub formed : (s : State) {new : List ℕ} {r : ℕ} → decode t ≡ some s → Says (look s) old new r → Reported room look t old new r
+    formed s {new} {r} e h = answered (subst (λ (o : Option State). Answers look o old new r) (sym e) h)
+
+-- the figures of a state, by its parts
+pub figures-are : (t : Text) (marks-p marks-v standing : List ℕ) (p : Parts) (s : State) → Represents t marks-p marks-v standing p s
+    → figures s ≡ tally p ++ take (p .asserted) standing
+figures-are t marks-p marks-v standing p s R =
+    let n : p .asserted ≡ length (s .store .assertions) =
+    sym (length-take-le (p .asserted) standing (R .assertions .within)) ∙ ap length (R .assertions .are) ∙ length-map (s .store .assertions) (numbered (people (s .store)) (variables (s .store))) in
+    sym (λ i. flag (R .is-open i) ∷ R .counted i ∷ R .weighed i ∷ R .principals .counted i ∷ R .delegator i ∷ R .variables .counted i ∷ n i ∷ R .assertions .are i)
+
+-- the records are as few as their marks
+module _ (t : Text) (marks-p marks-v standing : List ℕ) (p : Parts) (s : State) (R : Represents t marks-p marks-v standing p s) where
+  abbrev pub principal-rows : Rows (map principalRow (s .store .principals)) (part t (p .«people_from») (p .«people_to»)) (p .people) marks-p
+  principal-rows = principals-rows (s .store .principals) (part t (p .«people_from») (p .«people_to»)) (p .people) marks-p (R .principals)
+
+  abbrev pub variable-rows : Rows (map variableRow (s .store .variables)) (part t (p .«vars_from») (p .«vars_to»)) (p .vars) marks-v
+  variable-rows = variables-rows (s .store .variables) (part t (p .«vars_from») (p .«vars_to»)) (p .vars) marks-v (R .variables)
+
+  pub few-principals : length marks-p ≡ 4096 → p .people ≤ 4096
+  few-principals e = omega (arith, marks-long (map principalRow (s .store .principals)) (part t (p .«people_from») (p .«people_to»)) (p .people) marks-p principal-rows)
+
+  pub few-variables : length marks-v ≡ 4096 → p .vars ≤ 4096
+  few-variables e = omega (arith, marks-long (map variableRow (s .store .variables)) (part t (p .«vars_from») (p .«vars_to»)) (p .vars) marks-v variable-rows)

@@ -1,0 +1,54 @@
+use mathlib.Core.Path.{_≡_, _∙_}
+use Prim.Native.Nat.{ℕ, _-_}
+use native.Mathlib.Omega.{arith}
+use lib.ListN.{length, take}
+use lib.Seq.{length-take-le}
+use Rattle.edits.specs.Splices.{over}
+use Rattle.validate_c.specs.Tallies.{tally}
+use Rattle.validate_c.proofs.Saying.{says-both}
+use borrow.Author.Needs.{needs}
+use Rattle.validate_c.proofs.answer.figures.Statement.{statement}
+use Rattle.validate_c.proofs.answer.figures.Tie as tie
+
+head-requires : tie.Need-head-requires
+head-requires c κs = search needs
+
+sub-copy-numbers : tie.Need-sub-copy-numbers
+sub-copy-numbers c = search needs
+
+part-copy-numbers-start : tie.Need-part-copy-numbers-start
+part-copy-numbers-start c = search needs
+
+part-copy-numbers-end : tie.Need-part-copy-numbers-end
+part-copy-numbers-end c = search needs
+
+copy-numbers-requires : tie.Need-copy-numbers-requires
+copy-numbers-requires c κs = search needs
+
+add-result : tie.Need-add-result
+add-result c = search needs
+
+same-length : tie.Need-same-length
+same-length c = search needs
+
+returns : tie.Need-returns
+returns c =
+    let a = c .before .before .before .before .before .before .before .before .before .before .before .args in
+    let n : ℕ = a .parts .asserted in
+    let z : n - 0 ≡ n = omega arith in
+    let m : length (take n (a .standing .now)) ≡ n = length-take-le n (a .standing .now) (c .before .before .before .before .before .before .before .before .before .before .before .pre .0) in
+    says-both (tally (a .parts)) (take n (a .standing .now)) (a .out .now) _ _ (omega (arith, m))
+    (c .before .before .copy-numbers .ensures ∙ (λ i. over (c .before .before .before .before .before .before .before .head .ensures i) 7 (take (z i) (a .standing .now))))
+
+pub figures-spec : {M : Type 1} → statement M
+figures-spec =
+    tie.close
+    (tie.spec
+    head-requires
+    sub-copy-numbers
+    part-copy-numbers-start
+    part-copy-numbers-end
+    copy-numbers-requires
+    add-result
+    same-length
+    returns)

@@ -1,0 +1,70 @@
+use mathlib.Core.Path.{refl, sym, subst}
+use Prim.Native.Nat.{_+_}
+use native.Mathlib.Omega.{arith}
+use Rattle.store.proofs.Passwords.{Lies, lies}
+use Rattle.edits.proofs.Splicing.{length-part}
+use Rattle.validate_c.specs.Reported.{Look, Says}
+use Rattle.validate_c.proofs.Lookups.{name-gone, name-here}
+use borrow.Author.Needs.{needs}
+use Rattle.validate_c.proofs.look.nth_name.Statement.{statement}
+use Rattle.validate_c.proofs.look.nth_name.Tie as tie
+
+safe : (c : tie.After-nth) → Lies (c .before .before .before .before .before .args .text .now) (c .nth .result)
+safe c =
+    let a = c .before .before .before .before .before .args in
+    let p = c .before .before .before .before .before .pre .0 in
+    lies (p .rows) (a .text .now) (a .count) (a .marks .now) (p .held) (a .number) (c .before .if1 .left) (c .nth .result) (c .nth .ensures (p .rows) (p .held))
+
+returns : tie.Need-returns
+returns c rows H =
+    let a = c .before .before .before .before .args in
+    subst (λ (l : Look). Says l (a .out .now) (a .out .now) 4294967298) (sym (name-gone rows (a .number) (omega (arith, c .if1 .taken, H .counted))))
+    (record { number-is = refl; written = refl })
+
+nth-requires : tie.Need-nth-requires
+nth-requires c κs = search needs
+
+add-from : tie.Need-add-from
+add-from c = let l = safe (c) in omega (arith, l .first, l .middle, l .last)
+
+sub-write : tie.Need-sub-write
+sub-write c = let l = safe (c) in omega (arith, l .first, l .middle, l .last)
+
+part-write-start : tie.Need-part-write-start
+part-write-start c = let l = safe (c) in omega (arith, l .first, l .middle, l .last)
+
+part-write-end : tie.Need-part-write-end
+part-write-end c = let l = safe (c) in omega (arith, l .first, l .middle, l .last)
+
+write-requires : tie.Need-write-requires
+write-requires c κs =
+    let p = c .before .before .before .before .before .before .before .pre in
+    let l = safe (c .before .before) in
+    let g = c .before .before .nth .result in
+    let n = length-part (c .before .before .before .before .before .before .before .args .text .now) (g .start + 2) (g .mid) (l .first) (omega (arith, l .middle, l .last)) in
+    (omega (arith, c .before .before .before .if1 .left, p .1), omega (arith, n, l .middle, l .last, p .0 .held .small), omega (arith, n, l .middle, l .last, p .0 .held .small, p .2))
+
+same-length : tie.Need-same-length
+same-length c = search needs
+
+returns-2 : tie.Need-returns-2
+returns-2 c rows H =
+    let a = c .before .before .before .before .before .before .before .before .before .before .args in
+    let g = c .before .before .before .before .before .nth .result in
+    subst (λ (l : Look). Says l (a .out .now) (c .before .before .write .last .1 .1 .0) (c .before .before .write .result))
+    (sym (name-here rows (a .number) (a .text .now) (a .count) (a .marks .now) H (c .before .before .before .before .before .before .if1 .left) g (c .before .before .before .before .before .nth .ensures rows H)))
+    (c .before .before .write .ensures)
+
+pub nth-name-spec : {M : Type 1} → statement M
+nth-name-spec =
+    tie.close
+    (tie.spec
+    returns
+    nth-requires
+    add-from
+    sub-write
+    part-write-start
+    part-write-end
+    write-requires
+    same-length
+    returns-2)

@@ -1,0 +1,84 @@
+use mathlib.Core.Path.{_≡_, sym, subst}
+use mathlib.Core.List.{List}
+use Prim.Native.Nat.{ℕ}
+use native.Mathlib.Omega.{arith}
+use lib.ListN.{length}
+use Rattle.language.specs.State.{State}
+use Rattle.validate.specs.Checked.{Understood, CheckedMeant}
+use Rattle.validate_c.specs.Reported.{Look, found, figures, Says}
+use Rattle.validate_c.proofs.Reporting.{no-size, no-room, formed, not-formed, figures-are}
+use borrow.Author.Needs.{needs}
+use Rattle.validate_c.proofs.state_check.Statement.{statement}
+use Rattle.validate_c.proofs.state_check.Tie as tie
+
+abbrev look : (c : tie.Start) → State → Look
+look c s = found 0 (figures s)
+
+understood : (c : tie.After-checked) → Understood (c .before .before .before .before .before .before .before .before .before .before .before .before .before .args .state .now) (c .before .before .before .before .before .check .last .1 .0) (c .before .before .before .before .before .check .last .1 .1 .0) (c .before .before .before .before .before .check .last .1 .1 .1 .0) (c .checked .given .0 .0)
+understood c = subst (λ k. CheckedMeant (c .before .before .before .before .before .before .before .before .before .before .before .before .before .args .state .now) (c .before .before .before .before .before .check .last .1 .0) (c .before .before .before .before .before .check .last .1 .1 .0) (c .before .before .before .before .before .check .last .1 .1 .1 .0) k) (c .checked .given .1) (c .before .before .before .before .before .check .ensures)
+
+returns : tie.Need-returns
+returns c = no-size 2055 (look (c .before .before .before)) (c .before .before .before .args .state .now) (c .before .before .before .args .out .now) (c .if1 .taken)
+
+returns-2 : tie.Need-returns-2
+returns-2 c = no-room 2055 (look (c .before .before .before .before)) (c .before .before .before .before .args .state .now) (c .before .before .before .before .args .out .now) (c .if2 .taken)
+
+slice-aggregate-check : tie.Need-slice-aggregate-check
+slice-aggregate-check c = search needs
+
+slice-aggregate-check-2 : tie.Need-slice-aggregate-check-2
+slice-aggregate-check-2 c = search needs
+
+slice-aggregate-check-3 : tie.Need-slice-aggregate-check-3
+slice-aggregate-check-3 c = search needs
+
+check-requires : tie.Need-check-requires
+check-requires c κs = search needs
+
+enum-known-checked : tie.Need-enum-known-checked
+enum-known-checked c = search needs
+
+slice-aggregate-figures : tie.Need-slice-aggregate-figures
+slice-aggregate-figures c = search needs
+
+figures-requires : tie.Need-figures-requires
+figures-requires c κs =
+    let U = understood (c .before .before .before) in
+    let k : length (c .before .before .before .before .before .before .before .before .check .last .1 .1 .1 .0) ≡ 2048 = c .before .before .before .before .before .before .before .before .check .kept .1 .1 .1 .0 in
+    (U .represents .assertions .within, omega (arith, k), c .before .before .before .before .before .before .before .before .before .before .before .before .if2 .left)
+
+enum-told : tie.Need-enum-told
+enum-told c = search needs
+
+same-length : tie.Need-same-length
+same-length c = search needs
+
+returns-3 : tie.Need-returns-3
+returns-3 c =
+    let U = understood (c .before .before .before .before .before .before) in
+    formed 2055 (look (c .before .before .before .before .before .before .before .before .before .before .before .before .before .before .before .before .before .before .before)) (c .before .before .before .before .before .before .before .before .before .before .before .before .before .before .before .before .before .before .before .args .state .now) (c .before .before .before .before .before .before .before .before .before .before .before .before .before .before .before .before .before .before .before .args .out .now) (c .before .before .before .before .before .before .before .before .before .before .before .before .before .before .before .before .if1 .left) (c .before .before .before .before .before .before .before .before .before .before .before .before .before .before .before .if2 .left) (U .state) (U .decoded)
+    (subst (λ (l : List ℕ). Says (found 0 l) (c .before .before .before .before .before .before .before .before .before .before .before .before .before .before .before .before .before .before .before .args .out .now) (c .before .before .figures .last .1 .1 .0) (c .before .before .figures .result)) (sym (figures-are _ _ _ _ _ _ (U .represents)))
+    (c .before .before .figures .ensures))
+
+returns-4 : tie.Need-returns-4
+returns-4 c =
+    not-formed 2055 (look (c .before .before .before .before .before .before .before .before .before .before .before .before .before)) (c .before .before .before .before .before .before .before .before .before .before .before .before .before .args .state .now) (c .before .before .before .before .before .before .before .before .before .before .before .before .before .args .out .now) (c .before .before .before .before .before .before .before .before .before .before .if1 .left) (c .before .before .before .before .before .before .before .before .before .if2 .left)
+    (subst (λ k. CheckedMeant (c .before .before .before .before .before .before .before .before .before .before .before .before .before .args .state .now) (c .before .before .before .before .before .check .last .1 .0) (c .before .before .before .before .before .check .last .1 .1 .0) (c .before .before .before .before .before .check .last .1 .1 .1 .0) k) (c .enum-told .given .1) (c .before .before .before .before .before .check .ensures))
+
+pub state-check-spec : {M : Type 1} → statement M
+state-check-spec =
+    tie.close
+    (tie.spec
+    returns
+    returns-2
+    slice-aggregate-check
+    slice-aggregate-check-2
+    slice-aggregate-check-3
+    check-requires
+    enum-known-checked
+    slice-aggregate-figures
+    figures-requires
+    enum-told
+    same-length
+    returns-3
+    returns-4)

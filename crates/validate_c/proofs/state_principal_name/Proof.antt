@@ -1,0 +1,99 @@
+use mathlib.Core.Path.{_≡_, subst}
+use native.Mathlib.Omega.{arith}
+use lib.ListN.{length}
+use Rattle.language.specs.State.{State}
+use Rattle.validate.specs.Checked.{Understood, CheckedMeant}
+use mathlib.Core.List.{List, map}
+use Rattle.language.specs.Syntax.{Name}
+use Rattle.store.specs.Rows.{principalRow}
+use Rattle.store.proofs.Answers.{principal-names}
+use Rattle.numbers.specs.Numbers.{people}
+use Rattle.validate_c.specs.Reported.{Look, Says, nameOf}
+use Rattle.validate_c.proofs.Reporting.{no-size, no-room, formed, not-formed, few-principals, principal-rows}
+use borrow.Author.Needs.{needs}
+use Rattle.validate_c.proofs.state_principal_name.Statement.{statement}
+use Rattle.validate_c.proofs.state_principal_name.Tie as tie
+
+abbrev look : (c : tie.Start) → State → Look
+look c s = nameOf (people (s .store)) (c .args .number)
+
+understood : (c : tie.After-checked) → Understood (c .before .before .before .before .before .before .before .before .before .before .before .before .before .args .state .now) (c .before .before .before .before .before .check .last .1 .0) (c .before .before .before .before .before .check .last .1 .1 .0) (c .before .before .before .before .before .check .last .1 .1 .1 .0) (c .checked .given .0 .0)
+understood c = subst (λ k. CheckedMeant (c .before .before .before .before .before .before .before .before .before .before .before .before .before .args .state .now) (c .before .before .before .before .before .check .last .1 .0) (c .before .before .before .before .before .check .last .1 .1 .0) (c .before .before .before .before .before .check .last .1 .1 .1 .0) k) (c .checked .given .1) (c .before .before .before .before .before .check .ensures)
+
+returns : tie.Need-returns
+returns c = no-size 65536 (look (c .before .before .before)) (c .before .before .before .args .state .now) (c .before .before .before .args .out .now) (c .if1 .taken)
+
+returns-2 : tie.Need-returns-2
+returns-2 c = no-room 65536 (look (c .before .before .before .before)) (c .before .before .before .before .args .state .now) (c .before .before .before .before .args .out .now) (c .if2 .taken)
+
+slice-aggregate-check : tie.Need-slice-aggregate-check
+slice-aggregate-check c = search needs
+
+slice-aggregate-check-2 : tie.Need-slice-aggregate-check-2
+slice-aggregate-check-2 c = search needs
+
+slice-aggregate-check-3 : tie.Need-slice-aggregate-check-3
+slice-aggregate-check-3 c = search needs
+
+check-requires : tie.Need-check-requires
+check-requires c κs = search needs
+
+enum-known-checked : tie.Need-enum-known-checked
+enum-known-checked c = search needs
+
+sub-nth-name : tie.Need-sub-nth-name
+sub-nth-name c = let R = understood (c .before) .represents in omega (arith, R .people-order, R .people-within)
+
+part-nth-name-start : tie.Need-part-nth-name-start
+part-nth-name-start c = let R = understood (c .before) .represents in omega (arith, R .people-order, R .people-within)
+
+part-nth-name-end : tie.Need-part-nth-name-end
+part-nth-name-end c = let R = understood (c .before) .represents in omega (arith, R .people-order, R .people-within)
+
+slice-aggregate-nth-name : tie.Need-slice-aggregate-nth-name
+slice-aggregate-nth-name c = search needs
+
+nth-name-requires : tie.Need-nth-name-requires
+nth-name-requires c κs =
+    let U = understood (c .before .before .before .before) in
+    let k : length (c .before .before .before .before .before .before .before .before .before .check .last .1 .0) ≡ 4096 = c .before .before .before .before .before .before .before .before .before .check .kept .1 .0 in
+    (record { rows = map principalRow (U .state .store .principals); held = principal-rows _ _ _ _ _ _ (U .represents) }, few-principals _ _ _ _ _ _ (U .represents) k, c .before .before .before .before .before .before .before .before .before .before .before .before .before .if2 .left)
+
+enum-told : tie.Need-enum-told
+enum-told c = search needs
+
+same-length : tie.Need-same-length
+same-length c = search needs
+
+returns-3 : tie.Need-returns-3
+returns-3 c =
+    let U = understood (c .before .before .before .before .before .before .before) in
+    formed 65536 (look (c .before .before .before .before .before .before .before .before .before .before .before .before .before .before .before .before .before .before .before .before)) (c .before .before .before .before .before .before .before .before .before .before .before .before .before .before .before .before .before .before .before .before .args .state .now) (c .before .before .before .before .before .before .before .before .before .before .before .before .before .before .before .before .before .before .before .before .args .out .now) (c .before .before .before .before .before .before .before .before .before .before .before .before .before .before .before .before .before .if1 .left) (c .before .before .before .before .before .before .before .before .before .before .before .before .before .before .before .before .if2 .left) (U .state) (U .decoded)
+    (subst (λ (l : List Name). Says (nameOf l (c .before .before .before .before .before .before .before .before .before .before .before .before .before .before .before .before .before .before .before .before .args .number)) (c .before .before .before .before .before .before .before .before .before .before .before .before .before .before .before .before .before .before .before .before .args .out .now) (c .before .before .nth-name .last .1 .1 .1 .1 .0) (c .before .before .nth-name .result)) (principal-names (U .state .store .principals))
+    (c .before .before .nth-name .ensures (map principalRow (U .state .store .principals)) (principal-rows _ _ _ _ _ _ (U .represents))))
+
+returns-4 : tie.Need-returns-4
+returns-4 c =
+    not-formed 65536 (look (c .before .before .before .before .before .before .before .before .before .before .before .before .before)) (c .before .before .before .before .before .before .before .before .before .before .before .before .before .args .state .now) (c .before .before .before .before .before .before .before .before .before .before .before .before .before .args .out .now) (c .before .before .before .before .before .before .before .before .before .before .if1 .left) (c .before .before .before .before .before .before .before .before .before .if2 .left)
+    (subst (λ k. CheckedMeant (c .before .before .before .before .before .before .before .before .before .before .before .before .before .args .state .now) (c .before .before .before .before .before .check .last .1 .0) (c .before .before .before .before .before .check .last .1 .1 .0) (c .before .before .before .before .before .check .last .1 .1 .1 .0) k) (c .enum-told .given .1) (c .before .before .before .before .before .check .ensures))
+
+pub state-principal-name-spec : {M : Type 1} → statement M
+state-principal-name-spec =
+    tie.close
+    (tie.spec
+    returns
+    returns-2
+    slice-aggregate-check
+    slice-aggregate-check-2
+    slice-aggregate-check-3
+    check-requires
+    enum-known-checked
+    sub-nth-name
+    part-nth-name-start
+    part-nth-name-end
+    slice-aggregate-nth-name
+    nth-name-requires
+    enum-told
+    same-length
+    returns-3
+    returns-4)

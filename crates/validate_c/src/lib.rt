@@ -1,0 +1,134 @@
+// The check of a state's buffer and the look-ups in it, for programs in other languages. They ask nothing of their caller but what the
+// types say: a buffer of another size than 65,536 bytes, and a room that is too small, are refused with a number.
+pub mod answer; // answers written for the caller
+pub mod look; // look-ups among the records of a text
+
+use validate::Checked;
+ghost use Rattle.language.specs.State.{State};
+ghost use Rattle.numbers.specs.Numbers.{people, variables};
+ghost use Rattle.validate_c.specs.Reported.{Reported, found, figures, nameOf, principalOf, variableOf};
+
+const BAD: u64 = 4294967296;
+
+const REFUSED: u64 = 4294967297;
+
+// Whether a buffer is well formed; its figures and its assertions in `out`.
+#[no_mangle]
+pub extern "C" fn state_check(state: &[u8], out: &mut [u64]) -> u64
+    ensures { λ r. ⌜ Reported 2055 (λ s. found 0 (figures s)) (now (state .entry)) (now (out .entry)) (now (out .exit)) r ⌝ }
+{
+    if state.len() != 65536 {
+        return REFUSED;
+    }
+    if out.len() < 2055 {
+        return REFUSED;
+    }
+    let mut people = [0u64; 4096];
+    let mut vars = [0u64; 4096];
+    let mut standing = [0u64; 2048];
+    let checked = validate::check(state, &mut people, &mut vars, &mut standing);
+    match checked {
+        Checked::Good(parts) => answer::figures(parts, &standing, out),
+        Checked::Bad => BAD,
+    }
+}
+
+// A principal by name: its number, and its password in `out`.
+#[no_mangle]
+pub extern "C" fn state_principal(state: &[u8], name: &[u8], out: &mut [u8]) -> u64
+    ensures { λ r. ⌜ Reported 65536 (λ s. principalOf (s .store .principals) (now (name .entry))) (now (state .entry)) (now (out .entry)) (now (out .exit)) r ⌝ }
+{
+    if state.len() != 65536 {
+        return REFUSED;
+    }
+    if out.len() < 65536 {
+        return REFUSED;
+    }
+    let mut people = [0u64; 4096];
+    let mut vars = [0u64; 4096];
+    let mut standing = [0u64; 2048];
+    let checked = validate::check(state, &mut people, &mut vars, &mut standing);
+    match checked {
+        Checked::Good(parts) => {
+            let from = parts.people_from;
+            let to = parts.people_to;
+            look::principal(&state[from..to], &people, parts.people, name, out)
+        }
+        Checked::Bad => BAD,
+    }
+}
+
+// A variable by name: its number, and its value's text in `out`.
+#[no_mangle]
+pub extern "C" fn state_variable(state: &[u8], name: &[u8], out: &mut [u8]) -> u64
+    ensures { λ r. ⌜ Reported 65536 (λ s. variableOf (s .store .variables) (now (name .entry))) (now (state .entry)) (now (out .entry)) (now (out .exit)) r ⌝ }
+{
+    if state.len() != 65536 {
+        return REFUSED;
+    }
+    if out.len() < 65536 {
+        return REFUSED;
+    }
+    let mut people = [0u64; 4096];
+    let mut vars = [0u64; 4096];
+    let mut standing = [0u64; 2048];
+    let checked = validate::check(state, &mut people, &mut vars, &mut standing);
+    match checked {
+        Checked::Good(parts) => {
+            let from = parts.vars_from;
+            let to = parts.vars_to;
+            look::variable(&state[from..to], &vars, parts.vars, name, out)
+        }
+        Checked::Bad => BAD,
+    }
+}
+
+// The name of the principal of a number, in `out`.
+#[no_mangle]
+pub extern "C" fn state_principal_name(state: &[u8], number: usize, out: &mut [u8]) -> u64
+    ensures { λ r. ⌜ Reported 65536 (λ s. nameOf (people (s .store)) number) (now (state .entry)) (now (out .entry)) (now (out .exit)) r ⌝ }
+{
+    if state.len() != 65536 {
+        return REFUSED;
+    }
+    if out.len() < 65536 {
+        return REFUSED;
+    }
+    let mut people = [0u64; 4096];
+    let mut vars = [0u64; 4096];
+    let mut standing = [0u64; 2048];
+    let checked = validate::check(state, &mut people, &mut vars, &mut standing);
+    match checked {
+        Checked::Good(parts) => {
+            let from = parts.people_from;
+            let to = parts.people_to;
+            look::nth_name(&state[from..to], &people, parts.people, number, out)
+        }
+        Checked::Bad => BAD,
+    }
+}
+
+// The name of the variable of a number, in `out`.
+#[no_mangle]
+pub extern "C" fn state_variable_name(state: &[u8], number: usize, out: &mut [u8]) -> u64
+    ensures { λ r. ⌜ Reported 65536 (λ s. nameOf (variables (s .store)) number) (now (state .entry)) (now (out .entry)) (now (out .exit)) r ⌝ }
+{
+    if state.len() != 65536 {
+        return REFUSED;
+    }
+    if out.len() < 65536 {
+        return REFUSED;
+    }
+    let mut people = [0u64; 4096];
+    let mut vars = [0u64; 4096];
+    let mut standing = [0u64; 2048];
+    let checked = validate::check(state, &mut people, &mut vars, &mut standing);
+    match checked {
+        Checked::Good(parts) => {
+            let from = parts.vars_from;
+            let to = parts.vars_to;
+            look::nth_name(&state[from..to], &vars, parts.vars, number, out)
+        }
+        Checked::Bad => BAD,
+    }
+}
