@@ -6,3 +6,4 @@ pub mod Stores
 pub mod ValidCommands
 pub mod ValidRuns
 pub mod Weights
+pub mod Printed

@@ -18,14 +18,14 @@ use Rattle.language.proofs.StateText.Shape.{Shape, shape, spelled, assertions-s
 use Rattle.numbers.specs.Numbers.{people, variables}
 
 -- each weighs k at least, so n of them weigh k * n
-at-least : {A : Type 0} (k : ℕ) (fine : A → Bool) (weight : A → ℕ) → ((a : A) → T (fine a) → k ≤ weight a)
+pub at-least : {A : Type 0} (k : ℕ) (fine : A → Bool) (weight : A → ℕ) → ((a : A) → T (fine a) → k ≤ weight a)
     → (l : List A) → T (all fine l) → k * length l ≤ sum weight l
 at-least k fine weight f [] h = omega arith
 at-least k fine weight f (a ∷ l) h =
     let (h₁, h₂) = both (fine a) (all fine l) h in
     omega (arith, f a h₁, at-least k fine weight f l h₂)
 
-name-weighs : (p : Name) → T (isName p) → 1 ≤ nameWeight p
+pub name-weighs : (p : Name) → T (isName p) → 1 ≤ nameWeight p
 name-weighs p h = go ((p == admin) || (p == anyone)) (name-length p h .0)
   where
     go : (b : Bool) → 1 ≤ length p → 1 ≤ (if b then 1 else length p)

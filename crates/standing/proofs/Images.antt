@@ -31,7 +31,7 @@ module _ (f : Assertion → ℕ) (a : Assertion) where
   Apart [] = Unit {0}
   Apart (b ∷ l) = (sameAssertion a b ≡ eqb (f a) (f b)) × Apart l
 
-  stands-image : (l : List Assertion) → Apart l → stands l a ≡ standsIn (map f l) (f a)
+  pub stands-image : (l : List Assertion) → Apart l → stands l a ≡ standsIn (map f l) (f a)
   stands-image [] h = refl
   stands-image (b ∷ l) h = λ i. h .0 i || stands-image l (h .1) i
 

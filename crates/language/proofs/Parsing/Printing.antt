@@ -1,5 +1,5 @@
 -- The lines of a program that parses fit the output.
-use mathlib.Core.Path.{_≡_, refl, ap, _∙_}
+use mathlib.Core.Path.{_≡_, refl, ap, subst, _∙_}
 use Prim.Native.Nat.{ℕ, _+_, _*_, _≤_}
 use native.Mathlib.Nat.{le-refl}
 use native.Mathlib.Omega.{arith}
@@ -60,7 +60,7 @@ element-json (fields fs) h =
     let v = three (ltb 0 (length fs)) (all validField fs) (distinct (map (λ f. f .label) fs)) h .1 in
     omega (arith, length-append (bytes "{" ++ commas fieldJson fs) (bytes "}"), commas-length fieldJson fs, json-sum fieldJson (λ f. 1 + length (f .label) + length (f .text)) validField field-json fs v)
 
-value-json : (v : Value) → IsValid v → 2 * length (valueJson v) ≤ 7 * valueWeight v + 4
+pub value-json : (v : Value) → IsValid v → 2 * length (valueJson v) ≤ 7 * valueWeight v + 4
 value-json (single e) h = element-json e h
 value-json (list es) h =
     omega (arith, length-append (bytes "[" ++ commas elementJson es) (bytes "]"), commas-length elementJson es, json-sum elementJson (λ e. 1 + elementWeight e) validElement one es h)
@@ -71,11 +71,11 @@ value-json (list es) h =
 -- ---- commands
 
 -- 17 bytes of status for 8 bytes of a command's line, as `set x=y` has it
-abbrev Short : Command → Effect → Type 0
+abbrev pub Short : Command → Effect → Type 0
 Short c f = 8 * length (f .line) ≤ 17 * commandRoom c
 
 -- what the last line has at most
-abbrev lastLine : ℕ
+abbrev pub lastLine : ℕ
 lastLine = 28707
 
 inner-line : (s : Session) (c : Command) → T (not (isEnding c)) → Where (Short c) (effect s c)
@@ -122,6 +122,9 @@ ending-line s g (return e) h k =
     (left-of (any (λ v. ltb limit (valueWeight v)) (v ∷ [])) (ltb limit (sessionWeight s)) (left-of (ltb limit (valueWeight v)) false t)))) in
     omega (arith, w, returning-length v, value-json v i))
 
+pub inner-short : (s : Session) (c : Command) (f : Effect) → T (not (isEnding c)) → step s c ≡ went f → 8 * length (f .line) ≤ 17 * commandRoom c
+inner-short s c f h e = subst (Went (Short c)) e (verdict-went (Short c) (denied s c) (effect s c) (inner-line s c h)) .0
+
 -- ---- programs
 
 abbrev EndsShort : ℕ → End → Type 0
@@ -132,7 +135,7 @@ longer : (line : Text) (m n : ℕ) (e : End) → 8 * length line ≤ m → EndsS
 longer line m n (refusal r) h k = tt
 longer line m n (completed lines t) h k = omega (arith, length-append line lines)
 
-abbrev allowed : List Command → ℕ
+abbrev pub allowed : List Command → ℕ
 allowed cs = 17 * sum commandRoom cs + 8 * lastLine
 
 widen : (m n : ℕ) → m ≤ n → (e : End) → EndsShort m e → EndsShort n e
@@ -161,17 +164,17 @@ perform-short (c ∷ d ∷ cs) s r h e =
         widen (17 * commandRoom c + allowed (d ∷ cs)) (allowed (c ∷ d ∷ cs)) (omega arith) (after (f .line) (perform (f .after) (d ∷ cs)))
         (longer (f .line) (17 * commandRoom c) (allowed (d ∷ cs)) (perform (f .after) (d ∷ cs)) w (i (f .after) k))
 
+pub commands-fit : (p : Program) → Parsed p → allowed (p .commands) ≤ 8 * bufferSize
+commands-fit p h = omega (arith, h .has-room)
+
 program-short : (s : Store) → T (validStore s) → (p : Program) → Parsed p → EndsShort (8 * bufferSize) (run s (some p))
 program-short s v p h = go (login s p) refl
   where
-    fits : allowed (p .commands) ≤ 8 * bufferSize
-    fits = omega (arith, h .has-room)
-
     go : (l : Login) → login s p ≡ l → EndsShort (8 * bufferSize) (runAs l (begin s p) (p .commands))
     go unknown e = tt
     go mistaken e = tt
     go right e =
-        widen (allowed (p .commands)) (8 * bufferSize) fits (perform (begin s p) (p .commands))
+        widen (allowed (p .commands)) (8 * bufferSize) (commands-fit p h) (perform (begin s p) (p .commands))
         (perform-short (p .commands) (begin s p) (begin-ready s p v e) (commands-valid p (h .is-valid)) (ends-valid p (h .is-valid)))
 
 -- every output fits

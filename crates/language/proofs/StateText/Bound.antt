@@ -26,14 +26,15 @@ line-length t (u ∷ fs) =
     let h : length (lineOf (u ∷ fs)) ≡ sum (λ u. length u + 1) (u ∷ fs) = line-length u fs in
     length-append t _ ∙ omega arith
 
-joined-bound : {A : Type 0} (text : A → Text) (weight : A → ℕ) (fine : A → Bool)
-    → ((a : A) → T (fine a) → length (text a) ≤ 5 * weight a) → (l : List A) → T (all fine l) → length (joined text l) ≤ 5 * sum weight l
-joined-bound text weight fine one [] h = lit≤ tt
-joined-bound text weight fine one (a ∷ l) h =
+-- k bytes at most for each of the weight of one, so for that of all
+pub joined-bound : {A : Type 0} (k : ℕ) (text : A → Text) (weight : A → ℕ) (fine : A → Bool)
+    → ((a : A) → T (fine a) → length (text a) ≤ k * weight a) → (l : List A) → T (all fine l) → length (joined text l) ≤ k * sum weight l
+joined-bound k text weight fine one [] h = omega arith
+joined-bound k text weight fine one (a ∷ l) h =
     let (h₁, h₂) = both (fine a) (all fine l) h in
-    let k : length (text a) ≤ 5 * weight a = one a h₁ in
-    let m : length (joined text l) ≤ 5 * sum weight l = joined-bound text weight fine one l h₂ in
-    omega (arith, length-append (text a) (joined text l))
+    let m : length (text a) ≤ k * weight a = one a h₁ in
+    let n : length (joined text l) ≤ k * sum weight l = joined-bound k text weight fine one l h₂ in
+    omega (arith, m, n, length-append (text a) (joined text l))
 
 -- ---- values
 
@@ -41,17 +42,17 @@ any-all : {A : Type 0} (l : List A) → T (all (λ a. true) l)
 any-all [] = tt
 any-all (a ∷ l) = any-all l
 
-fields-bound : (fs : List Field) → length (joined fieldText fs) ≤ 5 * sum (λ f. 1 + length (f .label) + length (f .text)) fs
-fields-bound fs = joined-bound fieldText _ (λ f. true) (λ f h. one f) fs (any-all fs)
+fields-bound : (fs : List Field) → length (joined fieldText fs) ≤ 4 * sum (λ f. 1 + length (f .label) + length (f .text)) fs
+fields-bound fs = joined-bound 4 fieldText _ (λ f. true) (λ f h. one f) fs (any-all fs)
   where
-    one : (f : Field) → length (fieldText f) ≤ 5 * (1 + length (f .label) + length (f .text))
+    one : (f : Field) → length (fieldText f) ≤ 4 * (1 + length (f .label) + length (f .text))
     one f = omega (arith, line-length (bytes "F") (f .label ∷ f .text ∷ []))
 
-element-bound : (e : Element) → length (elementText e) ≤ 5 * (1 + elementWeight e)
+element-bound : (e : Element) → length (elementText e) ≤ 4 * (1 + elementWeight e)
 element-bound (string t) = omega (arith, line-length (bytes "S") (t ∷ []))
 element-bound (fields fs) = omega (arith, length-append (lineOf (bytes "R" ∷ [])) (joined fieldText fs), fields-bound fs)
 
-variable-bound : (v : Variable) → T (validVariable v) → length (variableText (v .name) (v .value)) ≤ 5 * variableWeight v
+variable-bound : (v : Variable) → T (validVariable v) → length (variableText (v .name) (v .value)) ≤ 4 * variableWeight v
 variable-bound v h =
     let (x, k) = both (isName (v .name)) (validValue (v .value)) h in
     go (v .value) (name-length (v .name) x .0)
@@ -59,7 +60,7 @@ variable-bound v h =
     x : Name
     x = v .name
 
-    go : (u : Value) → 1 ≤ length x → length (variableText x u) ≤ 5 * (1 + length x + valueWeight u)
+    go : (u : Value) → 1 ≤ length x → length (variableText x u) ≤ 4 * (1 + length x + valueWeight u)
     go (single (string t)) l = omega (arith, line-length (bytes "V") (x ∷ bytes "S" ∷ t ∷ []))
     go (single (fields fs)) l =
         omega (arith, line-length (bytes "V") (x ∷ bytes "R" ∷ []), length-append (lineOf (bytes "V" ∷ x ∷ bytes "R" ∷ [])) (joined fieldText fs), fields-bound fs)
@@ -68,7 +69,7 @@ variable-bound v h =
           arith,
           line-length (bytes "V") (x ∷ bytes "L" ∷ []),
           length-append (lineOf (bytes "V" ∷ x ∷ bytes "L" ∷ [])) (joined elementText es),
-          joined-bound elementText (λ e. 1 + elementWeight e) (λ e. true) (λ e h. element-bound e) es (any-all es),
+          joined-bound 4 elementText (λ e. 1 + elementWeight e) (λ e. true) (λ e h. element-bound e) es (any-all es),
         )
 
 -- ---- names
@@ -108,10 +109,10 @@ assertion-bound a h =
 
 -- the texts of principals and of variables, for the buffers of a run
 pub principals-bound : (ks : List Principal) → T (all validPrincipal ks) → length (principalsText ks) ≤ 5 * sum principalWeight ks
-principals-bound ks h = joined-bound _ _ validPrincipal principal-bound ks h
+principals-bound ks h = joined-bound 5 _ _ validPrincipal principal-bound ks h
 
-pub variables-bound : (vs : List Variable) → T (all validVariable vs) → length (variablesText vs) ≤ 5 * sum variableWeight vs
-variables-bound vs h = joined-bound _ _ validVariable variable-bound vs h
+pub variables-bound : (vs : List Variable) → T (all validVariable vs) → length (variablesText vs) ≤ 4 * sum variableWeight vs
+variables-bound vs h = joined-bound 4 _ _ validVariable variable-bound vs h
 
 -- ---- the state
 
@@ -136,8 +137,8 @@ state-bound s h =
         let d : length (t .delegator) ≤ 255 = name-length (t .delegator) (principal-name (t .delegator) (t .principals) (g .principals-valid) (g .delegator-known)) .1 in
         let hd : length (headText (t .isOpen) (s .count)) ≤ 13 = head-bound (t .isOpen) (s .count) in
         let ps : length (principalsText (t .principals)) ≤ 5 * sum principalWeight (t .principals) = principals-bound (t .principals) (g .principals-valid) in
-        let vs : length (variablesText (t .variables)) ≤ 5 * sum variableWeight (t .variables) = variables-bound (t .variables) (g .variables-valid) in
-        let ls : length (assertionsText (t .assertions)) ≤ 5 * sum assertionWeight (t .assertions) = joined-bound _ _ spelled assertion-bound (t .assertions) (assertions-spelled t g) in
+        let vs : length (variablesText (t .variables)) ≤ 4 * sum variableWeight (t .variables) = variables-bound (t .variables) (g .variables-valid) in
+        let ls : length (assertionsText (t .assertions)) ≤ 5 * sum assertionWeight (t .assertions) = joined-bound 5 _ _ spelled assertion-bound (t .assertions) (assertions-spelled t g) in
         omega (
           arith,
           l,
