@@ -1,0 +1,52 @@
+use mathlib.Core.Path.{sym, ap, subst, _∙_}
+use native.Mathlib.Omega.{arith}
+use Rattle.text.specs.Meaning.{Within}
+use Rattle.syntax.specs.declared.form.Target.{Target}
+use Rattle.syntax.specs.Forms.{targetMeant, TargetWithin}
+use Rattle.store.specs.Rows.{rowNames}
+use Rattle.delegations.specs.declared.ask.Aim.the-variants.{One}
+use Rattle.delegations.specs.Asking.{aimOf}
+use borrow.Author.Needs.{needs}
+use Rattle.delegations.proofs.ask.aim_of.Statement.{statement}
+use Rattle.delegations.proofs.ask.aim_of.Tie as tie
+
+held : (c : tie.After-known-told) → Within (c .before .before .before .before .before .before .args .text .now) (c .before .target .given .0 .0)
+held c = subst (λ (t : Target). TargetWithin (c .before .before .before .before .before .before .args .text .now) t) (c .before .target .given .1) (c .before .before .before .before .before .before .pre .2)
+
+enum-told : tie.Need-enum-told
+enum-told c = search needs
+
+enum-known-target : tie.Need-enum-known-target
+enum-known-target c = search needs
+
+sub-number-of : tie.Need-sub-number-of
+sub-number-of c = held (c) .0
+
+part-number-of-start : tie.Need-part-number-of-start
+part-number-of-start c = let h = held (c) in omega (arith, h .0, h .1)
+
+part-number-of-end : tie.Need-part-number-of-end
+part-number-of-end c = let h = held (c) in omega (arith, h .0, h .1)
+
+number-of-requires : tie.Need-number-of-requires
+number-of-requires c κs = search needs
+
+returns : tie.Need-returns
+returns c l H = sym (ap (λ (t : Target). aimOf (rowNames l) (targetMeant (c .before .before .before .before .before .args .text .now) t)) (c .enum-told .given .1))
+
+returns-2 : tie.Need-returns-2
+returns-2 c l H =
+    ap One (c .number-of .ensures l H) ∙ sym (ap (λ (t : Target). aimOf (rowNames l) (targetMeant (c .before .before .before .before .before .before .before .before .args .text .now) t)) (c .before .before .before .target .given .1))
+
+pub aim-of-spec : {M : Type 1} → statement M
+aim-of-spec =
+    tie.close
+    (tie.spec
+    enum-told
+    enum-known-target
+    sub-number-of
+    part-number-of-start
+    part-number-of-end
+    number-of-requires
+    returns
+    returns-2)

@@ -1,0 +1,181 @@
+use mathlib.Core.Path.{_≡_, refl, ap, subst, _∙_}
+use mathlib.Core.List.{List, [], _∷_, map}
+use Prim.Native.Nat.{ℕ, _+_, _-_, _≤_, _<_}
+use native.Mathlib.Omega.{arith}
+use borrow.Author.Needs.{needs}
+use lib.ListN.{length, take}
+use Rattle.language.specs.Syntax.{Name, Right}
+use Rattle.language.specs.Values.{Session}
+use Rattle.language.specs.Commands.{assertionsOn, entering}
+use Rattle.store.specs.Rows.{principalRow, variableRow}
+use Rattle.store.proofs.Holders.{principals-rows, variables-rows, some-principals, some-variables}
+use Rattle.running.specs.Sessions.{slices, Running}
+use Rattle.delegations.specs.declared.Entered.{Entered}
+use Rattle.delegations.specs.Entering.{Asserts, Delegates, Ends, entered}
+use Rattle.delegations.proofs.Lists.{assertionAt}
+use Rattle.delegations.proofs.Delegating.{principal-below, principal-few, right-few, pair-short, target-short, target-below, target-few, asserts-at, entered-next, entered-over, entered-last}
+use Rattle.delegations.proofs.enter_all.Statement.{statement}
+use Rattle.delegations.proofs.enter_all.Tie as tie
+
+abbrev Inv-loop : tie.InvT-loop
+Inv-loop people people-marks vars var-marks locals local-marks standing₀ targets count q right p people-len principals vars-len variables pair k₀ i₀ standing k i =
+    (i ≤ count) × (length standing ≡ length standing₀) × ((s : Session) (xs : List Name) (from : Name) (of : Right) (to : Name)
+    → Delegates s k₀ (slices people people-marks vars var-marks locals local-marks standing₀) targets count q right p xs from of to
+    → Running (entered s (assertionsOn (take i xs) from of to)) k (slices people people-marks vars var-marks locals local-marks standing))
+
+abbrev μ-loop : tie.MeasureT-loop
+μ-loop people people-marks vars var-marks locals local-marks standing₀ targets count q right p people-len principals vars-len variables pair k₀ i₀ standing k i =
+    count - i
+
+short : (c : tie.After-variable Inv-loop μ-loop) → (c .variable .result ≤ 255) × (c .before .before .before .before .pair .result ≤ 510)
+short c =
+    let a = c .before .before .before .before .before .before .before .before .before .before .before .before .before .args in
+    let P = c .before .before .before .before .before .before .before .before .before .before .before .before .before .pre in
+    let s = P .session in
+    let R = P .delegates .running in (
+      target-short s (a .l) _ (a .targets .now) (a .count) (a .q) (a .right) (a .p) (P .variables-named) (P .from) (P .of-right) (P .to) (P .delegates) (c .before .before .before .loop .i) (c .before .before .loop-test .taken) _
+          (c .variable .ensures (map variableRow (s .store .variables)) (variables-rows (s .store .variables) _ _ _ (R .variables))),
+      pair-short s (a .l) _ (a .targets .now) (a .count) (a .q) (a .right) (a .p) (P .variables-named) (P .from) (P .of-right) (P .to) (P .delegates) _
+          (c .before .before .before .before .pair .ensures (map principalRow (s .store .principals)) (principals-rows (s .store .principals) _ _ _ (R .principals))),
+    )
+
+one : (c : tie.After-packed Inv-loop μ-loop) (s : Session) (xs : List Name) (from : Name) (of : Right) (to : Name) → let a = c .before .before .before .before .before .before .before .before .before .before .before .before .before .before .args in let l = c .before .before .before .before .loop in
+    Delegates s (a .l) (slices (a .people .now) (a .people-marks .now) (a .vars .now) (a .var-marks .now) (a .locals .now) (a .local-marks .now) (a .standing .now)) (a .targets .now) (a .count) (a .q) (a .right) (a .p) xs from of to
+    → Asserts (entered s (assertionsOn (take (l .i) xs) from of to)) (l .k) (slices (a .people .now) (a .people-marks .now) (a .vars .now) (a .var-marks .now) (a .locals .now) (a .local-marks .now) (l .standing)) (l .standing)
+    (assertionAt xs from of to (l .i)) (c .packed .result) (c .before .variable .result + 1 + c .before .before .before .before .before .pair .result)
+one c s xs from of to D =
+    let a = c .before .before .before .before .before .before .before .before .before .before .before .before .before .before .args in
+    let l = c .before .before .before .before .loop in
+    let R = D .running in
+    asserts-at s (a .l) _ (a .targets .now) (a .count) (a .q) (a .right) (a .p) xs from of to D (l .i) (c .before .before .before .loop-test .taken)
+    (entering (s .store .assertions) (assertionsOn (take (l .i) xs) from of to)) (l .k) (l .standing) (c .packed .result) (c .before .variable .result + 1 + c .before .before .before .before .before .pair .result) (c .before .before .before .before .before .pair .result)
+    (l .inv .2 s xs from of to D) (c .packed .ensures)
+    (c .before .before .before .before .before .pair .ensures (map principalRow (s .store .principals)) (principals-rows (s .store .principals) _ _ _ (R .principals)))
+    (ap (λ (n : ℕ). n + 1 + c .before .before .before .before .before .pair .result) (c .before .variable .ensures (map variableRow (s .store .variables)) (variables-rows (s .store .variables) _ _ _ (R .variables))))
+
+next-ends : (c : tie.After-enter-one Inv-loop μ-loop) (s : Session) (xs : List Name) (from : Name) (of : Right) (to : Name) → let a = c .before .before .before .before .before .before .before .before .before .before .before .before .before .before .before .before .args in let l = c .before .before .before .before .before .before .loop in
+    Delegates s (a .l) (slices (a .people .now) (a .people-marks .now) (a .vars .now) (a .var-marks .now) (a .locals .now) (a .local-marks .now) (a .standing .now)) (a .targets .now) (a .count) (a .q) (a .right) (a .p) xs from of to
+    → (r : Entered) → c .enter-one .result ≡ r → Ends r (entered (entered s (assertionsOn (take (l .i) xs) from of to)) (assertionAt xs from of to (l .i) ∷ []))
+    (slices (a .people .now) (a .people-marks .now) (a .vars .now) (a .var-marks .now) (a .locals .now) (a .local-marks .now) (c .enter-one .last .0))
+next-ends c s xs from of to D r e =
+    let a = c .before .before .before .before .before .before .before .before .before .before .before .before .before .before .before .before .args in
+    let l = c .before .before .before .before .before .before .loop in
+    subst (λ (r : Entered). Ends r (entered (entered s (assertionsOn (take (l .i) xs) from of to)) (assertionAt xs from of to (l .i) ∷ []))
+    (slices (a .people .now) (a .people-marks .now) (a .vars .now) (a .var-marks .now) (a .locals .now) (a .local-marks .now) (c .enter-one .last .0))) e
+    (c .enter-one .ensures _ _ _ (one (c .before .before) s xs from of to D))
+
+pair-requires : tie.Need-pair-requires Inv-loop μ-loop
+pair-requires c κs =
+    let st = c .before .before .before .before .before .before .before .before in
+    let a = st .args in
+    let D = st .pre .delegates in
+    let s = st .pre .session in
+    let R = D .running in
+    (R .people-within, some-principals (s .store .principals) _ _ _ (R .principals), principal-below s (a .l) _ R (st .pre .from) (a .q) (D .giver), principal-below s (a .l) _ R (st .pre .to) (a .p) (D .taker))
+
+loop-holds : tie.Need-loop-holds Inv-loop μ-loop
+loop-holds c = (omega arith, refl, λ s xs from of to D. D .running)
+
+mul-x : tie.Need-mul-x Inv-loop μ-loop
+mul-x c = let w = c .before .before .before .before .before .before .before .before .before .before .before .pre .delegates .within in omega (arith, w)
+
+shared-slice-read-x : tie.Need-shared-slice-read-x Inv-loop μ-loop
+shared-slice-read-x c = let w = c .before .before .before .before .before .before .before .before .before .before .before .before .pre .delegates .within in omega (arith, w)
+
+variable-requires : tie.Need-variable-requires Inv-loop μ-loop
+variable-requires c κs =
+    let st = c .before .before .before .before .before .before .before .before .before .before .before .before in
+    let a = st .args in
+    let P = st .pre in
+    let R = P .delegates .running in
+    let l = c .before .before .loop in
+    (R .vars-within, some-variables (P .session .store .variables) _ _ _ (R .variables), target-below (P .session) (a .l) _ (a .targets .now) (a .count) (a .q) (a .right) (a .p) (P .variables-named) (P .from) (P .of-right) (P .to) (P .delegates) (l .i) (c .before .loop-test .taken))
+
+add-weight : tie.Need-add-weight Inv-loop μ-loop
+add-weight c = let h = short (c) in omega (arith, h .0)
+
+add-weight-2 : tie.Need-add-weight-2 Inv-loop μ-loop
+add-weight-2 c = let h = short (c) in omega (arith, h .0, h .1)
+
+packed-requires : tie.Need-packed-requires Inv-loop μ-loop
+packed-requires c κs =
+    let st = c .before .before .before .before .before .before .before .before .before .before .before .before .before in
+    let a = st .args in
+    let P = st .pre in
+    let s = P .session in
+    let R = P .delegates .running in
+    let l = c .before .before .before .loop in (
+      target-few s (a .l) _ (a .targets .now) (a .count) (a .q) (a .right) (a .p) (P .variables-named) (P .from) (P .of-right) (P .to) (P .delegates) (l .i) (c .before .before .loop-test .taken),
+      principal-few s (a .l) _ R (P .from) (a .q) (P .delegates .giver),
+      right-few s (a .l) _ (a .targets .now) (a .count) (a .q) (a .right) (a .p) (P .variables-named) (P .from) (P .of-right) (P .to) (P .delegates),
+      principal-few s (a .l) _ R (P .to) (a .p) (P .delegates .taker),
+    )
+
+enter-one-requires : tie.Need-enter-one-requires Inv-loop μ-loop
+enter-one-requires c κs =
+    let P = c .before .before .before .before .before .before .before .before .before .before .before .before .before .before .before .pre in
+    record { session = _; buffers = _; assertion = _; asserts = one (c .before) (P .session) (P .variables-named) (P .from) (P .of-right) (P .to) (P .delegates) }
+
+enum-known-next : tie.Need-enum-known-next Inv-loop μ-loop
+enum-known-next c = search needs
+
+enum-told : tie.Need-enum-told Inv-loop μ-loop
+enum-told c = search needs
+
+same-length : tie.Need-same-length Inv-loop μ-loop
+same-length c = c .before .before .before .before .enter-one .kept .0 ∙ c .before .before .before .before .before .before .before .before .before .before .loop .inv .1
+
+returns : tie.Need-returns Inv-loop μ-loop
+returns c s xs from of to D =
+    let a = c .before .before .before .before .before .before .before .before .before .before .before .before .before .before .before .before .before .before .before .before .args in
+    entered-over s (a .l) _ (a .targets .now) (a .count) (a .q) (a .right) (a .p) xs from of to D (c .before .before .before .before .before .before .before .before .before .before .loop .i) (c .before .before .before .before .before .before .before .before .before .loop-test .taken)
+    (next-ends (c .before .before .before .before) s xs from of to D _ (c .enum-told .given .1))
+
+add-i : tie.Need-add-i Inv-loop μ-loop
+add-i c = let h : c .before .before .before .before .before .before .before .before .before .before .before .loop .i < c .before .before .before .before .before .before .before .before .before .before .before .before .before .before .before .before .before .before .before .before .before .args .count = c .before .before .before .before .before .before .before .before .before .before .loop-test .taken in omega (arith, h, c .before .before .before .before .before .before .before .before .before .before .before .before .before .before .before .before .before .before .before .before .before .fits .count)
+
+loop-less : tie.Need-loop-less Inv-loop μ-loop
+loop-less c = omega (arith, c .before .before .before .before .before .before .before .before .before .before .loop-test .taken)
+
+loop-again : tie.Need-loop-again Inv-loop μ-loop
+loop-again c = (
+  omega (arith, c .before .before .before .before .before .before .before .before .before .before .loop-test .taken),
+  c .before .before .before .before .before .enter-one .kept .0 ∙ c .before .before .before .before .before .before .before .before .before .before .before .loop .inv .1,
+  λ s xs from of to D.
+      let a = c .before .before .before .before .before .before .before .before .before .before .before .before .before .before .before .before .before .before .before .before .before .args in
+      entered-next s (a .l) _ (a .targets .now) (a .count) (a .q) (a .right) (a .p) xs from of to D (c .before .before .before .before .before .before .before .before .before .before .before .loop .i) (c .before .before .before .before .before .before .before .before .before .before .loop-test .taken) (c .before .next .given .0 .0) _
+      (next-ends (c .before .before .before .before .before) s xs from of to D _ (c .before .next .given .1)),
+)
+
+same-length-2 : tie.Need-same-length-2 Inv-loop μ-loop
+same-length-2 c = c .before .loop .inv .1
+
+returns-2 : tie.Need-returns-2 Inv-loop μ-loop
+returns-2 c s xs from of to D =
+    let a = c .before .before .before .before .before .before .before .before .before .before .before .args in
+    entered-last s (a .l) _ (a .targets .now) (a .count) (a .q) (a .right) (a .p) xs from of to D (c .before .loop .i) (c .loop-test .left) (c .before .loop .k) _ (c .before .loop .inv .2 s xs from of to D)
+
+pub enter-all-spec : {M : Type 1} → statement M
+enter-all-spec =
+    tie.close
+    (tie.spec
+    Inv-loop
+    μ-loop
+    pair-requires
+    loop-holds
+    mul-x
+    shared-slice-read-x
+    variable-requires
+    add-weight
+    add-weight-2
+    packed-requires
+    enter-one-requires
+    enum-known-next
+    enum-told
+    same-length
+    returns
+    add-i
+    loop-less
+    loop-again
+    same-length-2
+    returns-2)

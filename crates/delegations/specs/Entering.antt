@@ -1,0 +1,88 @@
+-- Assertions that are entered in a running session, or withdrawn.
+use mathlib.Core.Path.{_≡_}
+use Prim.Native.Nat.{ℕ, _≤_, _<_}
+use mathlib.Core.List.{List, map}
+use lib.Dec.{T}
+use lib.ListN.{length, take}
+use Rattle.language.specs.Text.{all}
+use Rattle.language.specs.Syntax.{Name, Right}
+use Rattle.language.specs.State.{Assertion}
+use Rattle.language.specs.Weight.{limit, assertionWeight}
+use Rattle.language.specs.Valid.{validAssertion}
+use Rattle.language.specs.Values.{Session, isShared}
+use Rattle.language.specs.Commands.{sessionWeight, withStore, enterAll, withdrawAll}
+use Rattle.store.specs.Rows.{position}
+use Rattle.numbers.specs.Numbers.{code, people, variables, numbered}
+use Rattle.running.specs.declared.Layout.{Layout}
+use Rattle.running.specs.Sessions.{Slices, slices, Running}
+use Rattle.delegations.specs.declared.Entered.{Entered}
+use Rattle.delegations.specs.declared.Entered.the-variants.{Full, Done}
+use Rattle.delegations.specs.Numbered.{Numbered}
+
+-- the session after some assertions were entered, or withdrawn
+abbrev pub entered : Session → List Assertion → Session
+entered s added = withStore s (enterAll (s .store) added)
+
+abbrev pub withdrawn : Session → List Assertion → Session
+withdrawn s added = withStore s (withdrawAll (s .store) added)
+
+-- other numbers stand
+abbrev pub restood : Slices → List ℕ → Slices
+restood b standing =
+    slices (b .people) (b .people-marks) (b .vars) (b .var-marks) (b .locals) (b .local-marks) standing
+
+abbrev pub relaid : Layout → ℕ → ℕ → Layout
+relaid l asserted weight = record {
+  «people_len» = l .«people_len»;
+  people = l .people;
+  «vars_len» = l .«vars_len»;
+  vars = l .vars;
+  «locals_len» = l .«locals_len»;
+  locals = l .locals;
+  asserted = asserted;
+  delegator = l .delegator;
+  sender = l .sender;
+  weight = weight;
+  «is_open» = l .«is_open»;
+}
+
+-- ---- one assertion
+
+-- the assertion a of names of the session s, its number and its weight
+pub record Asserts (s : Session) (l : Layout) (b : Slices) (standing : List ℕ) (a : Assertion) (number weight : ℕ) : Type 0 where
+  pub running : Running s l b
+  pub stood : b .standing ≡ standing
+  pub is-valid : T (validAssertion (s .store) a)
+  pub is-number : number ≡ numbered (people (s .store)) (variables (s .store)) a
+  pub weighs : weight ≡ assertionWeight a
+
+pub record SomeAsserts (l : Layout) (standing : List ℕ) (number weight : ℕ) : Type 0 where
+  pub session : Session
+  pub buffers : Slices
+  pub assertion : Assertion
+  pub asserts : Asserts session l buffers standing assertion number weight
+
+-- the session s is too heavy, or in the buffers
+abbrev pub Ends : Entered → Session → Slices → Type 0
+Ends Full s b = limit < sessionWeight s
+Ends (Done l) s b = Running s l b
+
+-- ---- one for each of some variables
+
+-- the first `count` of `targets` are the numbers of the shared variables xs, and q, right and p those of two principals and of a right
+pub record Delegates (s : Session) (l : Layout) (b : Slices) (targets : List ℕ) (count q right p : ℕ) (xs : List Name) (from : Name) (r : Right) (to : Name) : Type 0 where
+  pub running : Running s l b
+  pub within : count ≤ length targets
+  pub targets-are : take count targets ≡ map (position (variables (s .store))) xs
+  pub all-shared : T (all (isShared s) xs)
+  pub giver : Numbered (s .store) from q
+  pub right-is : right ≡ code r
+  pub taker : Numbered (s .store) to p
+
+pub record SomeDelegates (l : Layout) (b : Slices) (targets : List ℕ) (count q right p : ℕ) : Type 0 where
+  pub session : Session
+  pub variables-named : List Name
+  pub from : Name
+  pub of-right : Right
+  pub to : Name
+  pub delegates : Delegates session l b targets count q right p variables-named from of-right to

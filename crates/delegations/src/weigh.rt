@@ -1,0 +1,58 @@
+// What the names in an assertion weigh, and the assertion's number.
+ghost use mathlib.Core.Path.{_≡_};
+ghost use mathlib.Core.List.{List};
+ghost use Prim.Native.Nat.{_+_, _≤_, _<_};
+ghost use lib.ListN.{length, take};
+ghost use Rattle.language.specs.Weight.{nameWeight};
+ghost use Rattle.rights.specs.Packed.{pack};
+ghost use Rattle.store.specs.Rows.{Row, Rows, SomeRows, rowAt};
+
+// The weight of a principal's name: 1 for admin and anyone.
+fn name_weight(name: &[u8]) -> usize
+    ensures { λ r. ⌜ r ≡ nameWeight (now (name .entry)) ⌝ }
+{
+    if text::same_bytes(name, b"admin") {
+        return 1;
+    }
+    if text::same_bytes(name, b"anyone") {
+        return 1;
+    }
+    name.len()
+}
+
+// The weight of the name of a principal, by its number.
+fn principal(people: &[u8], marks: &[u64], count: usize, number: usize) -> usize
+    requires { ⌜ SomeRows (now people) count (now marks) × (number < count) ⌝ }
+    ensures { λ r. ⌜ ((rows : List Row) → Rows rows (now (people .entry)) count (now (marks .entry)) → r ≡ nameWeight (rowAt rows number .name)) ⌝ }
+{
+    let place = store::mark::nth(people, marks, count, number);
+    let from = place.start + 2;
+    let to = place.mid;
+    name_weight(&people[from..to])
+}
+
+// The weight of the names of two principals, by their numbers.
+pub fn pair(people: &[u8], marks: &[u64], len: usize, count: usize, q: usize, p: usize) -> usize
+    requires { ⌜ (len ≤ length (now people)) × SomeRows (take len (now people)) count (now marks) × (q < count) × (p < count) ⌝ }
+    ensures { λ r. ⌜ ((rows : List Row) → Rows rows (take len (now (people .entry))) count (now (marks .entry))
+        → r ≡ nameWeight (rowAt rows q .name) + nameWeight (rowAt rows p .name)) ⌝ }
+{
+    principal(&people[0..len], marks, count, q) + principal(&people[0..len], marks, count, p)
+}
+
+// The length of the name of a variable, by its number.
+pub fn variable(vars: &[u8], marks: &[u64], len: usize, count: usize, number: usize) -> usize
+    requires { ⌜ (len ≤ length (now vars)) × SomeRows (take len (now vars)) count (now marks) × (number < count) ⌝ }
+    ensures { λ r. ⌜ ((rows : List Row) → Rows rows (take len (now (vars .entry))) count (now (marks .entry)) → r ≡ length (rowAt rows number .name)) ⌝ }
+{
+    let place = store::mark::nth(&vars[0..len], marks, count, number);
+    place.mid - (place.start + 2)
+}
+
+// An assertion's four numbers in one.
+pub fn packed(variable: usize, from: usize, right: u16, to: usize) -> u64
+    requires { ⌜ (variable < 4096) × (from < 4096) × (right < 4) × (to < 4096) ⌝ }
+    ensures { λ r. ⌜ r ≡ pack variable from right to ⌝ }
+{
+    variable as u64 * 281474976710656 + right as u64 * 4294967296 + from as u64 * 65536 + to as u64
+}

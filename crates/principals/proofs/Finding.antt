@@ -1,0 +1,54 @@
+-- Principals by number: whether a name is there, and what its password weighs.
+use mathlib.Core.Path.{_≡_, sym, ap, _∙_}
+use mathlib.Core.Bool.{true, false}
+use mathlib.Core.List.{List, map}
+use Prim.Native.Nat.{ℕ, _-_, _≤_, _<_}
+use native.Mathlib.Decide.{decLe}
+use native.Mathlib.Omega.{arith}
+use borrow.Author.Tests.{lt-ltb, le-ltb}
+use lib.ListN.{length, take, drop, length-map, length-drop}
+use lib.Seq.{length-take-le}
+use Rattle.language.specs.Text.{Text}
+use Rattle.language.specs.Syntax.{Name}
+use Rattle.language.specs.State.{Principal}
+use Rattle.language.specs.Weight.{passwordWeight}
+use Rattle.language.specs.Values.{Session, isPrincipal}
+use Rattle.store.specs.Rows.{position, principalRow, place}
+use Rattle.store.specs.Contents.{principalAt, PasswordAt}
+use Rattle.store.specs.declared.mark.Found.the-variants.{Missing}
+use Rattle.store.specs.declared.content.Password.the-variants.{Kept}
+use Rattle.store.proofs.Answers.{unanswered, principal-names}
+use Rattle.numbers.specs.Numbers.{people}
+use Rattle.running.specs.declared.Layout.{Layout}
+use Rattle.running.specs.Sessions.{Slices, Running}
+use Rattle.running.proofs.Admin.{principal-exists}
+use Rattle.delegations.proofs.Places.{position-most}
+
+-- a name that is not found has the number of principals
+pub missing-position : (ks : List Principal) (p : Name) → Missing ≡ place (map principalRow ks) p → position (map (λ k. k .name) ks) p ≡ length ks
+missing-position ks p q = omega (
+  arith,
+  unanswered (map principalRow ks) p q,
+  ap (λ (ns : List Name). position ns p) (principal-names ks),
+  length-map ks principalRow,
+  length-map ks (λ k. k .name),
+  position-most (map (λ k. k .name) ks) p,
+)
+
+pub part-length : (t : Text) (s e : ℕ) → e ≤ length t → length (take (e - s) (drop s t)) ≡ e - s
+part-length t s e h = length-take-le (e - s) (drop s t) (omega (arith, length-drop s t))
+
+pub kept-weight : (ks : List Principal) (t : Text) (k s e : ℕ) → PasswordAt ks t k (Kept s e) → e - s ≡ passwordWeight (principalAt ks k .password)
+kept-weight ks t k s e A = sym (part-length t s e (A .within .1)) ∙ ap passwordWeight (A .meant)
+
+module _ (s : Session) (l : Layout) (b : Slices) (R : Running s l b) (p : Name) (n : ℕ) (e : n ≡ position (people (s .store)) p) where
+  pub is-missing : n ≡ l .people → isPrincipal s p ≡ false
+  is-missing h = principal-exists s l b R p ∙ le-ltb (position (people (s .store)) p) (l .people) (omega (arith, e, h))
+
+  pub is-there : n < l .people → isPrincipal s p ≡ true
+  is-there h = principal-exists s l b R p ∙ lt-ltb (position (people (s .store)) p) (l .people) (omega (arith, e, h))
+
+  pub number-below : (n ≡ l .people → ⊥) → n < l .people
+  number-below h =
+      let m : n ≤ l .people = omega (arith, e, position-most (people (s .store)) p, length-map (s .store .principals) (λ k. k .name), R .principals .counted) in
+      elim (decLe (l .people) n) [ yes k ↦ absurd (h (omega arith)) | no k ↦ omega arith ]

@@ -1,0 +1,3 @@
+-- The commands about principals.
+pub mod Known
+pub mod Creating

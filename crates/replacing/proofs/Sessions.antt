@@ -1,0 +1,62 @@
+-- A running session as the evaluation for each element takes it, and as it is again after the last.
+-- Assumes nothing.
+use mathlib.Core.Path.{_≡_, _∙_}
+use Prim.Native.Nat.{ℕ, _≤_}
+use native.Mathlib.Omega.{arith}
+use mathlib.Core.Option.{some}
+use mathlib.Core.List.{List}
+use lib.Dec.{T}
+use lib.ListN.{length, take}
+use Rattle.language.specs.Text.{Text}
+use Rattle.language.specs.Syntax.{Name, Expr}
+use Rattle.language.specs.Identifiers.{isName}
+use Rattle.language.specs.Programs.{longest}
+use Rattle.language.specs.State.{Element}
+use Rattle.language.specs.Values.{Session}
+use Rattle.text.specs.declared.Span.{Span}
+use Rattle.text.specs.Meaning.{part, Within}
+use Rattle.syntax.specs.declared.value.Expr as Read
+use Rattle.syntax.specs.Values.{exprMeant}
+use Rattle.evaluate.specs.Results.{SomeExpr}
+use Rattle.evaluate.proofs.LastLocal.{undefined-local}
+use Rattle.running.specs.declared.Layout.{Layout}
+use Rattle.running.specs.Sessions.{Slices, slices, Running}
+use Rattle.running.proofs.Scoping.{scope}
+use Rattle.running.proofs.Changes.{other-locals}
+use Rattle.running.proofs.Room.{variables-short, records-few, people-some}
+use Rattle.replacing.specs.Turning.{Turning, SomeTurning}
+use Rattle.replacing.specs.Sources.{source}
+use Rattle.replacing.proofs.Sourcing.{source-new}
+
+module _ (s : Session) (l : Layout) (b : Slices) (R : Running s l b) (text : Text) (y : Span) (x : Name) (es : List Element) (h : source s (part text y) x ≡ some es) (e : Read.Expr) where
+  pub turning : (u : Expr) → exprMeant text e ≡ some u
+      → Turning s u (take (l .«vars_len») (b .vars)) (b .var-marks) (l .vars) (b .locals) (l .«locals_len») (b .local-marks) (l .locals) text y e
+  turning u m = record {
+    scope = scope s l b R;
+    is-light = omega (arith, R .weighed, R .light);
+    is-new = undefined-local s (part text y) (source-new s (part text y) x es h);
+    meant = m;
+  }
+
+  pub some-turning : SomeExpr text e → length text ≤ longest → Within text y → T (isName (part text y))
+      → SomeTurning (take (l .«vars_len») (b .vars)) (b .var-marks) (l .vars) (b .locals) (l .«locals_len») (b .local-marks) (l .locals) text y e
+  some-turning E k w n = record {
+    session = s;
+    says = E;
+    turning = turning (E .expression) (E .meant);
+    text-short = k;
+    y-within = w;
+    y-named = n;
+    locals-size = R .sized .locals-size;
+    locals-short = omega (arith, variables-short s l b R, R .light);
+    marks-room = omega (arith, records-few s l b R, people-some s l b R, R .light, R .sized .local-marks-size);
+  }
+
+-- the same session, whose locals' buffer is changed where it holds nothing
+pub running-again : (s : Session) (u : Expr) (l : Layout) (b : Slices) → Running s l b → (t : Text) (marks : List ℕ) (text : Text) (y : Span) (e : Read.Expr)
+    → length t ≡ length (b .locals) → length marks ≡ length (b .local-marks)
+    → Turning s u (take (l .«vars_len») (b .vars)) (b .var-marks) (l .vars) t (l .«locals_len») marks (l .locals) text y e
+    → Running s l (slices (b .people) (b .people-marks) (b .vars) (b .var-marks) t marks (b .standing))
+running-again s u l b R t marks text y e p q I =
+    other-locals s l b R (s .locals) t marks (l .«locals_len») (l .locals) (l .weight) (p ∙ R .sized .locals-size) (q ∙ R .sized .local-marks-size) (I .scope .locals-held)
+    (omega (arith, R .locals-within, p)) (R .ready .is-good .locals-valid) (R .weighed) (R .light)

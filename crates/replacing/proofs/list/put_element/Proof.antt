@@ -1,0 +1,44 @@
+-- `replacing::list::put_element` meets its contract. What is too heavy stays so; a light list has room for its text.
+-- Assumes nothing.
+use mathlib.Core.Path.{sym}
+use native.Mathlib.Omega.{arith}
+use lib.Seq.{length-take-le}
+use mathlib.Core.List.{[], _∷_, _++_}
+use Rattle.language.specs.State.{list}
+use Rattle.replacing.proofs.Drafting.{heavy-drafted, too-heavy, fits, grown}
+use borrow.Author.Needs.{needs}
+use Rattle.replacing.proofs.list.put_element.Statement.{statement}
+use Rattle.replacing.proofs.list.put_element.Tie as tie
+
+add-weight : tie.Need-add-weight
+add-weight c = omega (arith, c .before .before .before .pre .0 .drafted .small)
+
+add-weight-2 : tie.Need-add-weight-2
+add-weight-2 c = omega (arith, c .before .before .before .before .pre .0 .drafted .small, c .before .before .before .before .pre .1 .drafted .small)
+
+returns : tie.Need-returns
+returns c es e D E = heavy-drafted (list (es ++ (e ∷ []))) _ (too-heavy D E (c .if1 .taken))
+
+slice-aggregate-copy-in : tie.Need-slice-aggregate-copy-in
+slice-aggregate-copy-in c = sym (length-take-le _ _ (c .before .before .before .before .before .before .before .pre .1 .drafted .within))
+
+copy-in-requires : tie.Need-copy-in-requires
+copy-in-requires c κs = let P = c .before .before .before .before .before .before .before .pre in fits (P .0 .drafted) (P .1 .drafted) (c .before .before .if1 .left) (P .2)
+
+same-length : tie.Need-same-length
+same-length c = search needs
+
+returns-2 : tie.Need-returns-2
+returns-2 c es e D E = grown D E (c .before .before .before .before .before .if1 .left) _ _ (c .before .before .copy-in .ensures)
+
+pub put-element-spec : {M : Type 1} → statement M
+put-element-spec =
+    tie.close
+    (tie.spec
+    add-weight
+    add-weight-2
+    returns
+    slice-aggregate-copy-in
+    copy-in-requires
+    same-length
+    returns-2)

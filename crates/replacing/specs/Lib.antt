@@ -1,0 +1,4 @@
+-- What foreach makes of a list, element by element.
+pub mod Drafts
+pub mod Turning
+pub mod Sources

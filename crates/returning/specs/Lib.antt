@@ -1,0 +1,2 @@
+-- What the ending `return e` gives.
+pub mod Returns

@@ -1,0 +1,89 @@
+// The ending `return e`: the value that the program prints.
+use evaluate::result::Evaluated;
+use running::Layout;
+use syntax::value::Expr;
+ghost use mathlib.Core.Path.{_≡_};
+ghost use mathlib.Core.Option.{some};
+ghost use Prim.Native.Nat.{_≤_};
+ghost use lib.ListN.{length};
+ghost use Rattle.language.specs.Syntax as Syntax;
+ghost use Rattle.language.specs.Programs.{longest};
+ghost use Rattle.language.specs.Values.{Session};
+ghost use Rattle.language.specs.Commands.{step};
+ghost use Rattle.syntax.specs.Values.{exprMeant};
+ghost use Rattle.evaluate.specs.Results.{SomeExpr};
+ghost use Rattle.evaluate.specs.Drafts.{Lent};
+ghost use Rattle.running.specs.Sessions.{slices, Running, SomeRunning};
+ghost use Rattle.returning.specs.Returns.{Given, answerTo};
+
+// How the ending goes: refused, or done with the value's text in the first bytes that were lent for it.
+pub enum Returned {
+    Denied,
+    Failed,
+    Full,
+    Value(usize),
+}
+
+// What an answer of the evaluation makes of the ending, where the sender may read all that it evaluates.
+fn answered(r: Evaluated) -> Returned
+    ensures { λ a. ⌜ a ≡ answerTo r ⌝ }
+{
+    match r {
+        Evaluated::Value { len, weight: _ } => Returned::Value(len),
+        Evaluated::Missing => Returned::Failed,
+        Evaluated::Heavy => Returned::Full,
+    }
+}
+
+// Writes the value of the expression that the program's text says at the places e, from the start of `value` on, where it may be returned.
+pub fn value<'a>(
+    people: &[u8],
+    people_marks: &[u64],
+    vars: &'a [u8],
+    var_marks: &[u64],
+    locals: &'a [u8],
+    local_marks: &[u64],
+    standing: &[u64],
+    value: &mut [u8],
+    labels: &mut [u64],
+    l: Layout,
+    text: &[u8],
+    e: Expr,
+) -> Returned
+    requires { ⌜ SomeRunning l (slices (now people) (now «people_marks») (now vars) (now «var_marks») (now locals) (now «local_marks») (now standing)) ⌝ }
+    requires { ⌜ SomeExpr (now text) e × (length (now text) ≤ longest) ⌝ }
+    requires { ⌜ Lent (now value) (now labels) ⌝ }
+    ensures { λ r. ⌜ ((s : Session) (x : Syntax.Expr)
+        → Running s l (slices (now (people .entry)) (now («people_marks» .entry)) (now (vars .entry)) (now («var_marks» .entry)) (now (locals .entry)) (now («local_marks» .entry)) (now (standing .entry)))
+        → exprMeant (now (text .entry)) e ≡ some x → Given r (step s (Syntax.return x)) s (now (value .exit))) ⌝ }
+{
+    let vars_len = l.vars_len;
+    let locals_len = l.locals_len;
+    let may = evaluate::permit::readable(
+        &vars[..vars_len],
+        var_marks,
+        l.vars,
+        standing,
+        l.asserted,
+        l.people,
+        l.sender,
+        text,
+        e,
+    );
+    if !may {
+        return Returned::Denied;
+    }
+    let r = evaluate::value(
+        &vars[..vars_len],
+        var_marks,
+        l.vars,
+        &locals[..locals_len],
+        local_marks,
+        l.locals,
+        text,
+        e,
+        value,
+        labels,
+    );
+    answered(r)
+}

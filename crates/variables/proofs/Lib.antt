@@ -1,0 +1,7 @@
+-- Laws of the changes of a session's variables.
+pub mod Weighing
+pub mod Granting
+pub mod Assigning
+pub mod Looking
+pub mod Extending
+pub mod Ending

@@ -1,0 +1,93 @@
+-- `variables::grants::grant` meets its contract. Four numbers stored one after the other, or none for admin.
+-- Assumes nothing.
+use Prim.Native.Nat.{_+_, _≤_, _<_}
+use native.Mathlib.Omega.{arith}
+use lib.ListN.{length, length-set}
+use Rattle.variables.proofs.Granting.{no-numbers, some-numbers}
+use borrow.Author.Needs.{needs}
+use Rattle.variables.proofs.grants.grant.Statement.{statement}
+use Rattle.variables.proofs.grants.grant.Tie as tie
+
+room : (c : tie.Else1) → c .before .before .args .n + 4 ≤ length (c .before .before .args .standing .now)
+room c = let q : 0 < c .before .before .args .sender = omega (arith, c .if1 .left) in c .before .before .pre .1 q
+
+returns : tie.Need-returns
+returns c = (c .before .before .pre .0, no-numbers (c .before .before .args .standing .now) (c .before .before .args .n) (c .before .before .args .variable) (c .before .before .args .sender) (c .if1 .taken))
+
+add-second : tie.Need-add-second
+add-second c = search needs
+
+add-third : tie.Need-add-third
+add-third c = search needs
+
+add-fourth : tie.Need-add-fourth
+add-fourth c = search needs
+
+granted-requires : tie.Need-granted-requires
+granted-requires c κs = search needs
+
+mul-standing : tie.Need-mul-standing
+mul-standing c = search needs
+
+slice-write-standing : tie.Need-slice-write-standing
+slice-write-standing c = omega (arith, room (c .before))
+
+granted-requires-2 : tie.Need-granted-requires-2
+granted-requires-2 c κs = search needs
+
+mul-standing-2 : tie.Need-mul-standing-2
+mul-standing-2 c = search needs
+
+slice-write-standing-2 : tie.Need-slice-write-standing-2
+slice-write-standing-2 c = simp length-set (omega (arith, room (c .before .before)))
+
+granted-requires-3 : tie.Need-granted-requires-3
+granted-requires-3 c κs = search needs
+
+mul-standing-3 : tie.Need-mul-standing-3
+mul-standing-3 c = search needs
+
+slice-write-standing-3 : tie.Need-slice-write-standing-3
+slice-write-standing-3 c = simp length-set (omega (arith, room (c .before .before .before)))
+
+granted-requires-4 : tie.Need-granted-requires-4
+granted-requires-4 c κs = search needs
+
+mul-standing-4 : tie.Need-mul-standing-4
+mul-standing-4 c = search needs
+
+slice-write-standing-4 : tie.Need-slice-write-standing-4
+slice-write-standing-4 c = simp length-set (omega (arith, room (c .before .before .before .before)))
+
+add-result : tie.Need-add-result
+add-result c = search needs
+
+same-length : tie.Need-same-length
+same-length c = search needs
+
+returns-2 : tie.Need-returns-2
+returns-2 c = (omega (arith, room (c .before .before .before .before)), some-numbers (c .before .before .before .before .before .before .args .standing .now) (c .before .before .before .before .before .before .args .n) (c .before .before .before .before .before .before .args .variable) (c .before .before .before .before .before .before .args .sender) _ _ _ _ (c .before .before .before .before .if1 .left) (room (c .before .before .before .before)) (c .before .before .before .granted .ensures) (c .before .before .granted2 .ensures) (c .before .granted3 .ensures) (c .granted4 .ensures))
+
+pub grant-spec : {M : Type 1} → statement M
+grant-spec =
+    tie.close
+    (tie.spec
+    returns
+    add-second
+    add-third
+    add-fourth
+    granted-requires
+    mul-standing
+    slice-write-standing
+    granted-requires-2
+    mul-standing-2
+    slice-write-standing-2
+    granted-requires-3
+    mul-standing-3
+    slice-write-standing-3
+    granted-requires-4
+    mul-standing-4
+    slice-write-standing-4
+    add-result
+    same-length
+    returns-2)

@@ -1,0 +1,39 @@
+-- What an assignment asks and answers.
+use mathlib.Core.Path.{_≡_}
+use Prim.Native.Nat.{ℕ, _<_}
+use mathlib.Core.List.{List}
+use mathlib.Core.Option.{none}
+use Rattle.language.specs.Text.{Text}
+use Rattle.language.specs.Syntax.{Name}
+use Rattle.language.specs.State.{valueIn}
+use Rattle.language.specs.Weight.{limit}
+use Rattle.language.specs.Values.{Session}
+use Rattle.language.specs.Commands.{sessionWeight}
+use Rattle.running.specs.declared.Layout.{Layout}
+use Rattle.running.specs.declared.Verdict.{Verdict}
+use Rattle.running.specs.declared.Verdict.the-variants as Ends
+use Rattle.running.specs.Sessions.{Slices, slices, Running}
+use Rattle.variables.specs.declared.assignment.Assigned.{Assigned}
+use Rattle.variables.specs.declared.assignment.Assigned.the-variants.{Full, Done}
+
+-- the buffers hold some session, whatever holds its locals
+pub record SomeShared (l : Layout) (people : Text) (people-marks : List ℕ) (vars : Text) (var-marks standing : List ℕ) : Type 0 where
+  pub session : Session
+  pub locals : Text
+  pub local-marks : List ℕ
+  pub running : Running session l (slices people people-marks vars var-marks locals local-marks standing)
+
+-- and no shared variable has that name
+pub record SomeNew (l : Layout) (people : Text) (people-marks : List ℕ) (vars : Text) (var-marks standing : List ℕ) (x : Name) : Type 0 where
+  pub some : SomeShared l people people-marks vars var-marks standing
+  pub is-new : valueIn (some .session .store .variables) x ≡ none
+
+-- the session s is there, or is too heavy
+abbrev pub Assigns : Assigned → Session → Slices → Type 0
+Assigns Full s b = limit < sessionWeight s
+Assigns (Done l) s b = Running s l b
+
+-- how a command ends that does the assignment
+abbrev pub verdictOf : Assigned → Verdict
+verdictOf Full = Ends.Full
+verdictOf (Done l) = Ends.Done l

@@ -1,0 +1,24 @@
+-- What the commands ask.
+use mathlib.Core.Path.{_≡_}
+use Prim.Native.Nat.{ℕ}
+use mathlib.Core.List.{List}
+use lib.Dec.{T}
+use lib.ListN.{length}
+use Rattle.language.specs.Text.{Text}
+use Rattle.language.specs.Identifiers.{isIdentifier}
+use Rattle.text.specs.declared.Span.{Span}
+use Rattle.text.specs.Meaning.{part, Within}
+use Rattle.syntax.specs.declared.value.Expr as Read
+use Rattle.variables.specs.Looks.{Said}
+
+-- the program's text names a variable, and says an expression
+pub record Names (t : Text) (x : Span) (e : Read.Expr) : Type 0 where
+  pub within : Within t x
+  pub is-name : T (isIdentifier (part t x))
+  pub said : Said t e
+
+-- room to work in
+pub record Scratch (value spare : Text) (labels : List ℕ) : Type 0 where
+  pub value-size : length value ≡ 45056
+  pub spare-size : length spare ≡ 45056
+  pub labels-size : length labels ≡ 4096

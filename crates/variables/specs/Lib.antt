@@ -1,0 +1,7 @@
+-- What the changes of a session's variables ask and leave.
+pub mod Puts
+pub mod Grants
+pub mod Assignments
+pub mod Looks
+pub mod Extensions
+pub mod Commands
