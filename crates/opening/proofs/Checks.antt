@@ -1,0 +1,22 @@
+-- A buffer that was checked has what a login and the beginning of a session ask.
+-- Assumes nothing.
+use Prim.Native.Nat.{ℕ}
+use mathlib.Core.List.{List}
+use lib.Dec.{T}
+use Rattle.language.specs.Text.{Text}
+use Rattle.language.specs.Valid.{valid}
+use Rattle.language.proofs.StateText.RoundTrip.{decode-holds}
+use Rattle.validate.specs.Checked.{Understood}
+use Rattle.validate.specs.declared.Parts.{Parts}
+use Rattle.opening.specs.Logins.{SomeState}
+use Rattle.opening.specs.Beginnings.{SomeValid}
+
+module _ (t : Text) (marks-p marks-v standing : List ℕ) (p : Parts) (U : Understood t marks-p marks-v standing p) where
+  pub checked-valid : T (valid (U .state))
+  checked-valid = decode-holds t (U .state) .0 (U .decoded) .is-valid
+
+  pub checked-some : SomeState t marks-p p
+  checked-some = record { marks-v = marks-v; standing = standing; state = U .state; represents = U .represents }
+
+  pub checked-some-valid : SomeValid t marks-p marks-v standing p
+  checked-some-valid = record { state = U .state; is-valid = checked-valid; represents = U .represents }

@@ -1,0 +1,4 @@
+-- Laws of the start of a run.
+pub mod Senders
+pub mod Copies
+pub mod Checks

@@ -1,0 +1,15 @@
+-- What the beginning of a session asks: a valid state in a buffer, and buffers of the right sizes for a copy of its texts.
+use Prim.Native.Nat.{ℕ}
+use mathlib.Core.List.{List}
+use lib.Dec.{T}
+use Rattle.language.specs.Text.{Text}
+use Rattle.language.specs.State.{State}
+use Rattle.language.specs.Valid.{valid}
+use Rattle.validate.specs.Checked.{Represents}
+use Rattle.validate.specs.declared.Parts.{Parts}
+
+-- the parts and the tables say some valid state
+pub record SomeValid (t : Text) (marks-p marks-v standing : List ℕ) (p : Parts) : Type 0 where
+  pub state : State
+  pub is-valid : T (valid state)
+  pub represents : Represents t marks-p marks-v standing p state

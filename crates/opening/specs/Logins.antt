@@ -1,0 +1,33 @@
+-- What a login answers (document 01, "A run").
+use mathlib.Core.Path.{_≡_}
+use Prim.Native.Nat.{ℕ}
+use mathlib.Core.List.{List}
+use Rattle.language.specs.Text.{Text}
+use Rattle.language.specs.Syntax.{Name}
+use Rattle.language.specs.State.{Principal, Store, State, named}
+use Rattle.language.specs.Run.{unknown, mistaken, right, loginAs}
+use Rattle.store.specs.Held.{Principals}
+use Rattle.store.specs.Rows.{position}
+use Rattle.numbers.specs.Numbers.{people}
+use Rattle.validate.specs.Checked.{Represents}
+use Rattle.validate.specs.declared.Parts.{Parts}
+use Rattle.opening.specs.declared.Login.{Login}
+use Rattle.opening.specs.declared.Login.the-variants.{Unknown, Mistaken, Right}
+
+-- the answer to the name x with the password w; a login that is right has the number of the principal
+abbrev pub LoginMeant : Login → Store → Name → Text → Type 0
+LoginMeant Unknown s x w = loginAs w (named (s .principals) x) ≡ unknown
+LoginMeant Mistaken s x w = loginAs w (named (s .principals) x) ≡ mistaken
+LoginMeant (Right k) s x w = (loginAs w (named (s .principals) x) ≡ right) × (k ≡ position (people s) x)
+
+-- the text and the marks hold some principals
+pub record SomePrincipals (t : Text) (count : ℕ) (marks : List ℕ) : Type 0 where
+  pub principals : List Principal
+  pub held : Principals principals t count marks
+
+-- the parts and the marks of the principals say some state
+pub record SomeState (t : Text) (marks-p : List ℕ) (p : Parts) : Type 0 where
+  pub marks-v : List ℕ
+  pub standing : List ℕ
+  pub state : State
+  pub represents : Represents t marks-p marks-v standing p state

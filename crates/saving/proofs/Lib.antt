@@ -1,0 +1,4 @@
+-- Laws of a state text that is written from a session's parts.
+pub mod Meant
+pub mod Lines
+pub mod Rooms

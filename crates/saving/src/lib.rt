@@ -1,0 +1,87 @@
+// The state text that a completed program leaves: written anew from the session's parts, line by line, and zeros after it.
+mod claim; // the assertions' lines
+mod number; // what a number stands for: a record's name, a right's letter
+
+use render::state::put_delegator;
+use render::state::put_header;
+use render::state::zero_rest;
+use running::Layout;
+use values::copy_in;
+ghost use mathlib.Core.Path.{_≡_};
+ghost use Prim.Native.Nat.{_≤_};
+ghost use lib.ListN.{length};
+ghost use Rattle.language.specs.State.{Store, lastCount};
+ghost use Rattle.language.specs.Encode.{stateText, padded};
+ghost use Rattle.language.specs.Values.{Session};
+ghost use Rattle.language.specs.Run as Run;
+ghost use Rattle.values.specs.Writing.{Written};
+ghost use Rattle.running.specs.Sessions.{slices, Running, SomeRunning};
+ghost use Rattle.saving.specs.Stores.{recordsText, Recorded, SomeRecords};
+
+// One completed program more; the count stays at its last value.
+pub fn counted(count: u64) -> u64
+    requires { ⌜ count ≤ lastCount ⌝ }
+    ensures { λ r. ⌜ (r ≡ Run.counted count) × (r ≤ lastCount) ⌝ }
+{
+    if count < 4294967295 {
+        return count + 1;
+    }
+    count
+}
+
+// The lines before the assertions: the first line, the principals, the default delegator and the variables.
+fn put_records(
+    out: &mut [u8],
+    people: &[u8],
+    people_marks: &[u64],
+    vars: &[u8],
+    l: Layout,
+    count: u32,
+) -> usize
+    requires { ⌜ SomeRecords l (now people) (now «people_marks») (now vars) count (length (now out)) ⌝ }
+    ensures { λ r. ⌜ ((s : Store) → Recorded s l (now (people .entry)) (now («people_marks» .entry)) (now (vars .entry))
+        → Written (now (out .entry)) 0 (recordsText s count) r (now (out .exit))) ⌝ }
+{
+    let a = put_header(out, 0, l.is_open, count);
+    let b = copy_in(out, a, people);
+    let name = number::name_of(people, people_marks, l.people, l.delegator);
+    let c = put_delegator(out, b, name);
+    copy_in(out, c, vars)
+}
+
+// The whole state text, with the count in its first line, and zeros to the buffer's end. The locals are gone.
+pub fn save(
+    people: &[u8],
+    people_marks: &[u64],
+    vars: &[u8],
+    var_marks: &[u64],
+    locals: &[u8],
+    local_marks: &[u64],
+    standing: &[u64],
+    l: Layout,
+    count: u64,
+    state: &mut [u8],
+)
+    requires { ⌜ SomeRunning l (slices (now people) (now «people_marks») (now vars) (now «var_marks») (now locals) (now «local_marks») (now standing)) ⌝ }
+    requires { ⌜ (length (now state) ≡ 65536) × (count ≤ lastCount) ⌝ }
+    ensures { λ _. ⌜ ((s : Session)
+        → Running s l (slices (now (people .entry)) (now («people_marks» .entry)) (now (vars .entry)) (now («var_marks» .entry)) (now (locals .entry)) (now («local_marks» .entry)) (now (standing .entry)))
+        → now (state .exit) ≡ padded (stateText (record { count = count; store = s .store }))) ⌝ }
+{
+    let people_len = l.people_len;
+    let vars_len = l.vars_len;
+    let persons = &people[..people_len];
+    let shared = &vars[..vars_len];
+    let a = put_records(state, persons, people_marks, shared, l, count as u32);
+    let b = claim::put_claims(
+        state,
+        a,
+        persons,
+        people_marks,
+        shared,
+        var_marks,
+        standing,
+        l,
+    );
+    zero_rest(state, b);
+}
