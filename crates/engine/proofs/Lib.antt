@@ -1,0 +1,3 @@
+-- Laws of commands read from a program's text, and of a program that is under way.
+pub mod Spoken
+pub mod Stages
