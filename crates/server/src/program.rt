@@ -1,0 +1,148 @@
+// A program on a state that was checked and is open.
+use crate::answer::Answer;
+use crate::answer::Kind;
+use crate::ending::refuse;
+use crate::ending::settle;
+use engine::perform;
+use opening::Login;
+use opening::begin;
+use opening::log_in;
+use parser::Parsed;
+use validate::Parts;
+ghost use mathlib.Core.Path.{_≡_};
+ghost use lib.ListN.{length};
+ghost use Rattle.language.specs.Programs.{parse};
+ghost use Rattle.language.specs.Run as Run;
+ghost use Rattle.language.specs.Calls.{endReply};
+ghost use Rattle.validate.specs.Checked.{Understood};
+ghost use Rattle.server.specs.Answers.{replied};
+ghost use Rattle.server.specs.Endings.{Admitted};
+
+// A program whose login is right: its session works on copies of the state's texts, the variables in the work buffer.
+fn session(
+    state: &mut [u8],
+    work: &mut [u8],
+    output: &mut [u8],
+    program: &[u8],
+    people_marks: &mut [u64],
+    var_marks: &mut [u64],
+    standing: &mut [u64],
+    parts: Parts,
+    sender: usize,
+    at: usize,
+) -> Answer
+    requires { ⌜ Admitted (now state) (now «people_marks») (now «var_marks») (now standing) parts (now program) sender at ⌝ }
+    requires { ⌜ (length (now state) ≡ 65536) × (length (now work) ≡ 65536) × (length (now output) ≡ 65536) ⌝ }
+    requires { ⌜ (length (now «people_marks») ≡ 4096) × (length (now «var_marks») ≡ 4096) × (length (now standing) ≡ 2048) ⌝ }
+    ensures { λ r. ⌜ ((a : Admitted (now (state .entry)) (now («people_marks» .entry)) (now («var_marks» .entry)) (now (standing .entry)) parts (now (program .entry)) sender at)
+        → replied r (record { state = now (state .exit); work = now (work .exit); output = now (output .exit) })
+        ≡ endReply (record { state = now (state .entry); work = now (work .entry); output = now (output .entry) }) (a .understood .state)
+        (Run.run (a .understood .state .store) (parse (now (program .entry))))) ⌝ }
+{
+    let mut people = [0u8; 45056];
+    let mut locals = [0u8; 65536];
+    let mut local_marks = [0u64; 4096];
+    let start = begin(
+        state,
+        people_marks,
+        var_marks,
+        standing,
+        parts,
+        sender,
+        &mut people,
+        work,
+        &locals,
+        &local_marks,
+    );
+    let mut value = [0u8; 45056];
+    let mut spare = [0u8; 45056];
+    let mut list = [0u8; 45056];
+    let mut labels = [0u64; 4096];
+    let performed = perform(
+        &mut people,
+        people_marks,
+        work,
+        var_marks,
+        &mut locals,
+        &mut local_marks,
+        standing,
+        &mut value,
+        &mut spare,
+        &mut list,
+        &mut labels,
+        start,
+        program,
+        at,
+        output,
+    );
+    settle(
+        performed,
+        &people,
+        people_marks,
+        work,
+        var_marks,
+        &locals,
+        &local_marks,
+        standing,
+        parts.count,
+        state,
+        output,
+    )
+}
+
+// First the program is parsed, then the password is looked at, and then the commands are done in turn.
+pub fn start(
+    state: &mut [u8],
+    work: &mut [u8],
+    output: &mut [u8],
+    program: &[u8],
+    people_marks: &mut [u64],
+    var_marks: &mut [u64],
+    standing: &mut [u64],
+    parts: Parts,
+) -> Answer
+    requires { ⌜ Understood (now state) (now «people_marks») (now «var_marks») (now standing) parts ⌝ }
+    requires { ⌜ (length (now state) ≡ 65536) × (length (now work) ≡ 65536) × (length (now output) ≡ 65536) ⌝ }
+    requires { ⌜ (length (now «people_marks») ≡ 4096) × (length (now «var_marks») ≡ 4096) × (length (now standing) ≡ 2048) ⌝ }
+    ensures { λ r. ⌜ ((u : Understood (now (state .entry)) (now («people_marks» .entry)) (now («var_marks» .entry)) (now (standing .entry)) parts)
+        → replied r (record { state = now (state .exit); work = now (work .exit); output = now (output .exit) })
+        ≡ endReply (record { state = now (state .entry); work = now (work .entry); output = now (output .entry) }) (u .state)
+        (Run.run (u .state .store) (parse (now (program .entry))))) ⌝ }
+{
+    let parsed = parser::program(program);
+    let Parsed::Program {
+        sender,
+        password,
+        at,
+    } = parsed
+    else {
+        return refuse(work, output, Kind::Failed, b"FAILED");
+    };
+    let name_from = sender.start;
+    let name_to = sender.end;
+    let from = password.start;
+    let to = password.end;
+    let login = log_in(
+        state,
+        people_marks,
+        parts,
+        &program[name_from..name_to],
+        &program[from..to],
+    );
+    match login {
+        Login::Unknown => refuse(work, output, Kind::Failed, b"FAILED"),
+        Login::Mistaken => refuse(work, output, Kind::Denied, b"DENIED"),
+        Login::Right(number) => session(
+            state,
+            work,
+            output,
+            program,
+            people_marks,
+            var_marks,
+            standing,
+            parts,
+            number,
+            at,
+        ),
+    }
+}

@@ -1,0 +1,92 @@
+-- What is answered has room in one number: a chain is shorter than the principals are many, and a state has at most 4,096 of them; an
+-- output has at most 65,536 bytes, and no more lines than bytes.
+-- Assumes nothing.
+use mathlib.Core.Path.{_≡_, refl}
+use Prim.Native.Nat.{ℕ, suc, _+_, _≤_}
+use native.Mathlib.Nat.{le-refl}
+use native.Mathlib.Omega.{arith}
+use mathlib.Core.Bool.{Bool, true, false, not}
+use mathlib.Core.Option.{Option, none, some}
+use mathlib.Core.List.{[], _∷_}
+use lib.Dec.{T, leb, eqb}
+use lib.ListN.{length, length-map}
+use Rattle.language.specs.Text.{Text, if_then_else_, present}
+use Rattle.language.specs.Syntax.{Name, Right}
+use Rattle.language.specs.Identifiers.{isString}
+use Rattle.language.specs.State.{Principal, Store, State, lastCount, named, valueIn}
+use Rattle.language.specs.Valid.{validStore}
+use Rattle.language.specs.Decode.{decode}
+use Rattle.language.specs.Chains.{chainLength}
+use Rattle.language.specs.Programs.{parse}
+use Rattle.language.specs.Run.{run, lineCount, output}
+use Rattle.language.specs.Calls.{wrong, ready, checked, decoded, sized, made, longestPassword, makeCall, Buffers, endReply, runOn, runCall, rightByte, lengthAnswer, question, askOn, askCall}
+use Rattle.language.proofs.Logic.Tests.{both}
+use Rattle.language.proofs.StateText.RoundTrip.{decode-holds}
+use Rattle.language.proofs.Parsing.Printing.{output-fits}
+use Rattle.language.proofs.Rights.Search.{few-rounds}
+use Rattle.numbers.proofs.Few.{few-people}
+use Rattle.server_c.specs.Wire.{Fits}
+
+pub make-fits : (buffer password : Text) → Fits (makeCall buffer password .answer)
+make-fits buffer password = go (sized buffer) (isString password) (leb (length password) longestPassword)
+  where
+    go : (a b c : Bool) → Fits (checked buffer a 2 (checked buffer b 8 (checked buffer c 9 (record { answer = ready; lent = made password }))) .answer)
+    go false b c = tt
+    go true false c = tt
+    go true true false = tt
+    go true true true = tt
+
+few-lines : (t : Text) → lineCount t ≤ length t
+few-lines [] = le-refl 0
+few-lines (b ∷ t) = go (eqb b 10) (few-lines t)
+  where
+    go : (c : Bool) → lineCount t ≤ length t → (if_then_else_ {A = ℕ} c 1 0) + lineCount t ≤ suc (length t)
+    go true h = omega arith
+    go false h = omega arith
+
+-- a buffer that is decoded holds a valid store
+decoded-valid : (buffer : Text) (s : State) → decode buffer ≡ some s → T (validStore (s .store))
+decoded-valid buffer s e = both (leb (s .count) lastCount) (validStore (s .store)) (decode-holds buffer s .0 e .is-valid) .1
+
+pub run-fits : (b : Buffers) (program : Text) → Fits (runCall b program .answer)
+run-fits b program = go (sized (b .output)) (sized (b .state)) (sized (b .work)) (decode (b .state)) refl
+  where
+    on : (s : State) → T (validStore (s .store)) → (c : Bool) → Fits (checked b c 5 (endReply b s (run (s .store) (parse program))) .answer)
+    on s v false = tt
+    on s v true =
+        let h = output-fits (s .store) v program in
+        (omega (arith, h, few-lines (output (run (s .store) (parse program)))), omega (arith, h))
+
+    go : (x y z : Bool) (o : Option State) → decode (b .state) ≡ o → Fits (checked b x 1 (checked b y 2 (checked b z 3 (decoded b o (runOn b program)))) .answer)
+    go false y z o e = tt
+    go true false z o e = tt
+    go true true false o e = tt
+    go true true true none e = tt
+    go true true true (some s) e = on s (decoded-valid (b .state) s e) (s .store .isOpen)
+
+module _ (s : Store) (v : T (validStore s)) (p x : Name) where
+  chain-fits : (r : Right) (o : Option ℕ) → chainLength s r x p ≡ o → Fits (lengthAnswer o)
+  chain-fits r none e = tt
+  chain-fits r (some n) e = omega (arith, few-rounds s r x p n e, few-people s v, length-map (s .principals) (λ (k : Principal). k .name))
+
+  question-fits : (o : Option Right) → Fits (question s p x o)
+  question-fits none = go (present (named (s .principals) p))
+    where
+      go : (b : Bool) → Fits (if b then wrong 7 else wrong 6)
+      go true = tt
+      go false = tt
+  question-fits (some r) = go (present (named (s .principals) p)) (present (valueIn (s .variables) x))
+    where
+      go : (a b : Bool) → Fits (if not a then wrong 6 else if not b then wrong 7 else lengthAnswer (chainLength s r x p))
+      go false b = tt
+      go true false = tt
+      go true true = chain-fits r (chainLength s r x p) refl
+
+pub ask-fits : (buffer : Text) (p x : Name) (r : ℕ) → Fits (askCall buffer p x r .answer)
+ask-fits buffer p x r = go (sized buffer) (decode buffer) refl
+  where
+    go : (b : Bool) (o : Option State) → decode buffer ≡ o → Fits (checked buffer b 2 (decoded buffer o (askOn buffer p x r)) .answer)
+    go false o e = tt
+    go true none e = tt
+    go true (some s) e =
+        question-fits (s .store) (decoded-valid buffer s e) p x (rightByte r)
