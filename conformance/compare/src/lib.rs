@@ -1,6 +1,12 @@
 //! The proved code behind safe functions, for tests and benchmarks to call beside the model.
 
+pub mod damage;
+pub mod histories;
 pub mod parser;
+pub mod plans;
 pub mod programs;
 pub mod random;
 pub mod rights;
+pub mod server;
+pub mod states;
+pub mod timing;

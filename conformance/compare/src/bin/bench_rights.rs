@@ -3,9 +3,9 @@
 
 use compare::random::Random;
 use compare::rights::{pack, shortest, Answer};
+use compare::timing::time;
 use model::rights::Assertion;
 use std::hint::black_box;
-use std::time::{Duration, Instant};
 
 struct Question {
     name: String,
@@ -80,24 +80,6 @@ fn questions() -> Vec<Question> {
         principal: 49,
     });
     all
-}
-
-/// The least time of one call among many batches.
-fn time(mut call: impl FnMut() -> usize) -> Duration {
-    let began = Instant::now();
-    black_box(call());
-    let once = began.elapsed().max(Duration::from_nanos(50));
-    let batch = (Duration::from_millis(2).as_nanos() / once.as_nanos()).clamp(1, 20_000) as u32;
-    (0..60)
-        .map(|_| {
-            let began = Instant::now();
-            for _ in 0..batch {
-                black_box(call());
-            }
-            began.elapsed() / batch
-        })
-        .min()
-        .unwrap()
 }
 
 fn main() {

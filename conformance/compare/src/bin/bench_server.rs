@@ -1,0 +1,242 @@
+//! Times of the proved server as ratios to the model, in one run: `cargo run --release --bin bench_server`. Both sides get the same bytes: before each
+//! call the state's buffer is set to the same one, and both clear the output and the work buffer themselves, as document 01 asks. With a folder as
+//! its argument it also writes the figures: `cargo run --release --bin bench_server ../docs` puts the table into performance.md, between the two
+//! lines that say where, and draws performance.svg.
+
+use std::env;
+use std::fmt::Write;
+use std::fs;
+use std::hint::black_box;
+use std::path::Path;
+use std::time::Duration;
+
+use compare::server;
+use compare::timing::time;
+use model::calls;
+use model::text::BUFFER;
+
+/// A line of the table: what is timed, and how large it is.
+struct Line {
+    name: String,
+    proved: Duration,
+    model: Duration,
+}
+
+impl Line {
+    fn ratio(&self) -> f64 {
+        self.proved.as_secs_f64() / self.model.as_secs_f64()
+    }
+}
+
+struct Buffers {
+    state: Vec<u8>,
+    work: Vec<u8>,
+    output: Vec<u8>,
+}
+
+impl Buffers {
+    fn new() -> Buffers {
+        Buffers { state: vec![0; BUFFER], work: vec![0; BUFFER], output: vec![0; BUFFER] }
+    }
+}
+
+fn program(sender: &str, password: &str, lines: &[String]) -> Vec<u8> {
+    format!("as principal {sender} password \"{password}\" do\n{}\n***", lines.join("\n")).into_bytes()
+}
+
+/// A server that the model made and to which it sent programs of admin's, each of which is done.
+fn server_after(programs: &[Vec<String>]) -> Vec<u8> {
+    let mut lent = Buffers::new();
+    calls::make(&mut lent.state, b"desk").expect("a good password");
+    for lines in programs {
+        let mut lines = lines.clone();
+        lines.push("return \"\"".to_string());
+        let text = program("admin", "desk", &lines);
+        assert!(text.len() <= 16_384, "a program of {} bytes", text.len());
+        let report = calls::run(&mut lent.state, &mut lent.work, &mut lent.output, &text).expect("a right call");
+        assert_eq!(report.end, model::engine::End::Returned, "{}", String::from_utf8_lossy(&lent.output[..report.bytes]));
+    }
+    lent.state
+}
+
+/// Both sides run the program on the same state, which is copied into place before each call; the time of that copy is part of both.
+fn run_line(name: &str, state: &[u8], text: &[u8]) -> Line {
+    let (mut ours, mut theirs) = (Buffers::new(), Buffers::new());
+    ours.state.copy_from_slice(state);
+    theirs.state.copy_from_slice(state);
+    server::run(&mut ours.state, &mut ours.work, &mut ours.output, text);
+    calls::run(&mut theirs.state, &mut theirs.work, &mut theirs.output, text).expect("a right call");
+    assert!(ours.state == theirs.state && ours.output == theirs.output, "{name}: the two sides differ");
+    let proved = time(|| {
+        ours.state.copy_from_slice(state);
+        black_box(server::run(&mut ours.state, &mut ours.work, &mut ours.output, black_box(text)));
+        ours.output[0] as usize
+    });
+    let model = time(|| {
+        theirs.state.copy_from_slice(state);
+        black_box(calls::run(&mut theirs.state, &mut theirs.work, &mut theirs.output, black_box(text))).map_or(0, |report| report.bytes)
+    });
+    Line { name: name.to_string(), proved, model }
+}
+
+fn ask_line(name: &str, state: &[u8], principal: &str, variable: &str) -> Line {
+    let (p, x) = (principal.as_bytes(), variable.as_bytes());
+    let expected = calls::ask(state, p, x, b'r').expect("a right question");
+    let answer = server::ask(state, p, x, b'r');
+    assert_eq!(answer, expected.map_or(server::Answer::No, server::Answer::Yes), "{name}: the two sides differ");
+    let proved = time(|| {
+        black_box(server::ask(black_box(state), p, x, b'r'));
+        0
+    });
+    let model = time(|| black_box(calls::ask(black_box(state), p, x, b'r')).map_or(0, |length| length.unwrap_or(0)));
+    Line { name: name.to_string(), proved, model }
+}
+
+/// Clearing the three lent buffers and copying one: what any run of document 01 has to do.
+fn clearing() -> Duration {
+    let mut lent = Buffers::new();
+    let state = vec![7; BUFFER];
+    time(|| {
+        lent.output.fill(black_box(0));
+        lent.work.fill(black_box(0));
+        lent.state.fill(black_box(0));
+        lent.state.copy_from_slice(black_box(&state));
+        black_box(&lent.state)[0] as usize
+    })
+}
+
+/// 300 principals, 200 assertions: a chain of read on `list` of so many steps to `last`, and others beside it.
+fn venue(depth: usize) -> (Vec<u8>, String) {
+    let name = |n: usize| format!("p{n}");
+    let mut programs = Vec::new();
+    for part in 0..10 {
+        programs.push((0..30).map(|n| format!("create principal {} \"s\"", name(30 * part + n))).collect());
+    }
+    let mut lines = vec!["set list = []".to_string(), "set other = []".to_string()];
+    for step in 0..depth {
+        let from = if step == 0 { "admin".to_string() } else { name(step - 1) };
+        lines.push(format!("set delegation list {from} delegate -> {}", name(step)));
+    }
+    programs.push(lines);
+    let reads = (0..depth).map(|step| {
+        let from = if step == 0 { "admin".to_string() } else { name(step - 1) };
+        format!("set delegation list {from} read -> {}", name(step))
+    });
+    programs.push(reads.collect());
+    let rest: Vec<String> =
+        (0..200 - 2 * depth).map(|n| format!("set delegation other admin {} -> {}", ["read", "write"][n % 2], name(100 + n))).collect();
+    programs.push(rest[..rest.len() / 2].to_vec());
+    programs.push(rest[rest.len() / 2..].to_vec());
+    (server_after(&programs), name(depth - 1))
+}
+
+/// A state at the weight's limit: a long list, some principals, some assertions.
+fn heavy() -> Vec<u8> {
+    let mut lines = vec!["set list = []".to_string(), "set x = \"\"".to_string()];
+    lines.extend((0..20).map(|n| format!("create principal p{n} \"s\"")));
+    lines.extend((0..20).map(|n| format!("set delegation list admin read -> p{n}")));
+    let mut programs = vec![lines];
+    for part in 0..7 {
+        programs.push((0..10).map(|n| format!("append to list with {{song=\"{}\",key=\"F{part}{n}\"}}", "s".repeat(90))).collect());
+    }
+    let state = server_after(&programs);
+    let weight = model::text::decode(&state).expect("well formed").0.weight();
+    programs.push(vec![format!("set x = \"{}\"", "w".repeat(8_192 - weight))]);
+    let state = server_after(&programs);
+    assert_eq!(model::text::decode(&state).expect("well formed").0.weight(), 8_192);
+    state
+}
+
+fn session() -> (Vec<u8>, Vec<Vec<u8>>) {
+    let fresh = server_after(&[]);
+    let first = ["create principal rosa \"r1\"", "set queue = []", "set delegation queue admin append -> rosa", "return queue"];
+    let second = ["append to queue with {song=\"Blue Moon\",key=\"F\"}", "return \"ok\""];
+    let lines = |of: &[&str]| of.iter().map(|line| line.to_string()).collect::<Vec<String>>();
+    (fresh, vec![program("admin", "desk", &lines(&first)), program("rosa", "r1", &lines(&second))])
+}
+
+fn measured() -> Vec<Line> {
+    let mut lines = Vec::new();
+    let (fresh, programs) = session();
+    lines.push(run_line("session of 01, first program", &fresh, &programs[0]));
+    let mut lent = Buffers::new();
+    lent.state.copy_from_slice(&fresh);
+    calls::run(&mut lent.state, &mut lent.work, &mut lent.output, &programs[0]).expect("a right call");
+    lines.push(run_line("session of 01, second program", &lent.state, &programs[1]));
+    lines.push(ask_line("question after the first program", &lent.state, "admin", "queue"));
+    for depth in [1, 5, 50] {
+        let (state, last) = venue(depth);
+        let text = program(&last, "s", &["return list".to_string()]);
+        lines.push(run_line(&format!("venue of 300, chain of {depth}: a read"), &state, &text));
+        lines.push(ask_line(&format!("venue of 300, chain of {depth}: question"), &state, &last, "list"));
+    }
+    let state = heavy();
+    lines.push(run_line("state at the weight limit: a set", &state, &program("admin", "desk", &["set x = \"\"".to_string(), "return x".to_string()])));
+    lines.push(run_line("state at the weight limit: its list returned", &state, &program("admin", "desk", &["return list".to_string()])));
+    lines.push(ask_line("state at the weight limit: question", &state, "p19", "list"));
+    for count in [500, 1_000, 2_000] {
+        let mut commands: Vec<String> = (0..count - 1).map(|_| "set x=y".to_string()).collect();
+        commands.push("return x".to_string());
+        let state = server_after(&[vec!["set x = \"1\"".to_string(), "set y = \"2\"".to_string()]]);
+        lines.push(run_line(&format!("program of {count} commands"), &state, &program("admin", "desk", &commands)));
+    }
+    lines
+}
+
+fn table(lines: &[Line], clear: Duration) -> String {
+    let mut text = String::from("| work | server | model | ratio |\n|---|---|---|---|\n");
+    for line in lines {
+        writeln!(text, "| {} | {:.1?} | {:.1?} | {:.2} |", line.name, line.proved, line.model, line.ratio()).expect("a line");
+    }
+    writeln!(text, "| clearing three lent buffers and copying one | {clear:.1?} | | |").expect("a line");
+    text
+}
+
+/// The ratios as bars, on a logarithmic scale from 1/16 to 16.
+fn plot(lines: &[Line]) -> String {
+    let (left, width, step) = (330.0, 420.0, 22.0);
+    let height = step * (lines.len() as f64 + 2.0);
+    let place = |ratio: f64| left + width * ((ratio.log2() + 4.0) / 8.0).clamp(0.0, 1.0);
+    let mut text = format!(
+        "<svg xmlns=\"http://www.w3.org/2000/svg\" width=\"800\" height=\"{height}\" font-family=\"sans-serif\" font-size=\"12\">\n\
+         <rect width=\"100%\" height=\"100%\" fill=\"white\"/>\n"
+    );
+    for power in [-4, -2, 0, 2, 4] {
+        let ratio = 2f64.powi(power);
+        let (x, colour) = (place(ratio), if power == 0 { "#000" } else { "#ccc" });
+        writeln!(text, "<line x1=\"{x}\" y1=\"20\" x2=\"{x}\" y2=\"{}\" stroke=\"{colour}\"/>", height - 10.0).expect("a line");
+        writeln!(text, "<text x=\"{x}\" y=\"14\" text-anchor=\"middle\">{ratio}</text>").expect("a line");
+    }
+    for (at, line) in lines.iter().enumerate() {
+        let y = 26.0 + step * at as f64;
+        let (one, end) = (place(1.0), place(line.ratio()));
+        let colour = if line.ratio() <= 1.0 { "#2a7" } else { "#c63" };
+        writeln!(text, "<text x=\"{}\" y=\"{}\" text-anchor=\"end\">{}</text>", left - 10.0, y + 12.0, line.name).expect("a line");
+        writeln!(text, "<rect x=\"{}\" y=\"{y}\" width=\"{}\" height=\"16\" fill=\"{colour}\"/>", one.min(end), (one - end).abs().max(1.0)).expect("a line");
+        writeln!(text, "<text x=\"{}\" y=\"{}\">{:.2}</text>", one.max(end) + 5.0, y + 12.0, line.ratio()).expect("a line");
+    }
+    text + "</svg>\n"
+}
+
+/// The page with the table between its marks written anew.
+fn page(old: &str, text: &str) -> String {
+    const BEGIN: &str = "<!-- figures -->\n";
+    const END: &str = "<!-- end of figures -->";
+    let (before, rest) = old.split_once(BEGIN).expect("a line that says where the figures begin");
+    let (_, after) = rest.split_once(END).expect("a line that says where they end");
+    format!("{before}{BEGIN}{text}{END}{after}")
+}
+
+fn main() {
+    let clear = clearing();
+    let lines = measured();
+    let small = lines[0].proved.as_secs_f64() / clear.as_secs_f64();
+    let text = format!("{}\nThe session's first program takes {small:.1} times the time of clearing and copying.\n", table(&lines, clear));
+    print!("{text}");
+    if let Some(folder) = env::args().nth(1) {
+        let path = Path::new(&folder).join("performance.md");
+        let old = fs::read_to_string(&path).expect("the page");
+        fs::write(&path, page(&old, &text)).expect("the page is written");
+        fs::write(Path::new(&folder).join("performance.svg"), plot(&lines)).expect("the plot is written");
+    }
+}

@@ -1,0 +1,133 @@
+//! Times of the proved check of a state as ratios to the model's reading, in one run: `cargo run --release --bin bench_states`.
+//! Both get the same buffer. The states stand at the limit of the weight, but for the first two.
+
+use compare::plans::short_name;
+use compare::states::{check, figures, Answer, FIGURES};
+use compare::timing::time;
+use model::state::HEAVIEST;
+use model::text::{decode, BUFFER};
+use std::hint::black_box;
+
+const FRESH: &[u8] = b"O\t0\nP\tadmin\tdesk\nN\tanyone\nD\tanyone\n";
+
+/// The state of document 01's session after its two programs.
+const SESSION: &[u8] = b"O\t2\nP\tadmin\tdesk\nN\tanyone\nP\trosa\tr1\nD\tanyone\nV\tqueue\tL\nR\nF\tsong\tBlue Moon\nF\tkey\tF\n\
+                         A\tqueue\tadmin\ta\trosa\n";
+
+/// A fresh state's principals, then others, the delegator, and the rest.
+fn state(people: &[u8], rest: &[u8]) -> Vec<u8> {
+    let head = b"O\t0\nP\tadmin\tdesk\nN\tanyone\n";
+    [&head[..], people, b"D\tanyone\n", rest].concat()
+}
+
+fn repeated(count: usize, line: impl Fn(usize) -> Vec<u8>) -> Vec<u8> {
+    (0..count).flat_map(line).collect()
+}
+
+/// So many assertions among 16 principals on 4 variables.
+fn assertions(count: usize) -> Vec<u8> {
+    repeated(count, |n| {
+        let (x, q, r, p) = (n % 4, n / 4 % 16, n / 64 % 4, n / 256 % 16);
+        format!("A\t{}\t{}\t{}\t{}\n", letter(x), letter(q), ["r", "w", "a", "d"][r], letter(p)).into_bytes()
+    })
+}
+
+/// So many assertions on one variable, each from and to one of the last of so many principals.
+fn late_assertions(count: usize, principals: usize) -> Vec<u8> {
+    repeated(count, |n| {
+        let (q, r, p) = (short_name(principals - 1 - n % 16), n / 16 % 4, short_name(principals - 1 - n / 64));
+        [b"A\tx\t", &q[..], b"\t", &b"rwad"[r..r + 1], b"\t", &p[..], b"\n"].concat()
+    })
+}
+
+/// Names of eight letters that all have one print (crates/store/specs/Held.antt), the first of so many: those whose bytes are the digits,
+/// in base 31, of a number with this print as its rest.
+fn one_print(count: usize) -> Vec<Vec<u8>> {
+    let mut found = Vec::new();
+    for turn in 0.. {
+        names_of(0x5eed_0000 + (turn << 32), 8, &mut Vec::new(), &mut found);
+        if found.len() >= count {
+            break;
+        }
+    }
+    found.truncate(count);
+    found
+}
+
+/// The names of a length that are this number in base 31; `behind` is what follows, last byte first.
+fn names_of(number: u64, length: usize, behind: &mut Vec<u8>, found: &mut Vec<Vec<u8>>) {
+    if length == 0 {
+        if number == 0 && behind[7].is_ascii_alphabetic() {
+            found.push(behind.iter().rev().copied().collect());
+        }
+        return;
+    }
+    for byte in b'0'..=b'z' {
+        let word = byte.is_ascii_alphanumeric() || byte == b'_';
+        if word && number >= u64::from(byte) && (number - u64::from(byte)) % 31 == 0 {
+            behind.push(byte);
+            names_of((number - u64::from(byte)) / 31, length - 1, behind, found);
+            behind.pop();
+        }
+    }
+}
+
+fn letter(n: usize) -> char {
+    (b'A' + n as u8) as char
+}
+
+fn cases() -> Vec<(&'static str, Vec<u8>)> {
+    let named = |before: &'static str, after: &'static str| {
+        move |n: usize| [before.as_bytes(), &short_name(n), after.as_bytes()].concat()
+    };
+    let same = one_print(908);
+    let people = repeated(16, |n| format!("P\t{}\t\n", letter(n)).into_bytes());
+    let lists = repeated(4, |n| format!("V\t{}\tL\n", letter(n)).into_bytes());
+    vec![
+        ("a fresh state", FRESH.to_vec()),
+        ("the session of 01", SESSION.to_vec()),
+        ("one long string", state(b"", &[b"V\tx\tS\t", &[b's'; 8_182][..], b"\n"].concat())),
+        ("many empty elements", state(b"", &[b"V\tx\tL\n", &b"S\t\n".repeat(8_182)[..]].concat())),
+        ("many records of one field", state(b"", &[b"V\tx\tL\n", &b"R\nF\tl\t\n".repeat(2_727)[..]].concat())),
+        ("one record of many fields", state(b"", &[b"V\tx\tR\n", &repeated(2_700, named("F\t", "\t\n"))[..]].concat())),
+        ("many principals", state(&repeated(2_700, named("P\t", "\t\n")), b"")),
+        ("principals of one print", state(&same.iter().flat_map(|name| [b"P\t", &name[..], b"\t\n"].concat()).collect::<Vec<u8>>(), b"")),
+        ("many variables", state(b"", &repeated(2_700, named("V\t", "\tS\t\n")))),
+        ("many assertions", state(&people, &[lists, assertions(2_034)].concat())),
+        (
+            "assertions and principals",
+            state(&repeated(1_350, named("P\t", "\t\n")), &[b"V\tx\tL\n".to_vec(), late_assertions(680, 1_350)].concat()),
+        ),
+    ]
+}
+
+fn main() {
+    println!(
+        "{:<26} {:>6} {:>6} {:>5} {:>5} {:>5} {:>10} {:>10} {:>7}",
+        "state", "weight", "bytes", "p", "v", "a", "proved", "model", "ratio"
+    );
+    let mut out = vec![0; FIGURES];
+    let zeros = vec![0; BUFFER];
+    let tables = time(|| usize::from(check(black_box(&zeros), &mut out) == Answer::Bad));
+    println!("{:<26} {:>6} {:>6} {:>5} {:>5} {:>5} {tables:>10.2?}", "no state: zeros", "", 0, "", "", "");
+    for (name, mut buffer) in cases() {
+        let bytes = buffer.len();
+        buffer.resize(BUFFER, 0);
+        let (state, _) = decode(&buffer).unwrap_or_else(|| panic!("{name}: not well formed"));
+        assert!(state.weight() <= HEAVIEST);
+        assert_eq!(check(&buffer, &mut out), Answer::Found(0, &figures(&state)[..]), "{name}");
+        let proved = time(|| match check(black_box(&buffer), &mut out) {
+            Answer::Found(_, figures) => figures.len(),
+            _ => 0,
+        });
+        let model = time(|| decode(black_box(&buffer)).map_or(0, |(_, length)| length));
+        println!(
+            "{name:<26} {:>6} {bytes:>6} {:>5} {:>5} {:>5} {proved:>10.2?} {model:>10.2?} {:>7.2}",
+            state.weight(),
+            state.principals.count(),
+            state.variables.count(),
+            state.standing().len(),
+            proved.as_secs_f64() / model.as_secs_f64()
+        );
+    }
+}

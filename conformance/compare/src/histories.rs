@@ -1,0 +1,165 @@
+//! Programs that mean something to one another: several principals share a few variables, hand rights on and withdraw them, fill lists and
+//! come near the weight's limit. Most can be done, many cannot.
+
+use crate::programs;
+use crate::random::Random;
+
+pub const PRINCIPALS: [&str; 6] = ["admin", "anyone", "bob", "carol", "dave", "eve"];
+pub const VARIABLES: [&str; 6] = ["list", "x", "r", "queue", "song", "y"];
+const LOCALS: [&str; 3] = ["l", "m", "x"];
+const RIGHTS: [&str; 4] = ["read", "write", "append", "delegate"];
+const LABELS: [&str; 3] = ["a", "b", "key"];
+
+fn one<'a>(random: &mut Random, words: &[&'a str]) -> &'a str {
+    words[random.below(words.len())]
+}
+
+/// A short text mostly; a long one where the weight's limit is to be met.
+fn string(random: &mut Random) -> String {
+    let length = match random.below(60) {
+        0 => 8_000 + random.below(400),
+        1 | 2 => 1_000 + random.below(3_500),
+        _ => random.below(9),
+    };
+    let word = one(random, &["song ", "Blue Moon", "a", "-;,.?!_ 0"]);
+    format!("\"{}\"", word.chars().cycle().take(length).collect::<String>())
+}
+
+/// How many of the principals and of the variables the opening makes. Names are mostly of these.
+#[derive(Clone, Copy)]
+pub struct World {
+    principals: usize,
+    variables: usize,
+}
+
+impl World {
+    pub fn new(random: &mut Random) -> World {
+        World { principals: 3 + random.below(4), variables: 2 + random.below(5) }
+    }
+
+    fn principal(self, random: &mut Random) -> &'static str {
+        let known = if random.below(24) == 0 { PRINCIPALS.len() } else { self.principals };
+        PRINCIPALS[random.below(known)]
+    }
+
+    fn variable(self, random: &mut Random) -> &'static str {
+        let known = if random.below(24) == 0 { VARIABLES.len() } else { self.variables };
+        VARIABLES[random.below(known)]
+    }
+}
+
+fn operand(random: &mut Random, world: World) -> String {
+    match random.below(12) {
+        0..=3 => world.variable(random).to_string(),
+        4 => one(random, &LOCALS).to_string(),
+        5 => format!("{}.{}", one(random, &["r", "r", "x", "l"]), one(random, &LABELS)),
+        _ => string(random),
+    }
+}
+
+fn expression(random: &mut Random, world: World) -> String {
+    match random.below(10) {
+        0 | 1 => "[]".to_string(),
+        2 | 3 => {
+            let fields: Vec<String> = (0..1 + random.below(3))
+                .map(|at| {
+                    let label = if random.below(12) == 0 { "a" } else { LABELS[at] };
+                    let value = if random.below(3) == 0 { operand(random, world) } else { string(random) };
+                    format!("{label}={value}")
+                })
+                .collect();
+            format!("{{{}}}", fields.join(","))
+        }
+        _ => operand(random, world),
+    }
+}
+
+/// What foreach replaces by: y is its element.
+fn replacement(random: &mut Random, world: World) -> String {
+    match random.below(6) {
+        0 | 1 => "y1".to_string(),
+        2 => "{a=y1.a,b=\"0\"}".to_string(),
+        3 => "{key=y1}".to_string(),
+        4 => string(random),
+        _ => expression(random, world),
+    }
+}
+
+fn delegation(random: &mut Random, world: World, sender: &str, word: &str) -> String {
+    let target = if random.below(4) == 0 { "all" } else { world.variable(random) };
+    let right = one(random, &RIGHTS);
+    let giver = if random.below(4) == 0 { world.principal(random) } else { sender };
+    format!("{word} delegation {target} {giver} {right} -> {}", world.principal(random))
+}
+
+fn command(random: &mut Random, world: World, sender: &str) -> String {
+    let is_admin = sender == "admin" || random.below(12) == 0;
+    match random.below(20) {
+        0 if is_admin => format!("create principal {} \"s\"", one(random, &PRINCIPALS)),
+        1 if is_admin => format!("default delegator = {}", world.principal(random)),
+        2 => format!("change password {} \"{}\"", if is_admin { world.principal(random) } else { sender }, one(random, &["s", "s", "s", "t"])),
+        3..=6 => format!("set {} = {}", world.variable(random), expression(random, world)),
+        7..=9 => format!("append to {} with {}", one(random, &["list", "list", "queue", "l"]), expression(random, world)),
+        10 | 11 => format!("local {} = {}", one(random, &LOCALS), expression(random, world)),
+        12 | 13 => {
+            let element = if random.below(8) == 0 { world.variable(random) } else { "y1" };
+            format!("foreach {element} in {} replacewith {}", one(random, &["list", "list", "queue", "l"]), replacement(random, world))
+        }
+        14..=17 => delegation(random, world, sender, "set"),
+        _ => delegation(random, world, sender, "delete"),
+    }
+}
+
+/// A program of a principal who mostly knows the password. `last` may end the history.
+fn program(random: &mut Random, world: World, last: bool) -> Vec<u8> {
+    let sender = if random.below(3) == 0 { "admin" } else { world.principal(random) };
+    let password = if random.below(16) == 0 { one(random, &["t", ""]) } else { "s" };
+    let mut lines = vec![format!("as principal {sender} password \"{password}\" do")];
+    for _ in 0..random.below(4) {
+        lines.push(command(random, world, sender));
+    }
+    lines.push(if last && random.below(2) == 0 { "exit".to_string() } else { format!("return {}", expression(random, world)) });
+    lines.push("***".to_string());
+    lines.join("\n").into_bytes()
+}
+
+/// One program of a history: by the generator above, of odd spelling, or damaged.
+pub fn next(random: &mut Random, world: World, last: bool) -> Vec<u8> {
+    let mut text = match random.below(12) {
+        0 => programs::whole(random),
+        _ => program(random, world, last),
+    };
+    if random.below(12) == 0 {
+        programs::damage(random, &mut text);
+    }
+    text
+}
+
+/// What admin does first, so that there is something to share.
+pub fn opening(random: &mut Random, world: World) -> Vec<u8> {
+    let mut lines = vec!["as principal admin password \"s\" do".to_string()];
+    for name in &PRINCIPALS[2..world.principals] {
+        lines.push(format!("create principal {name} \"s\""));
+    }
+    for name in &VARIABLES[..world.variables] {
+        let value = match *name {
+            "list" | "queue" => "[]",
+            "r" => "{a=\"1\",key=\"F\"}",
+            _ => "\"text\"",
+        };
+        lines.push(format!("set {name} = {value}"));
+    }
+    for _ in 0..random.below(4) {
+        lines.push(format!("append to list with {}", one(random, &["\"one\"", "{a=\"1\"}", "\"\""])));
+    }
+    for _ in 0..random.below(16) {
+        lines.push(format!(
+            "set delegation {} admin {} -> {}",
+            VARIABLES[random.below(world.variables)],
+            one(random, &RIGHTS),
+            PRINCIPALS[random.below(world.principals)]
+        ));
+    }
+    lines.push("return \"\"\n***".to_string());
+    lines.join("\n").into_bytes()
+}

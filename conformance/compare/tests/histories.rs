@@ -1,0 +1,192 @@
+//! Histories of calls, beside the model: programs of several principals, damaged programs and states, buffers of wrong sizes, a question
+//! after every call. The answer, and every byte of the state, of the work buffer and of the output, are compared.
+//!
+//! In the gate 20,000 histories are run. For more of them, or others:
+//!
+//!     HISTORIES=1000000 SEED=7 cargo test --offline --release -p compare --test histories -- --nocapture
+
+use std::collections::BTreeMap;
+use std::env;
+use std::thread;
+
+use compare::histories::{next, opening, World, PRINCIPALS, VARIABLES};
+use compare::random::Random;
+use compare::server::{ask, make, run, Answer};
+use model::calls;
+use model::text::BUFFER;
+
+/// How often each status, each kind of end, each number and each answer came.
+type Seen = BTreeMap<String, u64>;
+
+const STATUSES: [&str; 11] = [
+    "CREATE_PRINCIPAL", "CHANGE_PASSWORD", "SET", "APPEND", "LOCAL", "FOREACH", "SET_DELEGATION", "DELETE_DELEGATION",
+    "DEFAULT_DELEGATOR", "RETURNING", "EXITING",
+];
+const ENDS: [&str; 5] = ["Returned", "Exited", "Denied", "Failed", "Full"];
+const NUMBERS: [&str; 12] =
+    ["run 1", "run 2", "run 3", "run 4", "run 5", "ask 2", "ask 4", "ask 6", "ask 7", "make 2", "make 8", "make 9"];
+const ANSWERS: [&str; 3] = ["yes", "no", "ready"];
+
+fn note(seen: &mut Seen, key: &str) {
+    *seen.entry(key.to_string()).or_default() += 1;
+}
+
+/// The lent buffers of one side.
+#[derive(Clone, PartialEq)]
+struct Lent {
+    state: Vec<u8>,
+    work: Vec<u8>,
+    output: Vec<u8>,
+}
+
+fn statuses(seen: &mut Seen, output: &[u8]) {
+    for line in output.split(|b| *b == b'\n') {
+        if let Some(rest) = line.strip_prefix(b"{\"status\":\"") {
+            let word = rest.split(|b| *b == b'"').next().unwrap_or(b"");
+            note(seen, &String::from_utf8_lossy(word));
+        }
+    }
+}
+
+/// The same program on both sides.
+fn run_both(seen: &mut Seen, proved: &mut Lent, model: &mut Lent, program: &[u8]) {
+    let answer = run(&mut proved.state, &mut proved.work, &mut proved.output, program);
+    let expected = match calls::run(&mut model.state, &mut model.work, &mut model.output, program) {
+        Ok(report) => {
+            note(seen, &format!("{:?}", report.end));
+            statuses(seen, &model.output[..report.bytes]);
+            Answer::Ended(report)
+        }
+        Err(refusal) => {
+            note(seen, &format!("run {}", refusal.number()));
+            Answer::Wrong(refusal.number())
+        }
+    };
+    let text = String::from_utf8_lossy(program);
+    assert_eq!(answer, expected, "{text}");
+    assert!(proved.output == model.output, "output of {text}");
+    assert!(proved.state == model.state, "state after {text}");
+    assert!(proved.work == model.work, "work buffer after {text}");
+}
+
+fn one<'a>(random: &mut Random, words: &[&'a str]) -> &'a str {
+    words[random.below(words.len())]
+}
+
+fn ask_both(seen: &mut Seen, random: &mut Random, state: &[u8]) {
+    let name = if random.below(12) == 0 { "nobody" } else { one(random, &PRINCIPALS) };
+    let variable = one(random, &VARIABLES);
+    let right = b"rwadrwadrwadx"[random.below(13)];
+    let answer = ask(state, name.as_bytes(), variable.as_bytes(), right);
+    let expected = match calls::ask(state, name.as_bytes(), variable.as_bytes(), right) {
+        Ok(Some(length)) => {
+            note(seen, "yes");
+            Answer::Yes(length)
+        }
+        Ok(None) => {
+            note(seen, "no");
+            Answer::No
+        }
+        Err(refusal) => {
+            note(seen, &format!("ask {}", refusal.number()));
+            Answer::Wrong(refusal.number())
+        }
+    };
+    assert_eq!(answer, expected, "{name} {variable} {right}");
+}
+
+fn make_both(seen: &mut Seen, size: usize, password: &[u8]) -> Lent {
+    let mut state = vec![7; size];
+    let mut expected = state.clone();
+    let answer = make(&mut state, password);
+    let outcome = match calls::make(&mut expected, password) {
+        Ok(()) => {
+            note(seen, "ready");
+            Answer::Ready
+        }
+        Err(refusal) => {
+            note(seen, &format!("make {}", refusal.number()));
+            Answer::Wrong(refusal.number())
+        }
+    };
+    assert_eq!(answer, outcome, "{size} bytes, {password:?}");
+    assert!(state == expected, "{size} bytes, {password:?}");
+    Lent { state, work: vec![1; BUFFER], output: vec![2; BUFFER] }
+}
+
+/// A call on buffers one of which has another size, or on a state one byte of which is changed. The history goes on with the buffers
+/// that it had.
+fn call_aside(seen: &mut Seen, random: &mut Random, lent: &Lent, program: &[u8]) {
+    let mut aside = lent.clone();
+    let size = [0, BUFFER - 1, BUFFER + 1][random.below(3)];
+    match random.below(6) {
+        0 => aside.output.resize(size, 0),
+        1 => aside.state.resize(size, 0),
+        2 => aside.work.resize(size, 0),
+        _ => {
+            let used = aside.state.iter().rposition(|b| *b != 0).unwrap_or(0) + 2;
+            aside.state[random.below(used)] = b"OCPNDVSRLFA\t\n01ab\0\xff"[random.below(19)];
+        }
+    }
+    let mut expected = aside.clone();
+    ask_both(seen, random, &aside.state);
+    run_both(seen, &mut aside, &mut expected, program);
+}
+
+fn history(seen: &mut Seen, random: &mut Random) {
+    match random.below(24) {
+        0 => drop(make_both(seen, [0, BUFFER - 1, BUFFER + 1][random.below(3)], b"s")),
+        1 => drop(make_both(seen, BUFFER, b"a\"b")),
+        2 => drop(make_both(seen, BUFFER, &vec![b'a'; 1_023 + random.below(4)])),
+        _ => {}
+    }
+    let mut proved = make_both(seen, BUFFER, b"s");
+    let mut model = proved.clone();
+    let calls = 2 + random.below(12);
+    let world = World::new(random);
+    let first = opening(random, world);
+    run_both(seen, &mut proved, &mut model, &first);
+    for at in 0..calls {
+        let program = next(random, world, at + 3 > calls);
+        if random.below(16) == 0 {
+            call_aside(seen, random, &proved, &program);
+        }
+        run_both(seen, &mut proved, &mut model, &program);
+        ask_both(seen, random, &model.state);
+    }
+}
+
+fn setting(name: &str, otherwise: u64) -> u64 {
+    env::var(name).ok().and_then(|text| text.parse().ok()).unwrap_or(otherwise)
+}
+
+#[test]
+fn histories() {
+    const THREADS: u64 = 2;
+    let count = setting("HISTORIES", 20_000);
+    let seed = setting("SEED", 20_261_115);
+    println!("{count} histories, seed {seed}");
+    let workers: Vec<_> = (0..THREADS)
+        .map(|worker| {
+            thread::spawn(move || {
+                let mut seen = Seen::new();
+                for at in (worker..count).step_by(THREADS as usize) {
+                    history(&mut seen, &mut Random(seed.wrapping_mul(1_000_003).wrapping_add(at)));
+                }
+                seen
+            })
+        })
+        .collect();
+    let mut seen = Seen::new();
+    for worker in workers {
+        for (key, times) in worker.join().expect("a history that differs") {
+            *seen.entry(key).or_default() += times;
+        }
+    }
+    for (key, times) in &seen {
+        println!("{key}: {times}");
+    }
+    for key in STATUSES.iter().chain(&ENDS).chain(&NUMBERS).chain(&ANSWERS) {
+        assert!(seen.contains_key(*key), "{key} never came");
+    }
+}

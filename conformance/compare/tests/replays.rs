@@ -1,0 +1,213 @@
+//! Scripts of calls whose transcript is stored: conformance/replays/NAME.replay and NAME.transcript. Each is played twice, by the proved server and by
+//! the model, and both transcripts are compared with the stored one, byte for byte.
+//!
+//! A script has one step a line; `#` starts a comment, and `{{TEXT*N}}` stands for TEXT N times.
+//!
+//!     make PASSWORD                  a server in the state's buffer; `make-sized N PASSWORD` in one of N bytes
+//!     load                           the lines up to `end` become the state's text, `|` standing for a tab
+//!     run                            the lines up to `***` are the program; `run-sized STATE WORK OUTPUT` lends buffers of these sizes
+//!     ask NAME VARIABLE RIGHT        the question; `ask-sized N NAME VARIABLE RIGHT` on N bytes
+//!     show                           the state's text and its weight
+//!
+//! A transcript is written anew, by the proved server, with REPLAYS=write in the environment; read what changed before it is stored.
+
+use std::env;
+use std::fmt::Write;
+use std::fs;
+use std::path::{Path, PathBuf};
+
+use compare::server::{self, Answer};
+use model::calls;
+use model::text::{decode, BUFFER};
+
+/// One of the two sides.
+trait Side {
+    fn make(&self, state: &mut [u8], password: &[u8]) -> Answer;
+    fn run(&self, state: &mut [u8], work: &mut [u8], output: &mut [u8], program: &[u8]) -> Answer;
+    fn ask(&self, state: &[u8], name: &[u8], variable: &[u8], right: u8) -> Answer;
+}
+
+struct Proved;
+
+impl Side for Proved {
+    fn make(&self, state: &mut [u8], password: &[u8]) -> Answer {
+        server::make(state, password)
+    }
+
+    fn run(&self, state: &mut [u8], work: &mut [u8], output: &mut [u8], program: &[u8]) -> Answer {
+        server::run(state, work, output, program)
+    }
+
+    fn ask(&self, state: &[u8], name: &[u8], variable: &[u8], right: u8) -> Answer {
+        server::ask(state, name, variable, right)
+    }
+}
+
+struct Model;
+
+impl Side for Model {
+    fn make(&self, state: &mut [u8], password: &[u8]) -> Answer {
+        calls::make(state, password).map_or_else(|refusal| Answer::Wrong(refusal.number()), |()| Answer::Ready)
+    }
+
+    fn run(&self, state: &mut [u8], work: &mut [u8], output: &mut [u8], program: &[u8]) -> Answer {
+        calls::run(state, work, output, program).map_or_else(|refusal| Answer::Wrong(refusal.number()), Answer::Ended)
+    }
+
+    fn ask(&self, state: &[u8], name: &[u8], variable: &[u8], right: u8) -> Answer {
+        match calls::ask(state, name, variable, right) {
+            Ok(Some(length)) => Answer::Yes(length),
+            Ok(None) => Answer::No,
+            Err(refusal) => Answer::Wrong(refusal.number()),
+        }
+    }
+}
+
+/// `{{TEXT*N}}` in a line.
+fn expanded(line: &str) -> String {
+    let mut text = String::new();
+    let mut rest = line;
+    while let Some((before, after)) = rest.split_once("{{") {
+        let (inside, later) = after.split_once("}}").expect("}} after {{");
+        let (piece, times) = inside.rsplit_once('*').expect("* between {{ and }}");
+        text.push_str(before);
+        text.push_str(&piece.repeat(times.parse().expect("a number after *")));
+        rest = later;
+    }
+    text + rest
+}
+
+/// A player of one script.
+struct Play<'a> {
+    side: &'a dyn Side,
+    state: Vec<u8>,
+    transcript: String,
+}
+
+impl Play<'_> {
+    fn say(&mut self, step: &str, answer: Answer, unchanged: bool) {
+        let said = match answer {
+            Answer::Wrong(number) if unchanged => format!("refused with {number}, nothing changed"),
+            Answer::Wrong(number) => format!("refused with {number}, but something changed"),
+            Answer::Ended(report) => format!("{:?}, lines {}, bytes {}", report.end, report.lines, report.bytes),
+            Answer::Yes(length) => format!("yes, {length} long"),
+            other => format!("{other:?}").to_lowercase(),
+        };
+        writeln!(self.transcript, "{step}: {said}").expect("a line");
+    }
+
+    fn make(&mut self, step: &str, size: usize, password: &str) {
+        let mut state = vec![7; size];
+        let answer = self.side.make(&mut state, password.as_bytes());
+        self.say(step, answer, state == vec![7; size]);
+        if answer == Answer::Ready {
+            self.state = state;
+        }
+    }
+
+    fn run(&mut self, step: &str, sizes: [usize; 3], program: &str) {
+        let mut state = self.state.clone();
+        state.resize(sizes[0], 0);
+        let (mut work, mut output) = (vec![3; sizes[1]], vec![5; sizes[2]]);
+        let before = state.clone();
+        let answer = self.side.run(&mut state, &mut work, &mut output, program.as_bytes());
+        let unchanged = state == before && work == vec![3; sizes[1]] && output == vec![5; sizes[2]];
+        self.say(step, answer, unchanged);
+        if let Answer::Ended(report) = answer {
+            self.transcript += &String::from_utf8_lossy(&output[..report.bytes]);
+            assert!(output[report.bytes..].iter().chain(&work).all(|b| *b == 0), "zeros after {program}");
+            self.state = state;
+        }
+    }
+
+    fn show(&mut self) {
+        let used = self.state.iter().rposition(|b| *b != 0).map_or(0, |at| at + 1);
+        self.transcript += &String::from_utf8_lossy(&self.state[..used]).replace('\t', "|");
+        let weight = decode(&self.state).map_or_else(|| "none".to_string(), |(state, _)| state.weight().to_string());
+        writeln!(self.transcript, "weight {weight}").expect("a line");
+    }
+}
+
+/// The lines up to one that says `last`, which is taken as well.
+fn block<'a>(lines: &mut impl Iterator<Item = &'a str>, last: &str) -> Vec<String> {
+    let mut taken = Vec::new();
+    for line in lines {
+        taken.push(expanded(line));
+        if line == last {
+            break;
+        }
+    }
+    taken
+}
+
+fn played(side: &dyn Side, script: &str) -> String {
+    let mut play = Play { side, state: vec![0; BUFFER], transcript: String::new() };
+    let mut lines = script.lines();
+    while let Some(line) = lines.next() {
+        if line.is_empty() || line.starts_with('#') {
+            writeln!(play.transcript, "{line}").expect("a line");
+            continue;
+        }
+        let step = line;
+        let (word, rest) = line.split_once(' ').unwrap_or((line, ""));
+        let rest = expanded(rest);
+        let words: Vec<&str> = rest.split(' ').collect();
+        let number = |at: usize| words[at].parse::<usize>().expect("a size");
+        match word {
+            "make" => play.make(step, BUFFER, &rest),
+            "make-sized" => play.make(step, number(0), words[1]),
+            "load" => {
+                let mut text = block(&mut lines, "end");
+                text.pop();
+                play.state = text.iter().map(|line| line.replace('|', "\t") + "\n").collect::<String>().into_bytes();
+                play.state.resize(BUFFER, 0);
+            }
+            "run" => play.run(step, [BUFFER; 3], &block(&mut lines, "***").join("\n")),
+            "run-sized" => {
+                let sizes = [number(0), number(1), number(2)];
+                play.run(step, sizes, &block(&mut lines, "***").join("\n"));
+            }
+            "ask" => {
+                let answer = side.ask(&play.state, words[0].as_bytes(), words[1].as_bytes(), words[2].as_bytes()[0]);
+                play.say(step, answer, true);
+            }
+            "ask-sized" => {
+                let mut state = play.state.clone();
+                state.resize(number(0), 0);
+                let answer = side.ask(&state, words[1].as_bytes(), words[2].as_bytes(), words[3].as_bytes()[0]);
+                play.say(step, answer, true);
+            }
+            "show" => play.show(),
+            other => panic!("no step is called {other}"),
+        }
+    }
+    play.transcript
+}
+
+fn scripts() -> Vec<PathBuf> {
+    let folder = Path::new(env!("CARGO_MANIFEST_DIR")).join("../replays");
+    let entries = fs::read_dir(folder).expect("conformance/replays");
+    let mut paths: Vec<PathBuf> = entries.map(|entry| entry.expect("a file").path()).collect();
+    paths.retain(|path| path.extension().is_some_and(|extension| extension == "replay"));
+    paths.sort();
+    paths
+}
+
+#[test]
+fn transcripts_are_as_stored() {
+    let scripts = scripts();
+    assert!(!scripts.is_empty(), "no script");
+    for path in scripts {
+        let script = fs::read_to_string(&path).expect("a script");
+        let stored = path.with_extension("transcript");
+        let proved = played(&Proved, &script);
+        if env::var("REPLAYS").is_ok_and(|value| value == "write") {
+            fs::write(&stored, &proved).expect("the transcript is written");
+        }
+        let expected = fs::read_to_string(&stored).expect("a stored transcript");
+        let name = path.display();
+        assert_eq!(played(&Model, &script), proved, "{name}: the model and the proved server differ");
+        assert_eq!(proved, expected, "{name}: not as stored");
+        println!("{name}: {} lines as stored", expected.lines().count());
+    }
+}
