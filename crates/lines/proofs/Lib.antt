@@ -1,4 +1,3 @@
--- Laws of cut fields, of keywords and of decimal numbers.
+-- Laws of cut fields and of decimal numbers.
 pub mod Cuts
-pub mod Keywords
 pub mod Decimals

@@ -6,9 +6,9 @@ ghost use mathlib.Core.Bool.{Bool, true, false};
 ghost use Prim.Native.Nat.{_+_, _≤_, _<_};
 ghost use lib.Dec.{T};
 ghost use lib.ListN.{length, drop, getD};
-ghost use Rattle.language.specs.Text.{all, member, front};
+ghost use Rattle.language.specs.Text.{all, front};
 ghost use Rattle.language.specs.Bytes.{class, isLetter, wordByte};
-ghost use Rattle.language.specs.Identifiers.{baseKeywords, isName};
+ghost use Rattle.language.specs.Identifiers.{isName};
 ghost use Rattle.text.specs.Meaning.{inAlphabet};
 ghost use Rattle.lines.specs.Cuts.{CutMeant, NumberMeant, isDigit, Worth};
 
@@ -49,32 +49,6 @@ pub fn run_cut(text: &[u8], at: usize, a: Alphabet, stop: u8) -> Cut
     Cut::At(e)
 }
 
-// The keywords, by their first letter.
-fn is_keyword(w: &[u8]) -> bool
-    ensures { λ r. ⌜ r ≡ member (now (w .entry)) baseKeywords ⌝ }
-{
-    if w.len() == 0 {
-        return false;
-    }
-    let first = w[0];
-    match first {
-        b'a' => text::among(b"all append as", w),
-        b'c' => text::among(b"change create concat", w),
-        b'd' => text::among(b"default delegate delegation delegator delete do", w),
-        b'e' => text::among(b"exit equal", w),
-        b'f' => text::among(b"foreach filtereach", w),
-        b'i' => text::among(b"in", w),
-        b'l' => text::among(b"local let", w),
-        b'n' => text::among(b"notequal", w),
-        b'p' => text::among(b"password principal", w),
-        b'r' => text::among(b"read replacewith return", w),
-        b's' => text::among(b"set split", w),
-        b't' => text::among(b"to tolower", w),
-        b'w' => text::among(b"write with", w),
-        _ => false,
-    }
-}
-
 fn is_letter(b: u8) -> bool
     ensures { λ r. ⌜ r ≡ isLetter (class b) ⌝ }
 {
@@ -103,7 +77,7 @@ fn is_name(w: &[u8]) -> bool
     if !is_letter(w[0]) {
         return false;
     }
-    !is_keyword(w)
+    !text::is_keyword(w)
 }
 
 // A name that `stop` ends.

@@ -1,9 +1,6 @@
 -- Laws of the scanner and of the readers.
-pub mod Keywords
 pub mod Lexing
 pub mod Reading
 pub mod Fuel
 pub mod Fields
 pub mod Expressions
-pub mod Phrases
-pub mod Dispatch

@@ -59,6 +59,14 @@ sign-is (Tokens.ident v ∷ ts) e = no-some e
 sign-is (Tokens.text v ∷ ts) e = no-some e
 sign-is (Tokens.wrong ∷ ts) e = no-some e
 
+-- ---- the keyword or mark v that was read, compared with w
+module _ (w : Text) (ts : List Tokens.Token) {v : Text} {us : List Tokens.Token} (e : anySign ts ≡ some (v, us)) where
+  pub sign-same : (v == w) ≡ true → theSign w ts ≡ some (tt, us)
+  sign-same q = ap (theSign w) (sign-is ts e) ∙ rw q
+
+  pub sign-other : (v == w) ≡ false → theSign w ts ≡ none
+  sign-other q = ap (theSign w) (sign-is ts e) ∙ rw q
+
 -- the keyword or mark that was read stands there
 pub the-is : (w : Text) (ts : List Tokens.Token) {us : List Tokens.Token} → theSign w ts ≡ some (tt, us) → ts ≡ Tokens.sign w ∷ us
 the-is w [] e = no-some e

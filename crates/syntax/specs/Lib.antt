@@ -3,5 +3,3 @@ pub mod Tokens
 pub mod Scanning
 pub mod Readers
 pub mod Values
-pub mod Forms
-pub mod Commands

@@ -1,6 +1,4 @@
-// Program text: from the bytes of a program to its commands. Every answer holds places in the text, and no copy of it.
-pub mod command;
-pub mod form;
+// Program text: from its bytes to tokens, values and expressions. Every answer holds places in the text, and no copy of it.
 pub mod reader;
 pub mod scanner;
 pub mod token;

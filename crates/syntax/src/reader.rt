@@ -4,8 +4,10 @@ use text::Span;
 ghost use mathlib.Core.Path.{_≡_};
 ghost use Prim.Native.Nat.{_≤_};
 ghost use lib.ListN.{length, drop};
+ghost use Rattle.language.specs.Text.{_==_};
 ghost use Rattle.language.specs.Tokens.{lex};
 ghost use Rattle.language.specs.Grammar.{theSign, anyName, anyString};
+ghost use Rattle.text.specs.Meaning.{part, Within};
 ghost use Rattle.syntax.specs.Readers.{anySign, nextMeant, NextPlaced, foundMeant, FoundPlaced};
 
 // What was read says nothing but that it was there.
@@ -68,6 +70,16 @@ pub fn string_at(text: &[u8], at: usize) -> Found
     }
 }
 
+// Whether what was read at `place` is `word`.
+pub fn is_sign(text: &[u8], place: Span, word: &[u8]) -> bool
+    requires { ⌜ Within (now text) place ⌝ }
+    ensures { λ r. ⌜ r ≡ (part (now (text .entry)) place == now (word .entry)) ⌝ }
+{
+    let start = place.start;
+    let end = place.end;
+    text::same_bytes(&text[start..end], word)
+}
+
 // The keyword or mark `word`.
 pub fn expect(text: &[u8], at: usize, word: &[u8]) -> Next
     requires { ⌜ at ≤ length (now text) ⌝ }
@@ -78,9 +90,7 @@ pub fn expect(text: &[u8], at: usize, word: &[u8]) -> Next
     let Found::At(s, n) = sign else {
         return Next::No;
     };
-    let start = s.start;
-    let end = s.end;
-    if text::same_bytes(&text[start..end], word) {
+    if is_sign(text, s, word) {
         return Next::At(n);
     }
     Next::No

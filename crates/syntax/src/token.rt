@@ -5,9 +5,7 @@ use text::Span;
 ghost use mathlib.Core.Path.{_≡_};
 ghost use Prim.Native.Nat.{_+_, _≤_, _<_};
 ghost use lib.ListN.{length, drop, getD};
-ghost use Rattle.language.specs.Text.{member};
 ghost use Rattle.language.specs.Bytes.{class, letter, mark};
-ghost use Rattle.language.specs.Identifiers.{keywords};
 ghost use Rattle.language.specs.Tokens.{tokens, lex, lead, pair};
 ghost use Rattle.syntax.specs.Tokens.{tokensMeant, Placed};
 
@@ -21,32 +19,6 @@ pub enum Token {
     Wrong,
 }
 
-// The keywords, by their first letter.
-fn is_keyword(w: &[u8]) -> bool
-    ensures { λ r. ⌜ r ≡ member (now (w .entry)) keywords ⌝ }
-{
-    if w.len() == 0 {
-        return false;
-    }
-    let first = w[0];
-    match first {
-        b'a' => text::among(b"all append as", w),
-        b'c' => text::among(b"change create concat", w),
-        b'd' => text::among(b"default delegate delegation delegator delete do", w),
-        b'e' => text::among(b"exit equal", w),
-        b'f' => text::among(b"foreach filtereach", w),
-        b'i' => text::among(b"in", w),
-        b'l' => text::among(b"local let", w),
-        b'n' => text::among(b"notequal", w),
-        b'p' => text::among(b"password principal", w),
-        b'r' => text::among(b"read replacewith return", w),
-        b's' => text::among(b"set split", w),
-        b't' => text::among(b"to tolower", w),
-        b'w' => text::among(b"write with", w),
-        _ => false,
-    }
-}
-
 // A token that starts with a letter: the whole run of letters, digits and underscores.
 fn word_at(text: &[u8], at: usize) -> Token
     requires { ⌜ at < length (now text) ⌝ }
@@ -55,7 +27,7 @@ fn word_at(text: &[u8], at: usize) -> Token
     ensures placed { λ r. ⌜ Placed (now (text .entry)) at r ⌝ }
 {
     let end = text::run_end(text, at + 1, Alphabet::Word);
-    if is_keyword(&text[at..end]) {
+    if text::is_keyword(&text[at..end]) {
         return Token::Sign(Span { start: at, end }, end);
     }
     if end - at <= 255 {

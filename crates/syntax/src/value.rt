@@ -5,8 +5,9 @@ use crate::token::Token;
 use text::Span;
 ghost use mathlib.Core.Path.{_≡_};
 ghost use Prim.Native.Nat.{ℕ, _≤_, _<_};
+ghost use mathlib.Core.List.{_∷_};
 ghost use lib.ListN.{length, drop};
-ghost use Rattle.language.specs.Tokens.{lex};
+ghost use Rattle.language.specs.Tokens.{lex, sign};
 ghost use Rattle.language.specs.Grammar.{anyOperand, fieldOrVariable, anyExpression};
 ghost use Rattle.text.specs.Meaning.{part, Within};
 ghost use Rattle.syntax.specs.Readers.{nextMeant, NextPlaced};
@@ -81,15 +82,17 @@ pub fn field_at(text: &[u8], at: usize) -> FieldRead
     let OperandRead::Found(v, e) = value else {
         return FieldRead::No;
     };
-    let comma = crate::reader::expect(text, e, b",");
-    if let Next::At(n) = comma {
-        return FieldRead::Found(x, v, true, n);
-    }
-    let brace = crate::reader::expect(text, e, b"}");
-    let Next::At(n) = brace else {
+    let sign = crate::reader::sign_at(text, e);
+    let Found::At(s, n) = sign else {
         return FieldRead::No;
     };
-    FieldRead::Found(x, v, false, n)
+    if crate::reader::is_sign(text, s, b",") {
+        return FieldRead::Found(x, v, true, n);
+    }
+    if crate::reader::is_sign(text, s, b"}") {
+        return FieldRead::Found(x, v, false, n);
+    }
+    FieldRead::No
 }
 
 // The place past the fields of a record and its brace.
@@ -123,26 +126,43 @@ pub enum ExprRead {
     No,
 }
 
+// The expression that starts with a mark, from the place `at` past it: `[]`, or a record.
+fn enclosed(text: &[u8], mark: Span, at: usize) -> ExprRead
+    requires { ⌜ at ≤ length (now text) ⌝ }
+    requires { ⌜ Within (now text) mark ⌝ }
+    ensures meant { λ r. ⌜ exprReadMeant (now (text .entry)) r ≡ anyExpression (sign (part (now (text .entry)) mark) ∷ lex (drop at (now (text .entry)))) ⌝ }
+    ensures placed { λ r. ⌜ ((from : ℕ) → from < at → ExprPlaced (now (text .entry)) from r) ⌝ }
+{
+    if crate::reader::is_sign(text, mark, b"{") {
+        let last = record_end(text, at);
+        let Next::At(n) = last else {
+            return ExprRead::No;
+        };
+        return ExprRead::Found(Expr::Record(at), n);
+    }
+    if crate::reader::is_sign(text, mark, b"[]") {
+        return ExprRead::Found(Expr::Empty, at);
+    }
+    ExprRead::No
+}
+
 pub fn expression_at(text: &[u8], at: usize) -> ExprRead
     requires { ⌜ at ≤ length (now text) ⌝ }
     ensures meant { λ r. ⌜ exprReadMeant (now (text .entry)) r ≡ anyExpression (lex (drop at (now (text .entry)))) ⌝ }
     ensures placed { λ r. ⌜ ExprPlaced (now (text .entry)) at r ⌝ }
 {
-    let empty = crate::reader::expect(text, at, b"[]");
-    if let Next::At(n) = empty {
-        return ExprRead::Found(Expr::Empty, n);
+    let t = crate::scanner::first_token(text, at);
+    match t {
+        Token::End => ExprRead::No,
+        Token::Sign(s, n) => enclosed(text, s, n),
+        Token::Name(s, n) => {
+            let value = dotted(text, s, n);
+            let OperandRead::Found(v, e) = value else {
+                return ExprRead::No;
+            };
+            ExprRead::Found(Expr::Single(v), e)
+        }
+        Token::Quoted(s, n) => ExprRead::Found(Expr::Single(Operand::Quoted(s)), n),
+        Token::Wrong => ExprRead::No,
     }
-    let brace = crate::reader::expect(text, at, b"{");
-    if let Next::At(p) = brace {
-        let last = record_end(text, p);
-        let Next::At(n) = last else {
-            return ExprRead::No;
-        };
-        return ExprRead::Found(Expr::Record(p), n);
-    }
-    let value = operand_at(text, at);
-    let OperandRead::Found(v, n) = value else {
-        return ExprRead::No;
-    };
-    ExprRead::Found(Expr::Single(v), n)
 }

@@ -1,9 +1,10 @@
-// Bytes and texts, for every crate that reads one: the class of a byte, the end of a run, places, and equal texts.
+// Bytes and texts, for every crate that reads one: the class of a byte, the end of a run, places, equal texts and keywords.
 ghost use mathlib.Core.Path.{_≡_};
 ghost use Prim.Native.Nat.{_+_, _≤_};
 ghost use lib.ListN.{length, drop};
-ghost use Rattle.language.specs.Text.{_==_, member, parts, front, bytes};
-ghost use Rattle.language.specs.Bytes.{_∈_, class, inWord, inString, inComment};
+ghost use Rattle.language.specs.Text.{_==_, member, parts, front};
+ghost use Rattle.language.specs.Bytes.{class, wordByte, stringByte, commentByte};
+ghost use Rattle.language.specs.Identifiers.{baseKeywords};
 ghost use Rattle.text.specs.Meaning.{classMeant, inAlphabet, isNot};
 
 // The place of a part of a text: from `start` up to, and without, `end`.
@@ -58,71 +59,43 @@ pub enum Alphabet {
     Comment,
 }
 
-fn in_word(c: Class) -> bool
-    ensures { λ r. ⌜ r ≡ inWord (classMeant c) ⌝ }
-{
-    match c {
-        Class::Letter => true,
-        Class::Digit => true,
-        Class::Space => false,
-        Class::Newline => false,
-        Class::Mark(b) => b == b'_',
-        Class::Foreign => false,
-    }
-}
-
-fn string_mark(b: u8) -> bool
-    ensures { λ r. ⌜ r ≡ (b ∈ bytes "_,;.?!-") ⌝ }
+// The alphabets are written out byte by byte, and not by classes: each is a few tests on a number, which is what a long text costs.
+fn in_word(b: u8) -> bool
+    ensures { λ r. ⌜ r ≡ wordByte b ⌝ }
 {
     match b {
-        b'_' | b',' | b';' | b'.' | b'?' | b'!' | b'-' => true,
+        b'a'..=b'z' | b'A'..=b'Z' | b'0'..=b'9' | b'_' => true,
         _ => false,
     }
 }
 
-fn in_string(c: Class) -> bool
-    ensures { λ r. ⌜ r ≡ inString (classMeant c) ⌝ }
-{
-    match c {
-        Class::Letter => true,
-        Class::Digit => true,
-        Class::Space => true,
-        Class::Newline => false,
-        Class::Mark(b) => string_mark(b),
-        Class::Foreign => false,
-    }
-}
-
-fn comment_mark(b: u8) -> bool
-    ensures { λ r. ⌜ r ≡ (b ∈ bytes ";:.?-!") ⌝ }
+fn in_string(b: u8) -> bool
+    ensures { λ r. ⌜ r ≡ stringByte b ⌝ }
 {
     match b {
-        b';' | b':' | b'.' | b'?' | b'-' | b'!' => true,
+        b'a'..=b'z' | b'A'..=b'Z' | b'0'..=b'9' => true,
+        b' ' | b'_' | b',' | b';' | b'.' | b'?' | b'!' | b'-' => true,
         _ => false,
     }
 }
 
-fn in_comment(c: Class) -> bool
-    ensures { λ r. ⌜ r ≡ inComment (classMeant c) ⌝ }
+fn in_comment(b: u8) -> bool
+    ensures { λ r. ⌜ r ≡ commentByte b ⌝ }
 {
-    match c {
-        Class::Letter => true,
-        Class::Digit => true,
-        Class::Space => true,
-        Class::Newline => false,
-        Class::Mark(b) => comment_mark(b),
-        Class::Foreign => false,
+    match b {
+        b'a'..=b'z' | b'A'..=b'Z' | b'0'..=b'9' => true,
+        b' ' | b';' | b':' | b'.' | b'?' | b'-' | b'!' => true,
+        _ => false,
     }
 }
 
 pub fn in_alphabet(a: Alphabet, b: u8) -> bool
     ensures { λ r. ⌜ r ≡ inAlphabet a b ⌝ }
 {
-    let c = class_of(b);
     match a {
-        Alphabet::Word => in_word(c),
-        Alphabet::Text => in_string(c),
-        Alphabet::Comment => in_comment(c),
+        Alphabet::Word => in_word(b),
+        Alphabet::Text => in_string(b),
+        Alphabet::Comment => in_comment(b),
     }
 }
 
@@ -188,4 +161,30 @@ pub fn among(words: &[u8], w: &[u8]) -> bool
         p = e + 1;
     }
     false
+}
+
+// The keywords of document 01, by their first letter. No state text holds one as a name.
+pub fn is_keyword(w: &[u8]) -> bool
+    ensures { λ r. ⌜ r ≡ member (now (w .entry)) baseKeywords ⌝ }
+{
+    if w.len() == 0 {
+        return false;
+    }
+    let first = w[0];
+    match first {
+        b'a' => among(b"all append as", w),
+        b'c' => among(b"change create concat", w),
+        b'd' => among(b"default delegate delegation delegator delete do", w),
+        b'e' => among(b"exit equal", w),
+        b'f' => among(b"foreach filtereach", w),
+        b'i' => among(b"in", w),
+        b'l' => among(b"local let", w),
+        b'n' => among(b"notequal", w),
+        b'p' => among(b"password principal", w),
+        b'r' => among(b"read replacewith return", w),
+        b's' => among(b"set split", w),
+        b't' => among(b"to tolower", w),
+        b'w' => among(b"write with", w),
+        _ => false,
+    }
 }

@@ -9,10 +9,6 @@ use lib.ListN.{getD}
 use borrow.Author.Needs.{needs}
 use Rattle.lines.proofs.is_name.Statement.{statement}
 use Rattle.lines.proofs.is_name.Tie as tie
-use Rattle.lines.proofs.is_name.Reads as reads
-use Rattle.lines.proofs.is_name.Lts as lts
-use Rattle.lines.proofs.is_keyword.Reads as is-keyword-reads
-use Rattle.lines.proofs.is_letter.Reads as is-letter-reads
 
 returns : tie.Need-returns
 returns c = sym (name-empty (now (c .before .before .args .w)) (c .if1 .taken))

@@ -1,12 +1,8 @@
 use mathlib.Core.Path.{sym, ap, _∙_}
 use Rattle.text.specs.Meaning.{inAlphabet}
-use Rattle.language.specs.Bytes.{inWord, inString, inComment}
 use borrow.Author.Needs.{needs}
 use Rattle.text.proofs.in_alphabet.Statement.{statement}
 use Rattle.text.proofs.in_alphabet.Tie as tie
-
-class-of-requires : tie.Need-class-of-requires
-class-of-requires c κs = search needs
 
 enum-told : tie.Need-enum-told
 enum-told c = search needs
@@ -27,19 +23,18 @@ in-comment-requires : tie.Need-in-comment-requires
 in-comment-requires c κs = search needs
 
 returns : tie.Need-returns
-returns c = c .in-word .ensures ∙ ap inWord (c .before .before .before .class-of .ensures) ∙ sym (ap (λ k. inAlphabet k (c .before .before .before .before .args .b)) (c .before .enum-told .given .1))
+returns c = c .in-word .ensures ∙ sym (ap (λ k. inAlphabet k (c .before .before .before .args .b)) (c .before .enum-told .given .1))
 
 returns-2 : tie.Need-returns-2
-returns-2 c = c .in-string .ensures ∙ ap inString (c .before .before .before .class-of .ensures) ∙ sym (ap (λ k. inAlphabet k (c .before .before .before .before .args .b)) (c .before .enum-told2 .given .1))
+returns-2 c = c .in-string .ensures ∙ sym (ap (λ k. inAlphabet k (c .before .before .before .args .b)) (c .before .enum-told2 .given .1))
 
 returns-3 : tie.Need-returns-3
-returns-3 c = c .in-comment .ensures ∙ ap inComment (c .before .before .before .class-of .ensures) ∙ sym (ap (λ k. inAlphabet k (c .before .before .before .before .args .b)) (c .before .enum-told3 .given .1))
+returns-3 c = c .in-comment .ensures ∙ sym (ap (λ k. inAlphabet k (c .before .before .before .args .b)) (c .before .enum-told3 .given .1))
 
 pub in-alphabet-spec : {M : Type 1} → statement M
 in-alphabet-spec =
     tie.close
     (tie.spec
-    class-of-requires
     enum-told
     in-word-requires
     enum-told-2

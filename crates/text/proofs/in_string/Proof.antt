@@ -1,63 +1,50 @@
-use mathlib.Core.Path.{sym, ap, _∙_}
-use Rattle.text.specs.Meaning.{classMeant}
-use Rattle.language.specs.Bytes.{inString}
-use borrow.Author.Needs.{needs}
+-- `text::in_string` meets its contract: each way through the `match` ends in an interval or at single numbers, where `stringByte` is computed.
+-- Assumes nothing.
+use native.Mathlib.Omega.{arith}
+use mathlib.Core.List.{[], _∷_}
+use mathlib.Core.Bool.{true, false}
+use Rattle.text.proofs.Classes.{in-interval, at-keys, sameBool, same-bool}
+use Rattle.language.specs.Bytes.{stringByte}
 use Rattle.text.proofs.in_string.Statement.{statement}
 use Rattle.text.proofs.in_string.Tie as tie
 
-enum-told : tie.Need-enum-told
-enum-told c = search needs
-
-enum-told-2 : tie.Need-enum-told-2
-enum-told-2 c = search needs
-
-enum-told-3 : tie.Need-enum-told-3
-enum-told-3 c = search needs
-
-enum-told-4 : tie.Need-enum-told-4
-enum-told-4 c = search needs
-
-enum-known-c : tie.Need-enum-known-c
-enum-known-c c = search needs
-
-string-mark-requires : tie.Need-string-mark-requires
-string-mark-requires c κs = search needs
-
-enum-told-5 : tie.Need-enum-told-5
-enum-told-5 c = search needs
-
 returns : tie.Need-returns
-returns c = search needs
+returns c = in-interval sameBool same-bool (λ _. true) stringByte 48 10 [] tt (c .before .before .before .before .before .before .before .args .b) (omega arith) (omega arith) (λ z. z)
 
 returns-2 : tie.Need-returns-2
-returns-2 c = search needs
+returns-2 c = in-interval sameBool same-bool (λ _. true) stringByte 65 26 [] tt (c .before .before .before .before .args .b) (omega arith) (omega arith) (λ z. z)
 
 returns-3 : tie.Need-returns-3
-returns-3 c = search needs
+returns-3 c = in-interval sameBool same-bool (λ _. true) stringByte 97 26 [] tt (c .before .before .before .before .before .before .args .b) (omega arith) (omega arith) (λ z. z)
 
 returns-4 : tie.Need-returns-4
-returns-4 c = search needs
+returns-4 c = in-interval sameBool same-bool (λ _. false) stringByte 0 32 [] tt (c .before .before .before .args .b) (omega arith) (omega arith) (λ z. z)
 
 returns-5 : tie.Need-returns-5
-returns-5 c = c .string-mark .ensures ∙ sym (ap (λ k. inString (classMeant k)) (c .before .before .c .given .1))
+returns-5 c = in-interval sameBool same-bool (λ _. false) stringByte 34 10 [] tt (c .before .before .before .before .before .args .b) (omega arith) (omega arith) (λ z. z)
 
 returns-6 : tie.Need-returns-6
-returns-6 c = search needs
+returns-6 c = in-interval sameBool same-bool (λ _. false) stringByte 47 1 [] tt (c .before .before .before .before .before .before .before .args .b) (omega arith) (omega arith) (λ z. z)
+
+returns-7 : tie.Need-returns-7
+returns-7 c = in-interval sameBool same-bool (λ _. false) stringByte 58 7 (59 ∷ 63 ∷ 95 ∷ []) tt (c .before .before .before .args .b) (omega arith) (omega arith) (c .before .before .match .rest .1)
+
+returns-8 : tie.Need-returns-8
+returns-8 c = in-interval sameBool same-bool (λ _. false) stringByte 91 6 (59 ∷ 63 ∷ 95 ∷ []) tt (c .before .before .before .before .before .args .b) (omega arith) (omega arith) (c .before .before .before .before .match .rest .1)
+
+returns-9 : tie.Need-returns-9
+returns-9 c = in-interval sameBool same-bool (λ _. false) stringByte 123 133 [] tt (c .before .before .before .before .before .before .args .b) (omega arith) (omega arith) (λ z. z)
+
+returns-10 : tie.Need-returns-10
+returns-10 c = at-keys sameBool same-bool (λ _. true) stringByte (59 ∷ 63 ∷ 95 ∷ []) tt (c .before .args .b) (c .match .keys1)
+
+returns-11 : tie.Need-returns-11
+returns-11 c = in-interval sameBool same-bool (λ _. true) stringByte 32 2 [] tt (c .before .before .before .before .args .b) (omega arith) (omega arith) (λ z. z)
+
+returns-12 : tie.Need-returns-12
+returns-12 c = in-interval sameBool same-bool (λ _. true) stringByte 44 3 [] tt (c .before .before .before .before .before .before .args .b) (omega arith) (omega arith) (λ z. z)
 
 pub in-string-spec : {M : Type 1} → statement M
 in-string-spec =
     tie.close
-    (tie.spec
-    enum-told
-    enum-told-2
-    enum-told-3
-    enum-told-4
-    enum-known-c
-    string-mark-requires
-    enum-told-5
-    returns
-    returns-2
-    returns-3
-    returns-4
-    returns-5
-    returns-6)
+    (tie.spec returns returns-2 returns-3 returns-4 returns-5 returns-6 returns-7 returns-8 returns-9 returns-10 returns-11 returns-12)

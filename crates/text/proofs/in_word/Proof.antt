@@ -1,59 +1,38 @@
-use mathlib.Core.Path.{sym, ap}
-use Rattle.text.specs.Meaning.{classMeant}
-use Rattle.language.specs.Bytes.{inWord}
-use borrow.Author.Needs.{needs}
+-- `text::in_word` meets its contract: each way through the `match` ends in an interval or at single numbers, where `wordByte` is computed.
+-- Assumes nothing.
+use native.Mathlib.Omega.{arith}
+use mathlib.Core.List.{[], _∷_}
+use mathlib.Core.Bool.{true, false}
+use Rattle.text.proofs.Classes.{in-interval, at-keys, sameBool, same-bool}
+use Rattle.language.specs.Bytes.{wordByte}
 use Rattle.text.proofs.in_word.Statement.{statement}
 use Rattle.text.proofs.in_word.Tie as tie
 
-enum-told : tie.Need-enum-told
-enum-told c = search needs
-
-enum-told-2 : tie.Need-enum-told-2
-enum-told-2 c = search needs
-
-enum-told-3 : tie.Need-enum-told-3
-enum-told-3 c = search needs
-
-enum-told-4 : tie.Need-enum-told-4
-enum-told-4 c = search needs
-
-enum-known-c : tie.Need-enum-known-c
-enum-known-c c = search needs
-
-enum-told-5 : tie.Need-enum-told-5
-enum-told-5 c = search needs
-
 returns : tie.Need-returns
-returns c = search needs
+returns c = in-interval sameBool same-bool (λ _. false) wordByte 0 48 [] tt (c .before .before .args .b) (omega arith) (omega arith) (λ z. z)
 
 returns-2 : tie.Need-returns-2
-returns-2 c = search needs
+returns-2 c = in-interval sameBool same-bool (λ _. false) wordByte 58 7 [] tt (c .before .before .before .before .args .b) (omega arith) (omega arith) (λ z. z)
 
 returns-3 : tie.Need-returns-3
-returns-3 c = search needs
+returns-3 c = in-interval sameBool same-bool (λ _. false) wordByte 91 6 (95 ∷ []) tt (c .before .before .before .before .before .before .args .b) (omega arith) (omega arith) (c .before .before .before .before .before .match .rest .1)
 
 returns-4 : tie.Need-returns-4
-returns-4 c = search needs
+returns-4 c = in-interval sameBool same-bool (λ _. false) wordByte 123 133 [] tt (c .before .before .before .before .before .before .before .args .b) (omega arith) (omega arith) (λ z. z)
 
 returns-5 : tie.Need-returns-5
-returns-5 c = sym (ap (λ k. inWord (classMeant k)) (c .before .c .given .1))
+returns-5 c = at-keys sameBool same-bool (λ _. true) wordByte (95 ∷ []) tt (c .before .args .b) (c .match .keys1)
 
 returns-6 : tie.Need-returns-6
-returns-6 c = search needs
+returns-6 c = in-interval sameBool same-bool (λ _. true) wordByte 48 10 [] tt (c .before .before .before .args .b) (omega arith) (omega arith) (λ z. z)
+
+returns-7 : tie.Need-returns-7
+returns-7 c = in-interval sameBool same-bool (λ _. true) wordByte 65 26 [] tt (c .before .before .before .before .before .args .b) (omega arith) (omega arith) (λ z. z)
+
+returns-8 : tie.Need-returns-8
+returns-8 c = in-interval sameBool same-bool (λ _. true) wordByte 97 26 [] tt (c .before .before .before .before .before .before .before .args .b) (omega arith) (omega arith) (λ z. z)
 
 pub in-word-spec : {M : Type 1} → statement M
 in-word-spec =
     tie.close
-    (tie.spec
-    enum-told
-    enum-told-2
-    enum-told-3
-    enum-told-4
-    enum-known-c
-    enum-told-5
-    returns
-    returns-2
-    returns-3
-    returns-4
-    returns-5
-    returns-6)
+    (tie.spec returns returns-2 returns-3 returns-4 returns-5 returns-6 returns-7 returns-8)

@@ -1,133 +1,126 @@
-use mathlib.Core.Path.{sym}
+use mathlib.Core.Path.{sym, _∙_}
 use native.Mathlib.Omega.{arith}
-use borrow.Author.Needs.{needs}
 use denote.Ref.{now}
 use lib.ListN.{drop}
+use Rattle.text.specs.Meaning.{part}
 use Rattle.language.specs.Tokens.{lex}
-use Rattle.syntax.specs.Readers.{nextMeant, NextPlaced}
-use Rattle.syntax.specs.Values.{operandReadMeant, OperandPlaced, recordAt}
-use Rattle.syntax.proofs.Reading.{told, known}
-use Rattle.syntax.proofs.Expressions.{fields-there, empty-list, no-expression, one-value, no-record, one-record}
+use Rattle.language.specs.Grammar.{anyExpression}
+use Rattle.syntax.specs.Values.{operandReadMeant, OperandPlaced}
+use Rattle.syntax.proofs.Reading.{read-as, placed-as, told, known}
+use Rattle.syntax.proofs.Expressions.{one-value, no-value}
+use borrow.Author.Needs.{needs}
 use Rattle.syntax.proofs.value.expression_at.Statement.{statement}
 use Rattle.syntax.proofs.value.expression_at.Tie as tie
 
-slice-aggregate-expect : tie.Need-slice-aggregate-expect
-slice-aggregate-expect c = search needs
-
-expect-requires : tie.Need-expect-requires
-expect-requires c κs = search needs
-
-enum-known-empty : tie.Need-enum-known-empty
-enum-known-empty c = search needs
-
-returns : tie.Need-returns
-returns c =
-    let a = c .before .before .before .before .before .before .args in
-    let t = now (a .text) in
-    let ts = lex (drop (a .at) t) in
-    let e1 = told (nextMeant t) (c .before .before .before .expect .ensures .0) (c .before .empty .given .1) in
-    let p1 = known (NextPlaced t (a .at)) (c .before .before .before .expect .ensures .1) (c .before .empty .given .1) in
-    (sym (empty-list ts e1), (tt, omega arith, omega arith))
+first-token-requires : tie.Need-first-token-requires
+first-token-requires c κs = search needs
 
 enum-told : tie.Need-enum-told
 enum-told c = search needs
 
-slice-aggregate-expect-2 : tie.Need-slice-aggregate-expect-2
-slice-aggregate-expect-2 c = search needs
+enum-known-t : tie.Need-enum-known-t
+enum-known-t c = search needs
 
-expect-requires-2 : tie.Need-expect-requires-2
-expect-requires-2 c κs = search needs
+enclosed-requires : tie.Need-enclosed-requires
+enclosed-requires c κs =
+    let a = c .before .before .before .before .before .args in
+    let r = c .before .before .before .first-token in
+    let p = placed-as (now (a .text)) (a .at) (r .result) (c .before .t .given .1) (r .ensures .1) in
+    (omega arith, omega arith)
 
-enum-known-brace : tie.Need-enum-known-brace
-enum-known-brace c = search needs
+enum-known-t-2 : tie.Need-enum-known-t-2
+enum-known-t-2 c = search needs
 
-record-end-requires : tie.Need-record-end-requires
-record-end-requires c κs =
-    let a = c .before .before .before .before .before .before .before .before .before .before .args in
-    let t = now (a .text) in
-    let ts = lex (drop (a .at) t) in
-    let p2 = known (NextPlaced t (a .at)) (c .before .before .before .expect2 .ensures .1) (c .before .brace .given .1) in
-    omega arith
-
-enum-known-last : tie.Need-enum-known-last
-enum-known-last c = search needs
-
-enum-told-2 : tie.Need-enum-told-2
-enum-told-2 c = search needs
-
-returns-2 : tie.Need-returns-2
-returns-2 c =
-    let a = c .before .before .before .before .before .before .before .before .before .before .before .before .before .args in
-    let t = now (a .text) in
-    let ts = lex (drop (a .at) t) in
-    let e2 = told (nextMeant t) (c .before .before .before .before .before .before .expect2 .ensures .0) (c .before .before .before .before .brace .given .1) in
-    let e3 = told (nextMeant t) (c .before .before .record-end .ensures .0) (c .enum-told2 .given .1) in
-    (sym (no-record ts e2 e3), tt)
-
-returns-3 : tie.Need-returns-3
-returns-3 c =
-    let a = c .before .before .before .before .before .before .before .before .before .before .before .before .before .before .args in
-    let t = now (a .text) in
-    let ts = lex (drop (a .at) t) in
-    let e2 = told (nextMeant t) (c .before .before .before .before .before .before .before .expect2 .ensures .0) (c .before .before .before .before .before .brace .given .1) in
-    let e3 = told (nextMeant t) (c .before .before .before .record-end .ensures .0) (c .before .last .given .1) in
-    let p2 = known (NextPlaced t (a .at)) (c .before .before .before .before .before .before .before .expect2 .ensures .1) (c .before .before .before .before .before .brace .given .1) in
-    let p3 = known (NextPlaced t (c .before .before .before .before .before .brace .given .0 .0)) (c .before .before .before .record-end .ensures .1) (c .before .last .given .1) in
-    (sym (one-record ts e2 e3), ((omega arith, fields-there (recordAt t (c .before .before .before .before .before .brace .given .0 .0)) e3), omega arith, omega arith))
-
-enum-told-3 : tie.Need-enum-told-3
-enum-told-3 c = search needs
-
-operand-at-requires : tie.Need-operand-at-requires
-operand-at-requires c κs = search needs
+dotted-requires : tie.Need-dotted-requires
+dotted-requires c κs =
+    let a = c .before .before .before .before .before .args in
+    let r = c .before .before .before .first-token in
+    let p = placed-as (now (a .text)) (a .at) (r .result) (c .before .t2 .given .1) (r .ensures .1) in
+    (omega arith, omega arith)
 
 enum-known-value : tie.Need-enum-known-value
 enum-known-value c = search needs
 
-enum-told-4 : tie.Need-enum-told-4
-enum-told-4 c = search needs
+enum-told-2 : tie.Need-enum-told-2
+enum-told-2 c = search needs
+
+returns : tie.Need-returns
+returns c =
+    let a = c .before .before .before .before .before .before .before .before .args in
+    let t = now (a .text) in
+    let r = c .before .before .before .before .before .before .first-token in
+    let is = c .before .before .before .before .t2 .given .1 in
+    let e = told (operandReadMeant t) (c .before .before .dotted .ensures .0) (c .enum-told2 .given .1) in
+    let w = part t (c .before .before .before .before .t2 .given .0 .0) in
+    let us = lex (drop (c .before .before .before .before .t2 .given .0 .1 .0) t) in
+    (sym (no-value w us e) ∙ read-as t (a .at) (r .result) is anyExpression (r .ensures .0), tt)
+
+enum-known-t-3 : tie.Need-enum-known-t-3
+enum-known-t-3 c = search needs
+
+enum-told-3 : tie.Need-enum-told-3
+enum-told-3 c = search needs
+
+returns-2 : tie.Need-returns-2
+returns-2 c =
+    let a = c .before .before .before .before .args in
+    let r = c .before .before .first-token in
+    (read-as (now (a .text)) (a .at) (r .result) (c .enum-told .given .1) anyExpression (r .ensures .0), tt)
+
+returns-3 : tie.Need-returns-3
+returns-3 c =
+    let a = c .before .before .before .before .before .before .args in
+    let t = now (a .text) in
+    let r = c .before .before .before .before .first-token in
+    let is = c .before .before .t .given .1 in
+    let p = placed-as t (a .at) (r .result) is (r .ensures .1) in
+    (c .enclosed .ensures .0 ∙ read-as t (a .at) (r .result) is anyExpression (r .ensures .0), c .enclosed .ensures .1 (a .at) (omega arith))
 
 returns-4 : tie.Need-returns-4
 returns-4 c =
-    let a = c .before .before .before .before .before .before .before .before .before .before .before .before .args in
+    let a = c .before .before .before .before .before .before .before .before .before .args in
     let t = now (a .text) in
-    let ts = lex (drop (a .at) t) in
-    let e1 = told (nextMeant t) (c .before .before .before .before .before .before .before .before .before .expect .ensures .0) (c .before .before .before .before .before .before .before .enum-told .given .1) in
-    let e2 = told (nextMeant t) (c .before .before .before .before .before .expect2 .ensures .0) (c .before .before .before .enum-told3 .given .1) in
-    let e4 = told (operandReadMeant t) (c .before .before .operand-at .ensures .0) (c .enum-told4 .given .1) in
-    (sym (no-expression ts e1 e2 e4), tt)
+    let r = c .before .before .before .before .before .before .before .first-token in
+    let is = c .before .before .before .before .before .t2 .given .1 in
+    let p = placed-as t (a .at) (r .result) is (r .ensures .1) in
+    let e = told (operandReadMeant t) (c .before .before .before .dotted .ensures .0) (c .before .value .given .1) in
+    let q = known (OperandPlaced t (a .at)) (c .before .before .before .dotted .ensures .1 (a .at) (omega arith)) (c .before .value .given .1) in
+    let w = part t (c .before .before .before .before .before .t2 .given .0 .0) in
+    let us = lex (drop (c .before .before .before .before .before .t2 .given .0 .1 .0) t) in
+    (sym (one-value w us e) ∙ read-as t (a .at) (r .result) is anyExpression (r .ensures .0), q)
 
 returns-5 : tie.Need-returns-5
 returns-5 c =
-    let a = c .before .before .before .before .before .before .before .before .before .before .before .before .before .args in
+    let a = c .before .before .before .before .before .args in
     let t = now (a .text) in
-    let ts = lex (drop (a .at) t) in
-    let e1 = told (nextMeant t) (c .before .before .before .before .before .before .before .before .before .before .expect .ensures .0) (c .before .before .before .before .before .before .before .before .enum-told .given .1) in
-    let e2 = told (nextMeant t) (c .before .before .before .before .before .before .expect2 .ensures .0) (c .before .before .before .before .enum-told3 .given .1) in
-    let e4 = told (operandReadMeant t) (c .before .before .before .operand-at .ensures .0) (c .before .value .given .1) in
-    let p4 = known (OperandPlaced t (a .at)) (c .before .before .before .operand-at .ensures .1) (c .before .value .given .1) in
-    (sym (one-value ts e1 e2 e4), p4)
+    let r = c .before .before .before .first-token in
+    let is = c .before .t3 .given .1 in
+    let p = placed-as t (a .at) (r .result) is (r .ensures .1) in
+    (read-as t (a .at) (r .result) is anyExpression (r .ensures .0), omega arith)
+
+returns-6 : tie.Need-returns-6
+returns-6 c =
+    let a = c .before .before .before .before .args in
+    let r = c .before .before .first-token in
+    (read-as (now (a .text)) (a .at) (r .result) (c .enum-told3 .given .1) anyExpression (r .ensures .0), tt)
 
 pub expression-at-spec : {M : Type 1} → statement M
 expression-at-spec =
     tie.close
     (tie.spec
-    slice-aggregate-expect
-    expect-requires
-    enum-known-empty
-    returns
+    first-token-requires
     enum-told
-    slice-aggregate-expect-2
-    expect-requires-2
-    enum-known-brace
-    record-end-requires
-    enum-known-last
+    enum-known-t
+    enclosed-requires
+    enum-known-t-2
+    dotted-requires
+    enum-known-value
     enum-told-2
+    returns
+    enum-known-t-3
+    enum-told-3
     returns-2
     returns-3
-    enum-told-3
-    operand-at-requires
-    enum-known-value
-    enum-told-4
     returns-4
-    returns-5)
+    returns-5
+    returns-6)

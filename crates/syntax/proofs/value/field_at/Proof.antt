@@ -1,14 +1,15 @@
 use mathlib.Core.Path.{sym, _∙_}
 use native.Mathlib.Omega.{arith}
-use borrow.Author.Needs.{needs}
 use denote.Ref.{now}
 use lib.ListN.{drop}
+use Rattle.language.specs.Text.{bytes}
 use Rattle.language.specs.Tokens.{lex}
 use Rattle.syntax.specs.Readers.{nextMeant, NextPlaced, foundMeant, FoundPlaced}
 use Rattle.syntax.specs.Values.{operandReadMeant, OperandPlaced}
-use Rattle.syntax.proofs.Reading.{told, known}
+use Rattle.syntax.proofs.Reading.{told, known, sign-none, sign-same, sign-other}
 use Rattle.syntax.proofs.Fuel.{record-step}
 use Rattle.syntax.proofs.Fields.{comma-field}
+use borrow.Author.Needs.{needs}
 use Rattle.syntax.proofs.value.field_at.Statement.{statement}
 use Rattle.syntax.proofs.value.field_at.Tie as tie
 
@@ -35,9 +36,7 @@ slice-aggregate-expect c = search needs
 expect-requires : tie.Need-expect-requires
 expect-requires c κs =
     let a = c .before .before .before .before .before .before .args in
-    let t = now (a .text) in
-    let ts = lex (drop (a .at) t) in
-    let p1 = known (FoundPlaced t (a .at)) (c .before .before .before .before .name-at .ensures .1) (c .before .before .label .given .1) in
+    let p1 = known (FoundPlaced (now (a .text)) (a .at)) (c .before .before .before .before .name-at .ensures .1) (c .before .before .label .given .1) in
     omega arith
 
 enum-known-equals : tie.Need-enum-known-equals
@@ -57,10 +56,7 @@ returns-2 c =
 
 operand-at-requires : tie.Need-operand-at-requires
 operand-at-requires c κs =
-    let a = c .before .before .before .before .before .before .before .before .before .before .args in
-    let t = now (a .text) in
-    let ts = lex (drop (a .at) t) in
-    let p1 = known (FoundPlaced t (a .at)) (c .before .before .before .before .before .before .before .before .name-at .ensures .1) (c .before .before .before .before .before .before .label .given .1) in
+    let t = now (c .before .before .before .before .before .before .before .before .before .before .args .text) in
     let p2 = known (NextPlaced t (c .before .before .before .before .before .before .label .given .0 .1 .0)) (c .before .before .before .expect .ensures .1) (c .before .equals .given .1) in
     omega arith
 
@@ -80,86 +76,95 @@ returns-3 c =
     let e3 = told (operandReadMeant t) (c .before .before .operand-at .ensures .0) (c .enum-told3 .given .1) in
     (sym (record-step ts ∙ rw (e1, e2, e3)), tt)
 
-slice-aggregate-expect-2 : tie.Need-slice-aggregate-expect-2
-slice-aggregate-expect-2 c = search needs
+sign-at-requires : tie.Need-sign-at-requires
+sign-at-requires c κs =
+    let t = now (c .before .before .before .before .before .before .before .before .before .before .before .before .before .before .args .text) in
+    let p3 = known (OperandPlaced t (c .before .before .before .before .before .equals .given .0 .0)) (c .before .before .before .operand-at .ensures .1) (c .before .value .given .1) in
+    p3 .2
 
-expect-requires-2 : tie.Need-expect-requires-2
-expect-requires-2 c κs =
-    let a = c .before .before .before .before .before .before .before .before .before .before .before .before .before .before .before .args in
-    let t = now (a .text) in
-    let ts = lex (drop (a .at) t) in
-    let p1 = known (FoundPlaced t (a .at)) (c .before .before .before .before .before .before .before .before .before .before .before .before .before .name-at .ensures .1) (c .before .before .before .before .before .before .before .before .before .before .before .label .given .1) in
-    let p2 = known (NextPlaced t (c .before .before .before .before .before .before .before .before .before .before .before .label .given .0 .1 .0)) (c .before .before .before .before .before .before .before .before .expect .ensures .1) (c .before .before .before .before .before .before .equals .given .1) in
-    let p3 = known (OperandPlaced t (c .before .before .before .before .before .before .equals .given .0 .0)) (c .before .before .before .before .operand-at .ensures .1) (c .before .before .value .given .1) in
-    omega arith
-
-enum-known-comma : tie.Need-enum-known-comma
-enum-known-comma c = search needs
-
-returns-4 : tie.Need-returns-4
-returns-4 c =
-    let a = c .before .before .before .before .before .before .before .before .before .before .before .before .before .before .before .before .before .before .before .args in
-    let t = now (a .text) in
-    let ts = lex (drop (a .at) t) in
-    let e1 = told (foundMeant t) (c .before .before .before .before .before .before .before .before .before .before .before .before .before .before .before .before .before .name-at .ensures .0) (c .before .before .before .before .before .before .before .before .before .before .before .before .before .before .before .label .given .1) in
-    let e2 = told (nextMeant t) (c .before .before .before .before .before .before .before .before .before .before .before .before .expect .ensures .0) (c .before .before .before .before .before .before .before .before .before .before .equals .given .1) in
-    let e3 = told (operandReadMeant t) (c .before .before .before .before .before .before .before .before .operand-at .ensures .0) (c .before .before .before .before .before .before .value .given .1) in
-    let e4 = told (nextMeant t) (c .before .before .before .expect2 .ensures .0) (c .before .comma .given .1) in
-    let p1 = known (FoundPlaced t (a .at)) (c .before .before .before .before .before .before .before .before .before .before .before .before .before .before .before .before .before .name-at .ensures .1) (c .before .before .before .before .before .before .before .before .before .before .before .before .before .before .before .label .given .1) in
-    let p2 = known (NextPlaced t (c .before .before .before .before .before .before .before .before .before .before .before .before .before .before .before .label .given .0 .1 .0)) (c .before .before .before .before .before .before .before .before .before .before .before .before .expect .ensures .1) (c .before .before .before .before .before .before .before .before .before .before .equals .given .1) in
-    let p3 = known (OperandPlaced t (c .before .before .before .before .before .before .before .before .before .before .equals .given .0 .0)) (c .before .before .before .before .before .before .before .before .operand-at .ensures .1) (c .before .before .before .before .before .before .value .given .1) in
-    let p4 = known (NextPlaced t (c .before .before .before .before .before .before .value .given .0 .1 .0)) (c .before .before .before .expect2 .ensures .1) (c .before .comma .given .1) in
-    (sym (record-step ts ∙ comma-field ts e1 e2 e3 e4), (omega arith, p3 .0, omega arith, omega arith))
+enum-known-sign : tie.Need-enum-known-sign
+enum-known-sign c = search needs
 
 enum-told-4 : tie.Need-enum-told-4
 enum-told-4 c = search needs
 
-slice-aggregate-expect-3 : tie.Need-slice-aggregate-expect-3
-slice-aggregate-expect-3 c = search needs
-
-expect-requires-3 : tie.Need-expect-requires-3
-expect-requires-3 c κs =
-    let a = c .before .before .before .before .before .before .before .before .before .before .before .before .before .before .before .before .before .before .before .args in
+returns-4 : tie.Need-returns-4
+returns-4 c =
+    let a = c .before .before .before .before .before .before .before .before .before .before .before .before .before .before .before .before .before .args in
     let t = now (a .text) in
     let ts = lex (drop (a .at) t) in
-    let p1 = known (FoundPlaced t (a .at)) (c .before .before .before .before .before .before .before .before .before .before .before .before .before .before .before .before .before .name-at .ensures .1) (c .before .before .before .before .before .before .before .before .before .before .before .before .before .before .before .label .given .1) in
-    let p2 = known (NextPlaced t (c .before .before .before .before .before .before .before .before .before .before .before .before .before .before .before .label .given .0 .1 .0)) (c .before .before .before .before .before .before .before .before .before .before .before .before .expect .ensures .1) (c .before .before .before .before .before .before .before .before .before .before .equals .given .1) in
-    let p3 = known (OperandPlaced t (c .before .before .before .before .before .before .before .before .before .before .equals .given .0 .0)) (c .before .before .before .before .before .before .before .before .operand-at .ensures .1) (c .before .before .before .before .before .before .value .given .1) in
+    let ws = lex (drop (c .before .before .before .before .value .given .0 .1 .0) t) in
+    let e1 = told (foundMeant t) (c .before .before .before .before .before .before .before .before .before .before .before .before .before .before .before .name-at .ensures .0) (c .before .before .before .before .before .before .before .before .before .before .before .before .before .label .given .1) in
+    let e2 = told (nextMeant t) (c .before .before .before .before .before .before .before .before .before .before .expect .ensures .0) (c .before .before .before .before .before .before .before .before .equals .given .1) in
+    let e3 = told (operandReadMeant t) (c .before .before .before .before .before .before .operand-at .ensures .0) (c .before .before .before .before .value .given .1) in
+    let e4 = told (foundMeant t) (c .before .before .sign-at .ensures .0) (c .enum-told4 .given .1) in
+    (sym (record-step ts ∙ rw (e1, e2, e3, sign-none (bytes "}") ws e4, sign-none (bytes ",") ws e4)), tt)
+
+slice-aggregate-is-sign : tie.Need-slice-aggregate-is-sign
+slice-aggregate-is-sign c = search needs
+
+is-sign-requires : tie.Need-is-sign-requires
+is-sign-requires c κs =
+    let t = now (c .before .before .before .before .before .before .before .before .before .before .before .before .before .before .before .before .before .before .before .args .text) in
+    let p4 = known (FoundPlaced t (c .before .before .before .before .before .before .value .given .0 .1 .0)) (c .before .before .before .before .sign-at .ensures .1) (c .before .before .sign .given .1) in
     omega arith
-
-enum-known-brace : tie.Need-enum-known-brace
-enum-known-brace c = search needs
-
-enum-told-5 : tie.Need-enum-told-5
-enum-told-5 c = search needs
 
 returns-5 : tie.Need-returns-5
 returns-5 c =
-    let a = c .before .before .before .before .before .before .before .before .before .before .before .before .before .before .before .before .before .before .before .before .before .before .args in
+    let a = c .before .before .before .before .before .before .before .before .before .before .before .before .before .before .before .before .before .before .before .before .before .args in
     let t = now (a .text) in
     let ts = lex (drop (a .at) t) in
-    let e1 = told (foundMeant t) (c .before .before .before .before .before .before .before .before .before .before .before .before .before .before .before .before .before .before .before .before .name-at .ensures .0) (c .before .before .before .before .before .before .before .before .before .before .before .before .before .before .before .before .before .before .label .given .1) in
-    let e2 = told (nextMeant t) (c .before .before .before .before .before .before .before .before .before .before .before .before .before .before .before .expect .ensures .0) (c .before .before .before .before .before .before .before .before .before .before .before .before .before .equals .given .1) in
-    let e3 = told (operandReadMeant t) (c .before .before .before .before .before .before .before .before .before .before .before .operand-at .ensures .0) (c .before .before .before .before .before .before .before .before .before .value .given .1) in
-    let e4 = told (nextMeant t) (c .before .before .before .before .before .before .expect2 .ensures .0) (c .before .before .before .before .enum-told4 .given .1) in
-    let e5 = told (nextMeant t) (c .before .before .expect3 .ensures .0) (c .enum-told5 .given .1) in
-    (sym (record-step ts ∙ rw (e1, e2, e3, e5, e4)), tt)
+    let ws = lex (drop (c .before .before .before .before .before .before .before .before .value .given .0 .1 .0) t) in
+    let e1 = told (foundMeant t) (c .before .before .before .before .before .before .before .before .before .before .before .before .before .before .before .before .before .before .before .name-at .ensures .0) (c .before .before .before .before .before .before .before .before .before .before .before .before .before .before .before .before .before .label .given .1) in
+    let e2 = told (nextMeant t) (c .before .before .before .before .before .before .before .before .before .before .before .before .before .before .expect .ensures .0) (c .before .before .before .before .before .before .before .before .before .before .before .before .equals .given .1) in
+    let e3 = told (operandReadMeant t) (c .before .before .before .before .before .before .before .before .before .before .operand-at .ensures .0) (c .before .before .before .before .before .before .before .before .value .given .1) in
+    let e4 = told (foundMeant t) (c .before .before .before .before .before .before .sign-at .ensures .0) (c .before .before .before .before .sign .given .1) in
+    let comma = sign-same (bytes ",") ws e4 (sym (c .before .is-sign .ensures) ∙ c .if1 .taken) in
+    let p1 = known (FoundPlaced t (a .at)) (c .before .before .before .before .before .before .before .before .before .before .before .before .before .before .before .before .before .before .before .name-at .ensures .1) (c .before .before .before .before .before .before .before .before .before .before .before .before .before .before .before .before .before .label .given .1) in
+    let p2 = known (NextPlaced t (c .before .before .before .before .before .before .before .before .before .before .before .before .before .before .before .before .before .label .given .0 .1 .0)) (c .before .before .before .before .before .before .before .before .before .before .before .before .before .before .expect .ensures .1) (c .before .before .before .before .before .before .before .before .before .before .before .before .equals .given .1) in
+    let p3 = known (OperandPlaced t (c .before .before .before .before .before .before .before .before .before .before .before .before .equals .given .0 .0)) (c .before .before .before .before .before .before .before .before .before .before .operand-at .ensures .1) (c .before .before .before .before .before .before .before .before .value .given .1) in
+    let p4 = known (FoundPlaced t (c .before .before .before .before .before .before .before .before .value .given .0 .1 .0)) (c .before .before .before .before .before .before .sign-at .ensures .1) (c .before .before .before .before .sign .given .1) in
+    (sym (record-step ts ∙ comma-field ts e1 e2 e3 comma), (omega arith, p3 .0, omega arith, omega arith))
+
+slice-aggregate-is-sign-2 : tie.Need-slice-aggregate-is-sign-2
+slice-aggregate-is-sign-2 c = search needs
+
+is-sign-requires-2 : tie.Need-is-sign-requires-2
+is-sign-requires-2 c κs =
+    let t = now (c .before .before .before .before .before .before .before .before .before .before .before .before .before .before .before .before .before .before .before .before .before .before .args .text) in
+    let p4 = known (FoundPlaced t (c .before .before .before .before .before .before .before .before .before .value .given .0 .1 .0)) (c .before .before .before .before .before .before .before .sign-at .ensures .1) (c .before .before .before .before .before .sign .given .1) in
+    omega arith
 
 returns-6 : tie.Need-returns-6
 returns-6 c =
-    let a = c .before .before .before .before .before .before .before .before .before .before .before .before .before .before .before .before .before .before .before .before .before .before .before .args in
+    let a = c .before .before .before .before .before .before .before .before .before .before .before .before .before .before .before .before .before .before .before .before .before .before .before .before .args in
     let t = now (a .text) in
     let ts = lex (drop (a .at) t) in
-    let e1 = told (foundMeant t) (c .before .before .before .before .before .before .before .before .before .before .before .before .before .before .before .before .before .before .before .before .before .name-at .ensures .0) (c .before .before .before .before .before .before .before .before .before .before .before .before .before .before .before .before .before .before .before .label .given .1) in
-    let e2 = told (nextMeant t) (c .before .before .before .before .before .before .before .before .before .before .before .before .before .before .before .before .expect .ensures .0) (c .before .before .before .before .before .before .before .before .before .before .before .before .before .before .equals .given .1) in
-    let e3 = told (operandReadMeant t) (c .before .before .before .before .before .before .before .before .before .before .before .before .operand-at .ensures .0) (c .before .before .before .before .before .before .before .before .before .before .value .given .1) in
-    let e4 = told (nextMeant t) (c .before .before .before .before .before .before .before .expect2 .ensures .0) (c .before .before .before .before .before .enum-told4 .given .1) in
-    let e5 = told (nextMeant t) (c .before .before .before .expect3 .ensures .0) (c .before .brace .given .1) in
-    let p1 = known (FoundPlaced t (a .at)) (c .before .before .before .before .before .before .before .before .before .before .before .before .before .before .before .before .before .before .before .before .before .name-at .ensures .1) (c .before .before .before .before .before .before .before .before .before .before .before .before .before .before .before .before .before .before .before .label .given .1) in
-    let p2 = known (NextPlaced t (c .before .before .before .before .before .before .before .before .before .before .before .before .before .before .before .before .before .before .before .label .given .0 .1 .0)) (c .before .before .before .before .before .before .before .before .before .before .before .before .before .before .before .before .expect .ensures .1) (c .before .before .before .before .before .before .before .before .before .before .before .before .before .before .equals .given .1) in
-    let p3 = known (OperandPlaced t (c .before .before .before .before .before .before .before .before .before .before .before .before .before .before .equals .given .0 .0)) (c .before .before .before .before .before .before .before .before .before .before .before .before .operand-at .ensures .1) (c .before .before .before .before .before .before .before .before .before .before .value .given .1) in
-    let p5 = known (NextPlaced t (c .before .before .before .before .before .before .before .before .before .before .value .given .0 .1 .0)) (c .before .before .before .expect3 .ensures .1) (c .before .brace .given .1) in
-    (sym (record-step ts ∙ rw (e1, e2, e3, e5)), (omega arith, p3 .0, omega arith, omega arith))
+    let ws = lex (drop (c .before .before .before .before .before .before .before .before .before .before .before .value .given .0 .1 .0) t) in
+    let e1 = told (foundMeant t) (c .before .before .before .before .before .before .before .before .before .before .before .before .before .before .before .before .before .before .before .before .before .before .name-at .ensures .0) (c .before .before .before .before .before .before .before .before .before .before .before .before .before .before .before .before .before .before .before .before .label .given .1) in
+    let e2 = told (nextMeant t) (c .before .before .before .before .before .before .before .before .before .before .before .before .before .before .before .before .before .expect .ensures .0) (c .before .before .before .before .before .before .before .before .before .before .before .before .before .before .before .equals .given .1) in
+    let e3 = told (operandReadMeant t) (c .before .before .before .before .before .before .before .before .before .before .before .before .before .operand-at .ensures .0) (c .before .before .before .before .before .before .before .before .before .before .before .value .given .1) in
+    let e4 = told (foundMeant t) (c .before .before .before .before .before .before .before .before .before .sign-at .ensures .0) (c .before .before .before .before .before .before .before .sign .given .1) in
+    let brace = sign-same (bytes "}") ws e4 (sym (c .before .is-sign2 .ensures) ∙ c .if2 .taken) in
+    let p1 = known (FoundPlaced t (a .at)) (c .before .before .before .before .before .before .before .before .before .before .before .before .before .before .before .before .before .before .before .before .before .before .name-at .ensures .1) (c .before .before .before .before .before .before .before .before .before .before .before .before .before .before .before .before .before .before .before .before .label .given .1) in
+    let p2 = known (NextPlaced t (c .before .before .before .before .before .before .before .before .before .before .before .before .before .before .before .before .before .before .before .before .label .given .0 .1 .0)) (c .before .before .before .before .before .before .before .before .before .before .before .before .before .before .before .before .before .expect .ensures .1) (c .before .before .before .before .before .before .before .before .before .before .before .before .before .before .before .equals .given .1) in
+    let p3 = known (OperandPlaced t (c .before .before .before .before .before .before .before .before .before .before .before .before .before .before .before .equals .given .0 .0)) (c .before .before .before .before .before .before .before .before .before .before .before .before .before .operand-at .ensures .1) (c .before .before .before .before .before .before .before .before .before .before .before .value .given .1) in
+    let p4 = known (FoundPlaced t (c .before .before .before .before .before .before .before .before .before .before .before .value .given .0 .1 .0)) (c .before .before .before .before .before .before .before .before .before .sign-at .ensures .1) (c .before .before .before .before .before .before .before .sign .given .1) in
+    (sym (record-step ts ∙ rw (e1, e2, e3, brace)), (omega arith, p3 .0, omega arith, omega arith))
+
+returns-7 : tie.Need-returns-7
+returns-7 c =
+    let a = c .before .before .before .before .before .before .before .before .before .before .before .before .before .before .before .before .before .before .before .before .before .before .before .before .args in
+    let t = now (a .text) in
+    let ts = lex (drop (a .at) t) in
+    let ws = lex (drop (c .before .before .before .before .before .before .before .before .before .before .before .value .given .0 .1 .0) t) in
+    let e1 = told (foundMeant t) (c .before .before .before .before .before .before .before .before .before .before .before .before .before .before .before .before .before .before .before .before .before .before .name-at .ensures .0) (c .before .before .before .before .before .before .before .before .before .before .before .before .before .before .before .before .before .before .before .before .label .given .1) in
+    let e2 = told (nextMeant t) (c .before .before .before .before .before .before .before .before .before .before .before .before .before .before .before .before .before .expect .ensures .0) (c .before .before .before .before .before .before .before .before .before .before .before .before .before .before .before .equals .given .1) in
+    let e3 = told (operandReadMeant t) (c .before .before .before .before .before .before .before .before .before .before .before .before .before .operand-at .ensures .0) (c .before .before .before .before .before .before .before .before .before .before .before .value .given .1) in
+    let e4 = told (foundMeant t) (c .before .before .before .before .before .before .before .before .before .sign-at .ensures .0) (c .before .before .before .before .before .before .before .sign .given .1) in
+    let comma = sign-other (bytes ",") ws e4 (sym (c .before .before .before .before .is-sign .ensures) ∙ c .before .before .before .if1 .left) in
+    let brace = sign-other (bytes "}") ws e4 (sym (c .before .is-sign2 .ensures) ∙ c .if2 .left) in
+    (sym (record-step ts ∙ rw (e1, e2, e3, brace, comma)), tt)
 
 pub field-at-spec : {M : Type 1} → statement M
 field-at-spec =
@@ -178,14 +183,14 @@ field-at-spec =
     enum-known-value
     enum-told-3
     returns-3
-    slice-aggregate-expect-2
-    expect-requires-2
-    enum-known-comma
-    returns-4
+    sign-at-requires
+    enum-known-sign
     enum-told-4
-    slice-aggregate-expect-3
-    expect-requires-3
-    enum-known-brace
-    enum-told-5
+    returns-4
+    slice-aggregate-is-sign
+    is-sign-requires
     returns-5
-    returns-6)
+    slice-aggregate-is-sign-2
+    is-sign-requires-2
+    returns-6
+    returns-7)

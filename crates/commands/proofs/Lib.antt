@@ -1,0 +1,3 @@
+-- Laws of the readers of commands.
+pub mod Phrases
+pub mod Dispatch

@@ -1,0 +1,183 @@
+use mathlib.Core.Path.{sym, ap, _∙_}
+use native.Mathlib.Omega.{arith}
+use denote.Ref.{now}
+use lib.ListN.{drop}
+use Rattle.language.specs.Text.{bytes}
+use Rattle.language.specs.Tokens.{lex}
+use Rattle.language.specs.Grammar.{anyCommand}
+use Rattle.text.specs.Meaning.{part}
+use Rattle.syntax.specs.Readers.{foundMeant, FoundPlaced}
+use Rattle.syntax.proofs.Reading.{told, known, sign-is, spelled}
+use Rattle.commands.proofs.Dispatch.{no-sign-command, principals-only, placed-later, append-is, local-is, foreach-is}
+use borrow.Author.Needs.{needs}
+use Rattle.commands.proofs.command.command_at.Statement.{statement}
+use Rattle.commands.proofs.command.command_at.Tie as tie
+
+sign-at-requires : tie.Need-sign-at-requires
+sign-at-requires c κs = search needs
+
+enum-known-sign : tie.Need-enum-known-sign
+enum-known-sign c = search needs
+
+enum-told : tie.Need-enum-told
+enum-told c = search needs
+
+returns : tie.Need-returns
+returns c =
+    let a = c .before .before .before .before .args in
+    let t = now (a .text) in
+    let ts = lex (drop (a .at) t) in
+    let e1 = told (foundMeant t) (c .before .before .sign-at .ensures .0) (c .enum-told .given .1) in
+    (sym (no-sign-command ts e1), tt)
+
+slice-aggregate-is-sign : tie.Need-slice-aggregate-is-sign
+slice-aggregate-is-sign c = search needs
+
+is-sign-requires : tie.Need-is-sign-requires
+is-sign-requires c κs =
+    let a = c .before .before .before .before .before .before .args in
+    let p1 = known (FoundPlaced (now (a .text)) (a .at)) (c .before .before .before .before .sign-at .ensures .1) (c .before .before .sign .given .1) in
+    omega arith
+
+set-at-requires : tie.Need-set-at-requires
+set-at-requires c κs =
+    let a = c .before .before .before .before .before .before .before .before .args in
+    let p1 = known (FoundPlaced (now (a .text)) (a .at)) (c .before .before .before .before .before .before .sign-at .ensures .1) (c .before .before .before .before .sign .given .1) in
+    omega arith
+
+returns-2 : tie.Need-returns-2
+returns-2 c =
+    let a = c .before .before .before .before .before .before .before .before .before .args in
+    let t = now (a .text) in
+    let s = c .before .before .before .before .before .sign in
+    let e1 = sign-is (lex (drop (a .at) t)) (told (foundMeant t) (c .before .before .before .before .before .before .before .sign-at .ensures .0) (s .given .1)) in
+    let p1 = known (FoundPlaced t (a .at)) (c .before .before .before .before .before .before .before .sign-at .ensures .1) (s .given .1) in
+    let us = lex (drop (s .given .0 .1 .0) t) in
+    let word = sym (c .before .before .is-sign .ensures) ∙ c .before .if1 .taken in
+    (c .set-at .ensures .0 ∙ sym (ap anyCommand (spelled (bytes "set") e1 word)), placed-later t (a .at) (s .given .0 .1 .0) (c .set-at .result) (omega arith) (c .set-at .ensures .1))
+
+slice-aggregate-is-sign-2 : tie.Need-slice-aggregate-is-sign-2
+slice-aggregate-is-sign-2 c = search needs
+
+is-sign-requires-2 : tie.Need-is-sign-requires-2
+is-sign-requires-2 c κs =
+    let a = c .before .before .before .before .before .before .before .before .before .args in
+    let p1 = known (FoundPlaced (now (a .text)) (a .at)) (c .before .before .before .before .before .before .before .sign-at .ensures .1) (c .before .before .before .before .before .sign .given .1) in
+    omega arith
+
+append-at-requires : tie.Need-append-at-requires
+append-at-requires c κs =
+    let a = c .before .before .before .before .before .before .before .before .before .before .before .args in
+    let p1 = known (FoundPlaced (now (a .text)) (a .at)) (c .before .before .before .before .before .before .before .before .before .sign-at .ensures .1) (c .before .before .before .before .before .before .before .sign .given .1) in
+    omega arith
+
+returns-3 : tie.Need-returns-3
+returns-3 c =
+    let a = c .before .before .before .before .before .before .before .before .before .before .before .before .args in
+    let t = now (a .text) in
+    let s = c .before .before .before .before .before .before .before .before .sign in
+    let e1 = sign-is (lex (drop (a .at) t)) (told (foundMeant t) (c .before .before .before .before .before .before .before .before .before .before .sign-at .ensures .0) (s .given .1)) in
+    let p1 = known (FoundPlaced t (a .at)) (c .before .before .before .before .before .before .before .before .before .before .sign-at .ensures .1) (s .given .1) in
+    let us = lex (drop (s .given .0 .1 .0) t) in
+    let word = sym (c .before .before .is-sign2 .ensures) ∙ c .before .if2 .taken in
+    (c .append-at .ensures .0 ∙ sym (ap anyCommand (spelled (bytes "append") e1 word) ∙ append-is us), placed-later t (a .at) (s .given .0 .1 .0) (c .append-at .result) (omega arith) (c .append-at .ensures .1))
+
+slice-aggregate-is-sign-3 : tie.Need-slice-aggregate-is-sign-3
+slice-aggregate-is-sign-3 c = search needs
+
+is-sign-requires-3 : tie.Need-is-sign-requires-3
+is-sign-requires-3 c κs =
+    let a = c .before .before .before .before .before .before .before .before .before .before .before .before .args in
+    let p1 = known (FoundPlaced (now (a .text)) (a .at)) (c .before .before .before .before .before .before .before .before .before .before .sign-at .ensures .1) (c .before .before .before .before .before .before .before .before .sign .given .1) in
+    omega arith
+
+local-at-requires : tie.Need-local-at-requires
+local-at-requires c κs =
+    let a = c .before .before .before .before .before .before .before .before .before .before .before .before .before .before .args in
+    let p1 = known (FoundPlaced (now (a .text)) (a .at)) (c .before .before .before .before .before .before .before .before .before .before .before .before .sign-at .ensures .1) (c .before .before .before .before .before .before .before .before .before .before .sign .given .1) in
+    omega arith
+
+returns-4 : tie.Need-returns-4
+returns-4 c =
+    let a = c .before .before .before .before .before .before .before .before .before .before .before .before .before .before .before .args in
+    let t = now (a .text) in
+    let s = c .before .before .before .before .before .before .before .before .before .before .before .sign in
+    let e1 = sign-is (lex (drop (a .at) t)) (told (foundMeant t) (c .before .before .before .before .before .before .before .before .before .before .before .before .before .sign-at .ensures .0) (s .given .1)) in
+    let p1 = known (FoundPlaced t (a .at)) (c .before .before .before .before .before .before .before .before .before .before .before .before .before .sign-at .ensures .1) (s .given .1) in
+    let us = lex (drop (s .given .0 .1 .0) t) in
+    let word = sym (c .before .before .is-sign3 .ensures) ∙ c .before .if3 .taken in
+    (c .local-at .ensures .0 ∙ sym (ap anyCommand (spelled (bytes "local") e1 word) ∙ local-is us), placed-later t (a .at) (s .given .0 .1 .0) (c .local-at .result) (omega arith) (c .local-at .ensures .1))
+
+slice-aggregate-is-sign-4 : tie.Need-slice-aggregate-is-sign-4
+slice-aggregate-is-sign-4 c = search needs
+
+is-sign-requires-4 : tie.Need-is-sign-requires-4
+is-sign-requires-4 c κs =
+    let a = c .before .before .before .before .before .before .before .before .before .before .before .before .before .before .before .args in
+    let p1 = known (FoundPlaced (now (a .text)) (a .at)) (c .before .before .before .before .before .before .before .before .before .before .before .before .before .sign-at .ensures .1) (c .before .before .before .before .before .before .before .before .before .before .before .sign .given .1) in
+    omega arith
+
+foreach-at-requires : tie.Need-foreach-at-requires
+foreach-at-requires c κs =
+    let a = c .before .before .before .before .before .before .before .before .before .before .before .before .before .before .before .before .before .args in
+    let p1 = known (FoundPlaced (now (a .text)) (a .at)) (c .before .before .before .before .before .before .before .before .before .before .before .before .before .before .before .sign-at .ensures .1) (c .before .before .before .before .before .before .before .before .before .before .before .before .before .sign .given .1) in
+    omega arith
+
+returns-5 : tie.Need-returns-5
+returns-5 c =
+    let a = c .before .before .before .before .before .before .before .before .before .before .before .before .before .before .before .before .before .before .args in
+    let t = now (a .text) in
+    let s = c .before .before .before .before .before .before .before .before .before .before .before .before .before .before .sign in
+    let e1 = sign-is (lex (drop (a .at) t)) (told (foundMeant t) (c .before .before .before .before .before .before .before .before .before .before .before .before .before .before .before .before .sign-at .ensures .0) (s .given .1)) in
+    let p1 = known (FoundPlaced t (a .at)) (c .before .before .before .before .before .before .before .before .before .before .before .before .before .before .before .before .sign-at .ensures .1) (s .given .1) in
+    let us = lex (drop (s .given .0 .1 .0) t) in
+    let word = sym (c .before .before .is-sign4 .ensures) ∙ c .before .if4 .taken in
+    (c .foreach-at .ensures .0 ∙ sym (ap anyCommand (spelled (bytes "foreach") e1 word) ∙ foreach-is us), placed-later t (a .at) (s .given .0 .1 .0) (c .foreach-at .result) (omega arith) (c .foreach-at .ensures .1))
+
+principal-command-requires : tie.Need-principal-command-requires
+principal-command-requires c κs =
+    let a = c .before .before .before .before .before .before .before .before .before .before .before .before .before .before .before .before .before .args in
+    let p1 = known (FoundPlaced (now (a .text)) (a .at)) (c .before .before .before .before .before .before .before .before .before .before .before .before .before .before .before .sign-at .ensures .1) (c .before .before .before .before .before .before .before .before .before .before .before .before .before .sign .given .1) in
+    (omega arith, omega arith)
+
+returns-6 : tie.Need-returns-6
+returns-6 c =
+    let a = c .before .before .before .before .before .before .before .before .before .before .before .before .before .before .before .before .before .before .args in
+    let t = now (a .text) in
+    let s = c .before .before .before .before .before .before .before .before .before .before .before .before .before .before .sign in
+    let e1 = sign-is (lex (drop (a .at) t)) (told (foundMeant t) (c .before .before .before .before .before .before .before .before .before .before .before .before .before .before .before .before .sign-at .ensures .0) (s .given .1)) in
+    let p1 = known (FoundPlaced t (a .at)) (c .before .before .before .before .before .before .before .before .before .before .before .before .before .before .before .before .sign-at .ensures .1) (s .given .1) in
+    let us = lex (drop (s .given .0 .1 .0) t) in
+    let set = sym (c .before .before .before .before .before .before .before .before .before .before .before .is-sign .ensures) ∙ c .before .before .before .before .before .before .before .before .before .before .if1 .left in
+    let append = sym (c .before .before .before .before .before .before .before .before .is-sign2 .ensures) ∙ c .before .before .before .before .before .before .before .if2 .left in
+    let local = sym (c .before .before .before .before .before .is-sign3 .ensures) ∙ c .before .before .before .before .if3 .left in
+    let foreach = sym (c .before .before .is-sign4 .ensures) ∙ c .before .if4 .left in
+    let r = c .principal-command in
+    (r .ensures .0 ∙ sym (ap anyCommand e1 ∙ principals-only (part t (s .given .0 .0)) us set append local foreach), placed-later t (a .at) (s .given .0 .1 .0) (r .result) (omega arith) (r .ensures .1))
+
+pub command-at-spec : {M : Type 1} → statement M
+command-at-spec =
+    tie.close
+    (tie.spec
+    sign-at-requires
+    enum-known-sign
+    enum-told
+    returns
+    slice-aggregate-is-sign
+    is-sign-requires
+    set-at-requires
+    returns-2
+    slice-aggregate-is-sign-2
+    is-sign-requires-2
+    append-at-requires
+    returns-3
+    slice-aggregate-is-sign-3
+    is-sign-requires-3
+    local-at-requires
+    returns-4
+    slice-aggregate-is-sign-4
+    is-sign-requires-4
+    foreach-at-requires
+    returns-5
+    principal-command-requires
+    returns-6)
