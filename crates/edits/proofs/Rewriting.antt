@@ -3,7 +3,7 @@
 use mathlib.Core.Path.{_≡_, refl, sym, ap, subst, _∙_}
 use mathlib.Core.Bool.{Bool}
 use mathlib.Core.List.{List, [], _∷_, _++_, map, append-assoc}
-use Prim.Native.Nat.{ℕ, zero, suc, _+_, _*_, _-_, _%_, _≤_, _<_}
+use Prim.Native.Nat.{ℕ, zero, suc, _+_, _-_, _≤_, _<_}
 use native.Mathlib.Nat.{not-suc-le-zero, le-of-suc-le-suc}
 use native.Mathlib.Numerals.{add-one}
 use native.Mathlib.Omega.{arith}
@@ -14,10 +14,11 @@ use Rattle.language.specs.Text.{Text, joined, all}
 use Rattle.language.specs.Syntax.{Name}
 use Rattle.language.specs.Identifiers.{isName}
 use Rattle.language.proofs.Logic.Tests.{both, and}
-use Rattle.store.specs.Held.{part, print, printFrom, mark, marksFrom}
+use Rattle.store.specs.Held.{part, mark, marksFrom}
 use Rattle.store.specs.Rows.{Row, Rows, rowText, noRow, rowAt, startOf}
 use Rattle.edits.specs.Splices.{spliced, shifted}
 use Rattle.edits.specs.Changes.{Respelled, SomeSpot, Outside}
+use Rattle.store.proofs.Prints.{print-small}
 use Rattle.store.proofs.Records.{joined-append, mark-there, start-in, start-next, name-valid}
 use Rattle.edits.proofs.Splicing.{part-take, length-part}
 
@@ -171,22 +172,15 @@ start-up rows i j h =
     ap length (ap (joined rowText) e ∙ joined-append rowText (take i rows) (take (j - i) (drop i rows))) in
     omega (arith, q, length-append (joined rowText (take i rows)) (joined rowText (take (j - i) (drop i rows))))
 
-print-below : (h : ℕ) (x : Text) → h < 4294967296 → printFrom h x < 4294967296
-print-below h [] l = l
-print-below h (b ∷ x) l = print-below ((h * 31 + b) % 4294967296) x (omega arith)
-
-pub print-small : (x : Name) → print x < 4294967296
-print-small x = print-below 0 x (omega arith)
-
 -- the marks of the rows after a place can be moved
-pub movable : (t : Text) (count : ℕ) (marks : List ℕ) (k from to new : ℕ) → SomeSpot t count marks k from to → new ≤ 65536 → (j : ℕ) → k + 1 ≤ j → j < count
-    → (to - from ≤ getD marks j 0) × (getD marks j 0 + new < 18446744073709551616)
+pub movable : (t : Text) (count : ℕ) (marks : List ℕ) (k from to new : ℕ) → SomeSpot t count marks k from to → from + new + (length t - to) ≤ 65536 → (j : ℕ) → k + 1 ≤ j → j < count
+    → (to - from ≤ getD marks j 0) × (getD marks j 0 - (to - from) + new < 4294967296)
 movable t count marks k from to new S b j g l =
     let rows : List Row = S .rows in
     let e = mark-there rows t count marks (S .held) j l in
     let u : startOf rows (suc k) ≤ startOf rows j = start-up rows (suc k) j (omega arith) in (
       omega (arith, e, u, S .high),
-      omega (arith, e, print-small (rowAt rows j .name), start-in rows t count marks (S .held) j, S .held .small),
+      omega (arith, e, u, S .high, S .order, print-small (rowAt rows j .name), start-next rows t count marks (S .held) j l, start-in rows t count marks (S .held) (suc j)),
     )
 
 -- a row rewritten

@@ -1,4 +1,4 @@
--- Copies into a list, and what three of them leave of a text; numbers moved in place.
+-- Copies into a list; numbers moved in place.
 -- Assumes nothing.
 use mathlib.Core.Path.{_≡_, refl, sym, ap, _∙_}
 use mathlib.Core.List.{List, [], _∷_, _++_, map, append-assoc}
@@ -9,7 +9,7 @@ use lib.ListN.{length, getD, set, take, drop, length-append, length-drop, length
 use lib.Seq.{paste, take-add, drop-drop, take-at, drop-at, set-at, drop-cons, take-suc, getD-at, getD-drop, length-take-le, take-length, set-split}
 use Rattle.language.specs.Text.{Text}
 use Rattle.store.specs.Held.{part}
-use Rattle.edits.specs.Splices.{over, spliced}
+use Rattle.edits.specs.Splices.{over}
 
 pub paste-over : (d src : Text) (at : ℕ) → paste d at src (length src) ≡ over d at src
 paste-over d src at =
@@ -57,26 +57,6 @@ set-over d i b h = set-split d i b h ∙ ap (λ (n : ℕ). take i d ++ (b ∷ dr
 -- what was written over the front of a list
 pub over-front : (d src : Text) → length src ≤ length d → take (length src) (over d 0 src) ≡ src
 over-front d src h = take-at src (drop (0 + length src) d) (length src) refl
-
--- the tail out to another list, src in, the tail back
-pub three-copies : (d s src : Text) (len from to : ℕ) → from ≤ to → to ≤ len → len ≤ length d → from + length src + (len - to) ≤ length d → len - to ≤ length s
-    → over (over d from src) (from + length src) (take (len - to - 0) (drop 0 (over s 0 (part d to len)))) ≡ spliced d len from to src
-three-copies d s src len from to h k l m n =
-    let tail : Text = part d to len in
-    let at : ℕ = from + length src in
-    let size : length tail ≡ len - to = length-part d to len k l in
-    let back : take (len - to - 0) (drop 0 (over s 0 tail)) ≡ tail =
-    ap (λ (j : ℕ). take j (over s 0 tail)) (let e : len - to - 0 ≡ length tail = omega arith in e) ∙ over-front s tail (omega arith) in
-    let head : over d from src ≡ (take from d ++ src) ++ drop at d = sym (append-assoc (take from d) src (drop at d)) in
-    let lead : length (take from d ++ src) ≡ at = omega (arith, length-append (take from d) src, length-take-le from d (omega arith)) in
-    let front : take at (over d from src) ≡ take from d ++ src = ap (take at) head ∙ take-at (take from d ++ src) (drop at d) at lead in
-    let rest : drop (at + length tail) (over d from src) ≡ drop (at + (len - to)) d =
-    ap (λ (j : ℕ). drop (at + j) (over d from src)) size
-    ∙ sym (drop-drop (len - to) at (over d from src)) ∙ ap (drop (len - to)) (ap (drop at) head ∙ drop-at (take from d ++ src) (drop at d) at lead)
-    ∙ drop-drop (len - to) at d in
-    ap (λ (x : Text). over (over d from src) at x) back
-    ∙ (λ i. front i ++ (tail ++ rest i))
-    ∙ append-assoc (take from d) src (tail ++ drop (at + (len - to)) d)
 
 -- ---- numbers moved in place
 

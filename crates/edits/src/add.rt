@@ -31,12 +31,12 @@ fn head(buf: &mut [u8], at: usize, letter: u8, name: &[u8]) -> usize
 }
 
 // The mark of a record that starts at `at`.
-fn note(marks: &mut [u64], count: usize, name: &[u8], at: usize)
-    requires { ⌜ (count < length (now marks)) × (at ≤ 65536) ⌝ }
+fn note(marks: &mut [u32], count: usize, name: &[u8], at: usize)
+    requires { ⌜ (count < length (now marks)) × (at < 65536) ⌝ }
     ensures { λ _. ⌜ now (marks .exit) ≡ set (now (marks .entry)) count (mark (now (name .entry)) at) ⌝ }
 {
     let p = print(name);
-    let place = at as u64;
+    let place = at as u32;
     marks[count] = p * 65536 + place;
 }
 
@@ -44,7 +44,7 @@ fn note(marks: &mut [u64], count: usize, name: &[u8], at: usize)
 pub fn add_variable(
     buf: &mut [u8],
     len: usize,
-    marks: &mut [u64],
+    marks: &mut [u32],
     count: usize,
     name: &[u8],
     value: &[u8],
@@ -66,7 +66,7 @@ pub fn add_variable(
 pub fn add_principal(
     buf: &mut [u8],
     len: usize,
-    marks: &mut [u64],
+    marks: &mut [u32],
     count: usize,
     name: &[u8],
     password: &[u8],

@@ -23,25 +23,24 @@ use store::mark::nth;
 // A record gets `src` in place of its bytes from `from` up to `to`, and the marks of later records move.
 fn rewrite(
     buf: &mut [u8],
-    scratch: &mut [u8],
     len: usize,
-    marks: &mut [u64],
+    marks: &mut [u32],
     count: usize,
     number: usize,
     from: usize,
     to: usize,
     src: &[u8],
 ) -> usize
-    requires { ⌜ (length (now buf) ≤ 65536) × (len ≤ length (now buf)) × (len ≤ length (now scratch)) × SomeSpot (take len (now buf)) count (now marks) number from to
+    requires { ⌜ (length (now buf) ≤ 65536) × (len ≤ length (now buf)) × SomeSpot (take len (now buf)) count (now marks) number from to
         × (from + length (now src) + (len - to) ≤ length (now buf)) ⌝ }
     ensures size { λ r. ⌜ r ≡ from + length (now (src .entry)) + (len - to) ⌝ }
     ensures outside { λ r. ⌜ Outside (now (buf .entry)) (now (buf .exit)) r (now (marks .entry)) (now (marks .exit)) count ⌝ }
     ensures held { λ r. ⌜ ((rows : List Row) (row : Row) → Rows rows (take len (now (buf .entry))) count (now (marks .entry))
         → Respelled rows number from to (now (src .entry)) row → Rows (set rows number row) (take r (now (buf .exit))) count (now (marks .exit))) ⌝ }
 {
-    let n = splice(buf, scratch, len, from, to, src);
-    let old = (to - from) as u64;
-    let new = src.len() as u64;
+    let n = splice(buf, len, from, to, src);
+    let old = (to - from) as u32;
+    let new = src.len() as u32;
     let next = number + 1;
     shift(marks, next, count, old, new);
     n
@@ -50,14 +49,13 @@ fn rewrite(
 // A variable gets another value.
 pub fn set_value(
     buf: &mut [u8],
-    scratch: &mut [u8],
     len: usize,
-    marks: &mut [u64],
+    marks: &mut [u32],
     count: usize,
     number: usize,
     value: &[u8],
 ) -> usize
-    requires { ⌜ (length (now buf) ≤ 65536) × (len ≤ length (now buf)) × (len ≤ length (now scratch)) × SomeValue (take len (now buf)) count (now marks) number (now value) (length (now buf)) ⌝ }
+    requires { ⌜ (length (now buf) ≤ 65536) × (len ≤ length (now buf)) × SomeValue (take len (now buf)) count (now marks) number (now value) (length (now buf)) ⌝ }
     ensures outside { λ r. ⌜ Outside (now (buf .entry)) (now (buf .exit)) r (now (marks .entry)) (now (marks .exit)) count ⌝ }
     ensures held { λ r. ⌜ ((vs : List Variable) (x : Name) (v : Value) → Variables vs (take len (now (buf .entry))) count (now (marks .entry))
         → number ≡ position (variableNames vs) x → now (value .entry) ≡ valueText v → Variables (put x v vs) (take r (now (buf .exit))) count (now (marks .exit))) ⌝ }
@@ -66,20 +64,19 @@ pub fn set_value(
     let mid = place.mid;
     let from = mid + 1;
     let to = place.end;
-    rewrite(buf, scratch, len, marks, count, number, from, to, value)
+    rewrite(buf, len, marks, count, number, from, to, value)
 }
 
 // A list gets more elements at its end: their text.
 pub fn append_value(
     buf: &mut [u8],
-    scratch: &mut [u8],
     len: usize,
-    marks: &mut [u64],
+    marks: &mut [u32],
     count: usize,
     number: usize,
     more: &[u8],
 ) -> usize
-    requires { ⌜ (length (now buf) ≤ 65536) × (len ≤ length (now buf)) × (len ≤ length (now scratch)) × SomeElements (take len (now buf)) count (now marks) number (now more) (length (now buf)) ⌝ }
+    requires { ⌜ (length (now buf) ≤ 65536) × (len ≤ length (now buf)) × SomeElements (take len (now buf)) count (now marks) number (now more) (length (now buf)) ⌝ }
     ensures outside { λ r. ⌜ Outside (now (buf .entry)) (now (buf .exit)) r (now (marks .entry)) (now (marks .exit)) count ⌝ }
     ensures held { λ r. ⌜ ((vs : List Variable) (x : Name) (es fs : List Element) → Variables vs (take len (now (buf .entry))) count (now (marks .entry))
         → number ≡ position (variableNames vs) x → valueIn vs x ≡ some (list es) → now (more .entry) ≡ joined elementText fs
@@ -87,19 +84,12 @@ pub fn append_value(
 {
     let place = nth(&buf[..len], marks, count, number);
     let end = place.end;
-    rewrite(buf, scratch, len, marks, count, number, end, end, more)
+    rewrite(buf, len, marks, count, number, end, end, more)
 }
 
 // The line of a principal without a password becomes that of one whose password is empty.
-fn open_line(
-    buf: &mut [u8],
-    scratch: &mut [u8],
-    len: usize,
-    marks: &mut [u64],
-    count: usize,
-    number: usize,
-) -> usize
-    requires { ⌜ (length (now buf) ≤ 65536) × (len + 1 ≤ length (now buf)) × (len ≤ length (now scratch)) × SomeBare (take len (now buf)) count (now marks) number ⌝ }
+fn open_line(buf: &mut [u8], len: usize, marks: &mut [u32], count: usize, number: usize) -> usize
+    requires { ⌜ (length (now buf) ≤ 65536) × (len + 1 ≤ length (now buf)) × SomeBare (take len (now buf)) count (now marks) number ⌝ }
     ensures size { λ r. ⌜ r ≡ len + 1 ⌝ }
     ensures outside { λ r. ⌜ Outside (now (buf .entry)) (now (buf .exit)) r (now (marks .entry)) (now (marks .exit)) count ⌝ }
     ensures held { λ r. ⌜ ((ks : List Principal) → Principals ks (take len (now (buf .entry))) count (now (marks .entry)) → principalAt ks number .password ≡ none
@@ -108,7 +98,7 @@ fn open_line(
     let place = nth(&buf[..len], marks, count, number);
     let start = place.start;
     let mid = place.mid;
-    let n = rewrite(buf, scratch, len, marks, count, number, mid, mid, b"\t");
+    let n = rewrite(buf, len, marks, count, number, mid, mid, b"\t");
     buf[start] = b'P';
     n
 }
@@ -116,14 +106,13 @@ fn open_line(
 // Another password in the line of a principal that has one.
 fn write_password(
     buf: &mut [u8],
-    scratch: &mut [u8],
     len: usize,
-    marks: &mut [u64],
+    marks: &mut [u32],
     count: usize,
     number: usize,
     password: &[u8],
 ) -> usize
-    requires { ⌜ (length (now buf) ≤ 65536) × (len ≤ length (now buf)) × (len ≤ length (now scratch)) × SomeKept (take len (now buf)) count (now marks) number (now password) (length (now buf)) ⌝ }
+    requires { ⌜ (length (now buf) ≤ 65536) × (len ≤ length (now buf)) × SomeKept (take len (now buf)) count (now marks) number (now password) (length (now buf)) ⌝ }
     ensures outside { λ r. ⌜ Outside (now (buf .entry)) (now (buf .exit)) r (now (marks .entry)) (now (marks .exit)) count ⌝ }
     ensures held { λ r. ⌜ ((ks : List Principal) (old : Text) → Principals ks (take len (now (buf .entry))) count (now (marks .entry)) → principalAt ks number .password ≡ some old
         → Principals (withPassword ks number (now (password .entry))) (take r (now (buf .exit))) count (now (marks .exit))) ⌝ }
@@ -133,20 +122,19 @@ fn write_password(
     let from = mid + 1;
     let line = place.end;
     let to = line - 1;
-    rewrite(buf, scratch, len, marks, count, number, from, to, password)
+    rewrite(buf, len, marks, count, number, from, to, password)
 }
 
 // A principal's password is `password`.
 pub fn set_password(
     buf: &mut [u8],
-    scratch: &mut [u8],
     len: usize,
-    marks: &mut [u64],
+    marks: &mut [u32],
     count: usize,
     number: usize,
     password: &[u8],
 ) -> usize
-    requires { ⌜ (length (now buf) ≤ 65536) × (length (now buf) ≤ length (now scratch)) × (len ≤ length (now buf))
+    requires { ⌜ (length (now buf) ≤ 65536) × (len ≤ length (now buf))
         × SomePassword (take len (now buf)) count (now marks) number (now password) (length (now buf)) ⌝ }
     ensures outside { λ r. ⌜ Outside (now (buf .entry)) (now (buf .exit)) r (now (marks .entry)) (now (marks .exit)) count ⌝ }
     ensures held { λ r. ⌜ ((ks : List Principal) (p : Name) → Principals ks (take len (now (buf .entry))) count (now (marks .entry)) → T (distinct (principalNames ks))
@@ -157,7 +145,6 @@ pub fn set_password(
     match p {
         Password::Kept { start: _, end: _ } => write_password(
             buf,
-            scratch,
             len,
             marks,
             count,
@@ -165,8 +152,8 @@ pub fn set_password(
             password,
         ),
         Password::Absent => {
-            let n = open_line(buf, scratch, len, marks, count, number);
-            write_password(buf, scratch, n, marks, count, number, password)
+            let n = open_line(buf, len, marks, count, number);
+            write_password(buf, n, marks, count, number, password)
         }
     }
 }

@@ -14,20 +14,11 @@ use Rattle.language.specs.Text.{Text, if_then_else_, _==_, member, joined}
 use Rattle.language.specs.Syntax.{Name}
 use Rattle.language.specs.Identifiers.{isName}
 use Rattle.language.proofs.Logic.Tests.{and, all-append, ==-sym}
-use Rattle.store.specs.Held.{print, printFrom, mark, marksFrom}
+use Rattle.store.specs.Held.{mark, marksFrom}
 use Rattle.store.specs.Rows.{Row, Rows, rowText, rowNames, position, place}
 use Rattle.store.specs.declared.mark.Found.the-variants.{At, Missing}
 use Rattle.store.proofs.Records.{joined-append}
 use Rattle.store.proofs.Answers.{answered, unanswered}
-
--- ---- a print fits 32 bits
-
-print-from-fits : (h : ℕ) (t : Text) → h < 4294967296 → printFrom h t < 4294967296
-print-from-fits h [] l = l
-print-from-fits h (b ∷ t) l = print-from-fits ((h * 31 + b) % 4294967296) t (omega arith)
-
-pub print-fits : (x : Name) → print x < 4294967296
-print-fits x = print-from-fits 0 x (omega arith)
 
 -- ---- a name among names
 

@@ -32,7 +32,7 @@ pub enum Added {
 }
 
 // A record without fields.
-pub fn start(out: &mut [u8], marks: &[u64]) -> Draft
+pub fn start(out: &mut [u8], marks: &[u32]) -> Draft
     requires { ⌜ Lent (now out) (now marks) ⌝ }
     ensures { λ r. ⌜ Drafted [] (now (out .exit)) (now (marks .entry)) r ⌝ }
 {
@@ -55,7 +55,7 @@ fn put_label(out: &mut [u8], at: usize, label: &[u8]) -> usize
 }
 
 // Whether no row has that label.
-fn is_new(rows: &[u8], marks: &[u64], count: usize, label: &[u8]) -> bool
+fn is_new(rows: &[u8], marks: &[u32], count: usize, label: &[u8]) -> bool
     requires { ⌜ SomeRows (now rows) count (now marks) ⌝ }
     ensures { λ r. ⌜ ((l : List Row) → Rows l (now (rows .entry)) count (now (marks .entry)) → r ≡ not (member (now (label .entry)) (rowNames l))) ⌝ }
 {
@@ -71,15 +71,15 @@ fn is_new(rows: &[u8], marks: &[u64], count: usize, label: &[u8]) -> bool
 }
 
 // The mark of a row that starts at a place.
-fn mark_of(label: &[u8], at: usize) -> u64
+fn mark_of(label: &[u8], at: usize) -> u32
     requires { ⌜ at < 65536 ⌝ }
     ensures { λ r. ⌜ r ≡ mark (now (label .entry)) at ⌝ }
 {
-    store::mark::print(label) * 65536 + at as u64
+    store::mark::print(label) * 65536 + at as u32
 }
 
 // Adds a field, unless its label is there already.
-pub fn add(out: &mut [u8], marks: &mut [u64], d: Draft, label: &[u8], text: &[u8]) -> Added
+pub fn add(out: &mut [u8], marks: &mut [u32], d: Draft, label: &[u8], text: &[u8]) -> Added
     requires { ⌜ Lent (now out) (now marks) × SomeDraft (now out) (now marks) d (now label) ⌝ }
     requires { ⌜ T (isString (now text)) × (length (now text) ≤ 65536) ⌝ }
     ensures { λ r. ⌜ ((fs : List Field) → Drafted fs (now (out .entry)) (now (marks .entry)) d → spelling fs + length (now (label .entry)) + 3 ≤ longest
@@ -111,7 +111,7 @@ pub fn add(out: &mut [u8], marks: &mut [u64], d: Draft, label: &[u8], text: &[u8
 // Adds a field whose text was found in a value, or was not.
 pub fn add_found(
     out: &mut [u8],
-    marks: &mut [u64],
+    marks: &mut [u32],
     d: Draft,
     label: &[u8],
     value: &[u8],

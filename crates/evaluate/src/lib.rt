@@ -34,15 +34,15 @@ fn put_empty(out: &mut [u8]) -> Evaluated
 // `labels` is room for the marks of a record's labels.
 pub fn value<'a>(
     shared: &'a [u8],
-    marks: &[u64],
+    marks: &[u32],
     count: usize,
     locals: &'a [u8],
-    lmarks: &[u64],
+    lmarks: &[u32],
     lcount: usize,
     text: &[u8],
     e: Expr,
     out: &mut [u8],
-    labels: &mut [u64],
+    labels: &mut [u32],
 ) -> Evaluated
     requires { ⌜ SomeScope (now shared) (now marks) count (now locals) (now lmarks) lcount ⌝ }
     requires { ⌜ SomeExpr (now text) e × (length (now text) ≤ longest) ⌝ }

@@ -87,10 +87,10 @@ fn put_found(value: &[u8], found: Found, out: &mut [u8]) -> Evaluated
 // Writes the value of an operand.
 pub fn put_operand<'a>(
     shared: &'a [u8],
-    marks: &[u64],
+    marks: &[u32],
     count: usize,
     locals: &'a [u8],
-    lmarks: &[u64],
+    lmarks: &[u32],
     lcount: usize,
     text: &[u8],
     v: Operand,

@@ -19,7 +19,7 @@ ghost use Rattle.evaluate.specs.Permits.{Sends, SomeSender, allowedOn, u
 // Whether the sender may do to `name` what the right allows. A name that is no shared variable asks for no right.
 pub fn allowed(
     shared: &[u8],
-    marks: &[u64],
+    marks: &[u32],
     count: usize,
     standing: &[u64],
     n: usize,
@@ -46,7 +46,7 @@ pub fn allowed(
 // Whether the sender may read the name that an operand evaluates.
 fn operand_readable(
     shared: &[u8],
-    marks: &[u64],
+    marks: &[u32],
     count: usize,
     standing: &[u64],
     n: usize,
@@ -97,7 +97,7 @@ fn operand_readable(
 // Whether the sender may read all names that the fields evaluate which stand from `at` on.
 fn fields_readable(
     shared: &[u8],
-    marks: &[u64],
+    marks: &[u32],
     count: usize,
     standing: &[u64],
     n: usize,
@@ -129,7 +129,7 @@ fn fields_readable(
 // Whether the sender may read all names that an expression evaluates.
 pub fn readable(
     shared: &[u8],
-    marks: &[u64],
+    marks: &[u32],
     count: usize,
     standing: &[u64],
     n: usize,

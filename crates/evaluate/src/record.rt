@@ -29,16 +29,16 @@ ghost use Rattle.evaluate.specs.Drafts.{Drafted, SomeDraft, Lent, Extend
 // Adds the field of a program's label and operand.
 fn add_field<'a>(
     shared: &'a [u8],
-    marks: &[u64],
+    marks: &[u32],
     count: usize,
     locals: &'a [u8],
-    lmarks: &[u64],
+    lmarks: &[u32],
     lcount: usize,
     text: &[u8],
     x: Span,
     v: Operand,
     out: &mut [u8],
-    labels: &mut [u64],
+    labels: &mut [u32],
     d: Draft,
 ) -> Added
     requires { ⌜ SomeScope (now shared) (now marks) count (now locals) (now lmarks) lcount ⌝ }
@@ -105,15 +105,15 @@ fn finished(d: Draft) -> Evaluated
 // Writes the value of the record whose fields stand from `at` on.
 pub fn put_fields<'a>(
     shared: &'a [u8],
-    marks: &[u64],
+    marks: &[u32],
     count: usize,
     locals: &'a [u8],
-    lmarks: &[u64],
+    lmarks: &[u32],
     lcount: usize,
     text: &[u8],
     at: usize,
     out: &mut [u8],
-    labels: &mut [u64],
+    labels: &mut [u32],
 ) -> Evaluated
     requires { ⌜ SomeScope (now shared) (now marks) count (now locals) (now lmarks) lcount ⌝ }
     requires { ⌜ SomeRecord (now text) at × (length (now text) ≤ longest) ⌝ }

@@ -14,7 +14,7 @@ use Rattle.language.specs.Text.{Text, if_then_else_, _==_, all, joined, sum, me
 use Rattle.language.specs.Syntax.{Name}
 use Rattle.language.specs.Identifiers.{isName}
 use Rattle.language.proofs.Logic.Tests.{both, one-of, left-of, right-of, ==-sym, all-map, any-right, distinct-last}
-use Rattle.store.specs.Held.{Held, part, print, printFrom, mark, marksFrom}
+use Rattle.store.specs.Held.{Held, part, mark, marksFrom}
 use Rattle.store.specs.Rows.{Row, Rows, rowText, rowNames, position, place}
 use Rattle.store.specs.declared.mark.Found.the-variants.{At, Missing}
 use Rattle.store.proofs.Holders.{as-rows}
@@ -22,15 +22,6 @@ use Rattle.store.proofs.Answers.{answered, unanswered}
 use Rattle.records.specs.Sections.{Fails, lightAll, Entitled}
 use Rattle.records.specs.Entering.{Entering, Entered}
 use Rattle.records.proofs.Follow.{Run, start, step, spoilt}
-
--- ---- prints
-
-print-from : (h : ℕ) (t : Text) → h < 4294967296 → printFrom h t < 4294967296
-print-from h [] l = l
-print-from h (b ∷ t) l = print-from ((h * 31 + b) % 4294967296) t (omega arith)
-
-pub print-small : (x : Text) → print x < 4294967296
-print-small x = print-from 0 x (omega arith)
 
 -- ---- names and their places
 

@@ -70,7 +70,7 @@ fn field_at(text: &[u8], at: usize, w: usize) -> Entry
 }
 
 // A name that starts at i + 2 and ends at m is entered as the n-th of the records that stand from `at` up to i, if it is new.
-pub fn enter(text: &[u8], at: usize, i: usize, m: usize, marks: &mut [u64], n: usize) -> bool
+pub fn enter(text: &[u8], at: usize, i: usize, m: usize, marks: &mut [u32], n: usize) -> bool
     requires { ⌜ Entering (now text) at i m n (now marks) ⌝ }
     ensures { λ r. ⌜ ((rows : List Row) → Rows rows (part (now (text .entry)) at i) n (now (marks .entry))
         → Entered rows (part (now (text .entry)) (i + 2) m) (i - at) n (now (marks .entry)) (now (marks .exit)) r) ⌝ }
@@ -80,12 +80,12 @@ pub fn enter(text: &[u8], at: usize, i: usize, m: usize, marks: &mut [u64], n: u
     let Found::Missing = seen else {
         return false;
     };
-    marks[n] = store::mark::print(&text[from..m]) * 65536 + (i - at) as u64;
+    marks[n] = store::mark::print(&text[from..m]) * 65536 + (i - at) as u32;
     true
 }
 
 // Field lines with different labels. The marks of the labels go to `marks`, to tell whether one is there twice.
-fn fields(text: &[u8], at: usize, w: usize, marks: &mut [u64]) -> Section
+fn fields(text: &[u8], at: usize, w: usize, marks: &mut [u32]) -> Section
     requires { ⌜ Safe (now text) at w (now marks) ⌝ }
     ensures { λ r. ⌜ FieldsMeant (now (text .entry)) at w r ⌝ }
 {
@@ -111,7 +111,7 @@ fn fields(text: &[u8], at: usize, w: usize, marks: &mut [u64]) -> Section
 }
 
 // A string or a record, as an element of a list or a whole value.
-fn element_at(text: &[u8], at: usize, w: usize, marks: &mut [u64]) -> Item
+fn element_at(text: &[u8], at: usize, w: usize, marks: &mut [u32]) -> Item
     requires { ⌜ Safe (now text) at w (now marks) ⌝ }
     ensures { λ r. ⌜ ElementMeant (now (text .entry)) at w r ⌝ }
 {
@@ -153,7 +153,7 @@ fn goes_on(text: &[u8], at: usize) -> bool
 }
 
 // The elements of a list.
-fn elements(text: &[u8], at: usize, w: usize, marks: &mut [u64]) -> Item
+fn elements(text: &[u8], at: usize, w: usize, marks: &mut [u32]) -> Item
     requires { ⌜ Safe (now text) at w (now marks) × (w ≤ 8192) ⌝ }
     ensures { λ r. ⌜ ElementsMeant (now (text .entry)) at w r ⌝ }
 {
@@ -171,7 +171,7 @@ fn elements(text: &[u8], at: usize, w: usize, marks: &mut [u64]) -> Item
 }
 
 // The value of a variable.
-fn value_at(text: &[u8], at: usize, w: usize, marks: &mut [u64]) -> Item
+fn value_at(text: &[u8], at: usize, w: usize, marks: &mut [u32]) -> Item
     requires { ⌜ Safe (now text) at w (now marks) × (w ≤ 8192) ⌝ }
     ensures { λ r. ⌜ ValueMeant (now (text .entry)) at w r ⌝ }
 {
@@ -185,7 +185,7 @@ fn value_at(text: &[u8], at: usize, w: usize, marks: &mut [u64]) -> Item
 }
 
 // A variable: its name, and its value.
-pub fn variable_at(text: &[u8], at: usize, w: usize, marks: &mut [u64]) -> Entry
+pub fn variable_at(text: &[u8], at: usize, w: usize, marks: &mut [u32]) -> Entry
     requires { ⌜ Safe (now text) at w (now marks) × (getD (now text) at 0 ≡ 86) ⌝ }
     ensures { λ r. ⌜ VariableMeant (now (text .entry)) at w r ⌝ }
 {

@@ -17,7 +17,7 @@ part t s e = take (e - s) (drop s t)
 -- a number computed from the bytes of a name: equal names have equal prints
 abbrev pub printFrom : ℕ → Text → ℕ
 printFrom h [] = h
-printFrom h (b ∷ t) = printFrom ((h * 31 + b) % 4294967296) t
+printFrom h (b ∷ t) = printFrom ((h * 31 + b) % 65536) t
 
 abbrev pub print : Name → ℕ
 print x = printFrom 0 x

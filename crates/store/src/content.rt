@@ -19,7 +19,7 @@ pub enum Password {
 }
 
 // The password of a principal: after the tab that follows the name, without the line's end.
-pub fn password_of(text: &[u8], marks: &[u64], count: usize, number: usize) -> Password
+pub fn password_of(text: &[u8], marks: &[u32], count: usize, number: usize) -> Password
     requires { ⌜ SomeRows (now text) count (now marks) × (number < count) ⌝ }
     ensures { λ r. ⌜ ((ks : List Principal) → Principals ks (now (text .entry)) count (now (marks .entry)) → PasswordAt ks (now (text .entry)) number r) ⌝ }
 {
@@ -35,7 +35,7 @@ pub fn password_of(text: &[u8], marks: &[u64], count: usize, number: usize) -> P
 }
 
 // The text of a variable's value.
-pub fn value_of(text: &[u8], marks: &[u64], count: usize, number: usize) -> Span
+pub fn value_of(text: &[u8], marks: &[u32], count: usize, number: usize) -> Span
     requires { ⌜ SomeRows (now text) count (now marks) × (number < count) ⌝ }
     ensures { λ r. ⌜ ((vs : List Variable) → Variables vs (now (text .entry)) count (now (marks .entry)) → ValueAt vs (now (text .entry)) number (r .start) (r .end)) ⌝ }
 {
@@ -49,10 +49,10 @@ pub fn value_of(text: &[u8], marks: &[u64], count: usize, number: usize) -> Span
 // The bytes of the value of a name, a part of the locals or else of the shared text; nothing where neither has it.
 pub fn read<'a>(
     shared: &'a [u8],
-    marks: &[u64],
+    marks: &[u32],
     count: usize,
     locals: &'a [u8],
-    lmarks: &[u64],
+    lmarks: &[u32],
     lcount: usize,
     name: &[u8],
 ) -> &'a [u8]

@@ -27,27 +27,27 @@ pub struct Place {
     pub end: usize,
 }
 
-fn wide(b: u8) -> u64
+fn wide(b: u8) -> u32
     ensures { λ r. ⌜ r ≡ b ⌝ }
 {
-    b as u64
+    b as u32
 }
 
 // A name's print.
-pub fn print(name: &[u8]) -> u64
+pub fn print(name: &[u8]) -> u32
     ensures { λ r. ⌜ r ≡ print (now (name .entry)) ⌝ }
 {
     let mut h = 0;
     let mut i = 0;
     while i < name.len() {
-        h = (h * 31 + wide(name[i])) % 4294967296;
+        h = (h * 31 + wide(name[i])) % 65536;
         i += 1;
     }
     h
 }
 
 // Whether one of the marks from `from` up to `to` has the print `p`. The loop has no exit, so that some marks are looked at together.
-fn hits(marks: &[u64], from: usize, to: usize, p: u64) -> bool
+fn hits(marks: &[u32], from: usize, to: usize, p: u32) -> bool
     requires { ⌜ (from ≤ to) × (to ≤ length (now marks)) ⌝ }
     ensures { λ r. ⌜ HitMeant (now (marks .entry)) from to p r ⌝ }
 {
@@ -63,7 +63,7 @@ fn hits(marks: &[u64], from: usize, to: usize, p: u64) -> bool
 }
 
 // The first of the marks from `from` up to `to` that has the print `p`, or `to` where there is none.
-fn first_of(marks: &[u64], from: usize, to: usize, p: u64) -> usize
+fn first_of(marks: &[u32], from: usize, to: usize, p: u32) -> usize
     requires { ⌜ (from ≤ to) × (to ≤ length (now marks)) ⌝ }
     ensures { λ r. ⌜ FirstHit (now (marks .entry)) from to p r ⌝ }
 {
@@ -89,7 +89,7 @@ fn block_end(i: usize, to: usize) -> usize
 }
 
 // The same as `first_of`, block by block, because most blocks have no such mark.
-fn scan(marks: &[u64], from: usize, to: usize, p: u64) -> usize
+fn scan(marks: &[u32], from: usize, to: usize, p: u32) -> usize
     requires { ⌜ (from ≤ to) × (to ≤ length (now marks)) ⌝ }
     ensures { λ r. ⌜ FirstHit (now (marks .entry)) from to p r ⌝ }
 {
@@ -105,7 +105,7 @@ fn scan(marks: &[u64], from: usize, to: usize, p: u64) -> usize
 }
 
 // Where the record of a mark starts.
-fn start_of(marks: &[u64], number: usize) -> usize
+fn start_of(marks: &[u32], number: usize) -> usize
     requires { ⌜ number < length (now marks) ⌝ }
     ensures { λ r. ⌜ r ≡ getD (now (marks .entry)) number 0 % 65536 ⌝ }
 {
@@ -113,7 +113,7 @@ fn start_of(marks: &[u64], number: usize) -> usize
 }
 
 // The record of a number.
-pub fn nth(text: &[u8], marks: &[u64], count: usize, number: usize) -> Place
+pub fn nth(text: &[u8], marks: &[u32], count: usize, number: usize) -> Place
     requires { ⌜ SomeRows (now text) count (now marks) × (number < count) ⌝ }
     ensures { λ r. ⌜ ((rows : List Row) → Rows rows (now (text .entry)) count (now (marks .entry)) → Placed rows number r) ⌝ }
 {
@@ -138,7 +138,7 @@ fn is_named(text: &[u8], from: usize, to: usize, name: &[u8]) -> bool
 }
 
 // The record of a name.
-pub fn find(text: &[u8], marks: &[u64], count: usize, name: &[u8]) -> Found
+pub fn find(text: &[u8], marks: &[u32], count: usize, name: &[u8]) -> Found
     requires { ⌜ SomeRows (now text) count (now marks) ⌝ }
     ensures { λ r. ⌜ ((rows : List Row) → Rows rows (now (text .entry)) count (now (marks .entry)) → r ≡ place rows (now (name .entry))) ⌝ }
 {

@@ -21,7 +21,7 @@ use Rattle.store.proofs.Answers.{answered}
 use Rattle.language.specs.Weight.{nameWeight}
 use Rattle.language.proofs.StateText.Clean.{name-length}
 use Rattle.records.proofs.Marking.{is-there, is-new, member-place}
-use Rattle.validate.proofs.Persons.{name-light}
+use Rattle.store.proofs.NameWeights.{name-light}
 use Rattle.records.specs.Sections.{Fails, anyText}
 use Rattle.records.proofs.Opening.{part-length, twice, tail-of, byte-here, next-here}
 use Rattle.validate.specs.Known.{Member, Delegating}

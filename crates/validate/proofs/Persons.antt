@@ -3,7 +3,7 @@
 use mathlib.Core.Path.{_≡_, refl, sym, ap, _∙_}
 use Prim.Native.Nat.{ℕ, _+_, _≤_, _<_}
 use native.Mathlib.Omega.{arith}
-use mathlib.Core.Bool.{Bool, true, false, _&&_, _||_, not}
+use mathlib.Core.Bool.{Bool, true, false, _&&_, not}
 use mathlib.Core.Option.{Option, none, some}
 use mathlib.Core.List.{[], _∷_, _++_, append-assoc}
 use lib.Dec.{T, eqb, leb, leb→le, le→leb}
@@ -15,7 +15,6 @@ use Rattle.language.specs.Weight.{nameWeight, principalWeight}
 use Rattle.language.specs.Identifiers.{isName, isString}
 use Rattle.language.specs.Valid.{validPrincipal, hasPassword}
 use Rattle.language.proofs.Logic.Tests.{both, and}
-use Rattle.language.proofs.StateText.Clean.{name-length}
 use Rattle.lines.specs.Cuts.{part, Field}
 use Rattle.lines.proofs.Cuts.{name-only}
 use Rattle.records.specs.Sections.{Fails, lightOne, One, Entitled, anyText, stringLine, opens}
@@ -23,25 +22,6 @@ use Rattle.records.proofs.Opening.{twice, tail-of, byte-here, next-here}
 use Rattle.records.proofs.Sorts.{inner-fails, inner-reads, any-weaker}
 use Rattle.records.proofs.Labels.{opens-here, opens-not}
 use Rattle.validate.specs.People.{personText, offPerson, inPlace}
-
--- ---- the weight of a name
-
-pub weighs-one : (x : Text) → ((x == admin) || (x == anyone)) ≡ true → nameWeight x ≡ 1
-weighs-one x e = ap (λ (b : Bool). if b then 1 else length x) e
-
-pub weighs-all : (x : Text) → (x == admin) ≡ false → (x == anyone) ≡ false → nameWeight x ≡ length x
-weighs-all x e f = ap (λ (b : Bool). if b || (x == anyone) then 1 else length x) e ∙ ap (λ (b : Bool). if b then 1 else length x) f
-
-pub second-one : (a b : Bool) → b ≡ true → (a || b) ≡ true
-second-one true b e = refl
-second-one false b e = e
-
-pub name-light : (x : Text) → T (isName x) → (1 ≤ nameWeight x) × (nameWeight x ≤ 255)
-name-light x h = go ((x == admin) || (x == anyone)) (name-length x h)
-  where
-    go : (b : Bool) → (1 ≤ length x) × (length x ≤ 255) → (1 ≤ (if b then 1 else length x)) × ((if b then 1 else length x) ≤ 255)
-    go true l = (omega arith, omega arith)
-    go false l = l
 
 -- ---- the letter
 

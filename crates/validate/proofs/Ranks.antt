@@ -23,7 +23,8 @@ use Rattle.records.proofs.Follow.{stuck, spoilt, finish}
 use Rattle.records.proofs.Marking.{Going, going-start, going-held, going-rows, entering, go-on, again, light, ahead}
 use Rattle.validate.specs.People.{personText, offPerson, inPlace, orderly, goodPeople}
 use Rattle.validate.specs.Listed.{Listed}
-use Rattle.validate.proofs.Persons.{name-light, place-other}
+use Rattle.store.proofs.NameWeights.{name-light}
+use Rattle.validate.proofs.Persons.{place-other}
 
 -- ---- order
 

@@ -31,7 +31,7 @@ use Rattle.records.proofs.Follow.{Run, start, step, stuck, spoilt, finish}
 use Rattle.records.proofs.Labels.{opens-here, opens-not}
 use Rattle.records.proofs.Marking.{ahead}
 use Rattle.validate.specs.Claims.{knownNames, offClaim, goodClaims, Granting, Granted}
-use Rattle.validate.proofs.Persons.{name-light}
+use Rattle.store.proofs.NameWeights.{name-light}
 
 -- ---- equal numbers are equal assertions
 

@@ -1,12 +1,12 @@
 -- What the readers of the parts say of the whole buffer.
 -- Assumes nothing.
-use mathlib.Core.Path.{_≡_, refl, subst}
+use mathlib.Core.Path.{_≡_, refl, ap, subst, _∙_}
 use Prim.Native.Nat.{ℕ, _+_, _≤_}
 use native.Mathlib.Omega.{arith}
 use mathlib.Core.Option.{Option, none, some}
 use mathlib.Core.List.{List, map}
 use lib.Dec.{leb, leb→le}
-use lib.ListN.{length, drop}
+use lib.ListN.{length, drop, replicate, length-drop}
 use Rattle.language.specs.Text.{Text, all, joined, sum, member}
 use Rattle.language.specs.Syntax.{Name}
 use Rattle.language.specs.State.{Principal, Variable, State}
@@ -32,6 +32,7 @@ use Rattle.validate.specs.Edges.{Top, topText, fineTop, total}
 use Rattle.validate.specs.Known.{Delegating}
 use Rattle.validate.specs.Claims.{knownNames, offClaim, goodClaims, Granted}
 use Rattle.validate.specs.Checked.{Understood}
+use Rattle.validate.proofs.Limits.{zero-bytes}
 use Rattle.validate.proofs.Whole.{stateOf, whole-holds, no-head, no-people, no-delegator, no-variables, no-claims, behind-zero}
 
 -- a buffer that holds no state
@@ -115,7 +116,7 @@ module _ (t : Text) (h : Top) (e₁ : ℕ) (R₁ : Reads topText fineTop anyText
               undecoded t (λ s H. never (behind-zero t s H h e₁ R₁ (P .records .rows) e₂ (P .records .reads) (D .name) e₃ (D .reads) w₁ (P .records .weighed) (W .records .rows) e₄ (W .records .reads) w₂ (W .records .weighed) (C .records .rows) e₅ (C .records .reads)))
 
           pub all-good : length t ≡ 65536 → total (drop e₅ t) ≡ 0
-              → Understood t marks-p marks-v standing (record { «open» = h .isOpen; count = h .count; «people_from» = e₁; «people_to» = e₂; people = n; delegator = k; «vars_from» = e₃; «vars_to» = e₄; vars = m; asserted = a; weight = w₃ })
+              → Understood t marks-p marks-v standing (record { «open» = h .isOpen; count = h .count; «people_from» = e₁; «people_to» = e₂; people = n; delegator = k; «vars_from» = e₃; «vars_to» = e₄; vars = m; asserted = a; weight = w₃; used = e₅ })
           all-good size z =
               let s : State = stateOf h (P .records .rows) (D .name) (W .records .rows) (C .records .rows) in
               let H : Holds t s = whole-holds t size h (P .records .rows) (D .name) (W .records .rows) (C .records .rows) e₁ e₂ e₃ e₄ e₅ w₁ w₂ R₁ (P .records .reads) (D .reads) (P .records .weighed) (W .records .reads) (W .records .weighed) (C .records .reads) z in
@@ -134,5 +135,7 @@ module _ (t : Text) (h : Top) (e₁ : ℕ) (R₁ : Reads topText fineTop anyText
                   variables = W .held;
                   assertions = record { within = C .within; are = C .numbers };
                   weighed = omega (arith, P .records .weighed, W .records .weighed, C .records .weighed);
+                  used-within = C .records .reads .high;
+                  rest-zero = zero-bytes (drop e₅ t) z ∙ ap (λ (n : ℕ). replicate n 0) (length-drop e₅ t);
                 };
               }

@@ -2,8 +2,8 @@
 use mathlib.Core.Path.{_≡_}
 use mathlib.Core.Option.{none, some}
 use mathlib.Core.List.{List}
-use Prim.Native.Nat.{ℕ, _≤_}
-use lib.ListN.{length}
+use Prim.Native.Nat.{ℕ, _-_, _≤_}
+use lib.ListN.{length, drop, replicate}
 use Rattle.language.specs.Text.{Text}
 use Rattle.language.specs.State.{State}
 use Rattle.language.specs.Weight.{storeWeight}
@@ -29,6 +29,8 @@ pub record Represents (t : Text) (marks-p marks-v standing : List ℕ) (p : Part
   pub variables : Variables (s .store .variables) (part t (p .«vars_from») (p .«vars_to»)) (p .vars) marks-v
   pub assertions : Standing (s .store) (p .asserted) standing
   pub weighed : p .weight ≡ storeWeight (s .store)
+  pub used-within : p .used ≤ length t
+  pub rest-zero : drop (p .used) t ≡ replicate (length t - p .used) 0
 
 pub record Understood (t : Text) (marks-p marks-v standing : List ℕ) (p : Parts) : Type 0 where
   pub state : State

@@ -1,8 +1,8 @@
 // The assertions of a state text, read as numbers.
 use crate::known::Known;
 use crate::known::known_at;
-use crate::people::name_weight;
 use records::Section;
+use store::name::name_weight;
 ghost use mathlib.Core.Path.{_≡_};
 ghost use mathlib.Core.List.{List};
 ghost use Prim.Native.Nat.{_+_, _≤_, _<_};
@@ -57,7 +57,7 @@ fn packed(variable: usize, from: usize, right: u64, to: usize) -> u64
 }
 
 // One assertion's line.
-fn claim_at(text: &[u8], at: usize, w: usize, roll: Roll, people: &[u64], vars: &[u64]) -> Claim
+fn claim_at(text: &[u8], at: usize, w: usize, roll: Roll, people: &[u32], vars: &[u32]) -> Claim
     requires { ⌜ Enrolled (now text) roll (now people) (now vars) × (getD (now text) at 0 ≡ 65) × (w ≤ 8192) ⌝ }
     ensures { λ r. ⌜ ((prows vrows : List Row) → Rows prows (part (now (text .entry)) (roll .«people_from») (roll .«people_to»)) (roll .people) (now (people .entry))
         → Rows vrows (part (now (text .entry)) (roll .«vars_from») (roll .«vars_to»)) (roll .vars) (now (vars .entry))
@@ -140,8 +140,8 @@ pub fn assertions(
     at: usize,
     w: usize,
     roll: Roll,
-    people: &[u64],
-    vars: &[u64],
+    people: &[u32],
+    vars: &[u32],
     standing: &mut [u64],
 ) -> Section
     requires { ⌜ Enrolled (now text) roll (now people) (now vars) × (at ≤ length (now text)) × (w ≤ 8192) × (length (now standing) ≡ 2048) ⌝ }

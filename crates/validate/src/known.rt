@@ -22,7 +22,7 @@ pub fn known_at(
     stop: u8,
     from: usize,
     to: usize,
-    marks: &[u64],
+    marks: &[u32],
     count: usize,
 ) -> Known
     requires { ⌜ Asking (now text) at stop from to count (now marks) ⌝ }
@@ -45,7 +45,7 @@ pub fn known_at(
 }
 
 // The default delegator's line, which stands behind the principals: the number of its name, and where it ends.
-pub fn delegator_at(text: &[u8], at: usize, from: usize, marks: &[u64], count: usize) -> Known
+pub fn delegator_at(text: &[u8], at: usize, from: usize, marks: &[u32], count: usize) -> Known
     requires { ⌜ (from ≤ at) × (at ≤ length (now text)) × SomeRows (part (now text) from at) count (now marks) ⌝ }
     ensures { λ r. ⌜ ((rows : List Row) → Rows rows (part (now (text .entry)) from at) count (now (marks .entry)) → DelegatorMeant (rowNames rows) (now (text .entry)) at r) ⌝ }
 {

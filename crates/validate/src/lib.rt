@@ -14,7 +14,7 @@ ghost use lib.ListN.{length};
 ghost use Rattle.validate.specs.Checked.{CheckedMeant};
 
 // Where the parts of a state's text stand: the principals, the variables, how many there are of each and of assertions; the number of the
-// default delegator, the number of programs and the weight.
+// default delegator, the number of programs, the weight, and how many bytes the whole text has: from there on all are 0.
 pub struct Parts {
     pub open: bool,
     pub count: u64,
@@ -27,6 +27,7 @@ pub struct Parts {
     pub vars: usize,
     pub asserted: usize,
     pub weight: usize,
+    pub used: usize,
 }
 
 pub enum Checked {
@@ -35,7 +36,7 @@ pub enum Checked {
 }
 
 // The tables are written: the marks of the principals and of the variables, and the assertions that stand, as numbers.
-pub fn check(state: &[u8], people: &mut [u64], vars: &mut [u64], standing: &mut [u64]) -> Checked
+pub fn check(state: &[u8], people: &mut [u32], vars: &mut [u32], standing: &mut [u64]) -> Checked
     requires { ⌜ (length (now state) ≡ 65536) × (length (now people) ≡ 4096) × (length (now vars) ≡ 4096) × (length (now standing) ≡ 2048) ⌝ }
     ensures { λ r. ⌜ CheckedMeant (now (state .entry)) (now (people .exit)) (now (vars .exit)) (now (standing .exit)) r ⌝ }
 {
@@ -82,5 +83,6 @@ pub fn check(state: &[u8], people: &mut [u64], vars: &mut [u64], standing: &mut 
         vars: m,
         asserted,
         weight,
+        used: end,
     })
 }

@@ -3,25 +3,12 @@ use lines::Cut;
 use records::Entry;
 use records::Item;
 use records::Section;
+use store::name::name_weight;
 ghost use mathlib.Core.Path.{_≡_};
 ghost use mathlib.Core.Bool.{not};
 ghost use Prim.Native.Nat.{_+_, _≤_};
 ghost use lib.ListN.{length, drop, getD};
-ghost use Rattle.language.specs.Weight.{nameWeight};
 ghost use Rattle.validate.specs.People.{PersonMeant, PeopleMeant, offPerson, inPlace};
-
-// The weight of a principal's name: 1 for admin and anyone.
-pub fn name_weight(name: &[u8]) -> usize
-    ensures { λ r. ⌜ r ≡ nameWeight (now (name .entry)) ⌝ }
-{
-    if text::same_bytes(name, b"admin") {
-        return 1;
-    }
-    if text::same_bytes(name, b"anyone") {
-        return 1;
-    }
-    name.len()
-}
 
 // A principal with a password.
 fn keyed_at(text: &[u8], at: usize, w: usize) -> Entry
@@ -106,7 +93,7 @@ fn in_place(name: &[u8], has: bool, n: usize) -> bool
 }
 
 // The principals: admin first, anyone second, all names different.
-pub fn principals(text: &[u8], at: usize, marks: &mut [u64]) -> Section
+pub fn principals(text: &[u8], at: usize, marks: &mut [u32]) -> Section
     requires { ⌜ (at ≤ length (now text)) × (length (now text) ≤ 65536) × (length (now marks) ≡ 4096) ⌝ }
     ensures { λ r. ⌜ PeopleMeant (now (text .entry)) at (now (marks .exit)) r ⌝ }
 {

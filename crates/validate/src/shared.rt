@@ -25,7 +25,7 @@ fn goes_on(text: &[u8], at: usize) -> bool
 }
 
 // The variables, all names different. The marks from the n-th on are free for the labels of the n-th variable's records.
-pub fn variables(text: &[u8], at: usize, w: usize, marks: &mut [u64]) -> Section
+pub fn variables(text: &[u8], at: usize, w: usize, marks: &mut [u32]) -> Section
     requires { ⌜ (at ≤ length (now text)) × (length (now text) ≤ 65536) × (length (now marks) ≡ 4096) × (w ≤ 8192) ⌝ }
     ensures { λ r. ⌜ VariablesMeant (now (text .entry)) at w (now (marks .exit)) r ⌝ }
 {

@@ -23,8 +23,8 @@ pub extern "C" fn state_check(state: &[u8], out: &mut [u64]) -> u64
     if out.len() < 2055 {
         return REFUSED;
     }
-    let mut people = [0u64; 4096];
-    let mut vars = [0u64; 4096];
+    let mut people = [0u32; 4096];
+    let mut vars = [0u32; 4096];
     let mut standing = [0u64; 2048];
     let checked = validate::check(state, &mut people, &mut vars, &mut standing);
     match checked {
@@ -44,8 +44,8 @@ pub extern "C" fn state_principal(state: &[u8], name: &[u8], out: &mut [u8]) -> 
     if out.len() < 65536 {
         return REFUSED;
     }
-    let mut people = [0u64; 4096];
-    let mut vars = [0u64; 4096];
+    let mut people = [0u32; 4096];
+    let mut vars = [0u32; 4096];
     let mut standing = [0u64; 2048];
     let checked = validate::check(state, &mut people, &mut vars, &mut standing);
     match checked {
@@ -69,8 +69,8 @@ pub extern "C" fn state_variable(state: &[u8], name: &[u8], out: &mut [u8]) -> u
     if out.len() < 65536 {
         return REFUSED;
     }
-    let mut people = [0u64; 4096];
-    let mut vars = [0u64; 4096];
+    let mut people = [0u32; 4096];
+    let mut vars = [0u32; 4096];
     let mut standing = [0u64; 2048];
     let checked = validate::check(state, &mut people, &mut vars, &mut standing);
     match checked {
@@ -94,8 +94,8 @@ pub extern "C" fn state_principal_name(state: &[u8], number: usize, out: &mut [u
     if out.len() < 65536 {
         return REFUSED;
     }
-    let mut people = [0u64; 4096];
-    let mut vars = [0u64; 4096];
+    let mut people = [0u32; 4096];
+    let mut vars = [0u32; 4096];
     let mut standing = [0u64; 2048];
     let checked = validate::check(state, &mut people, &mut vars, &mut standing);
     match checked {
@@ -119,8 +119,8 @@ pub extern "C" fn state_variable_name(state: &[u8], number: usize, out: &mut [u8
     if out.len() < 65536 {
         return REFUSED;
     }
-    let mut people = [0u64; 4096];
-    let mut vars = [0u64; 4096];
+    let mut people = [0u32; 4096];
+    let mut vars = [0u32; 4096];
     let mut standing = [0u64; 2048];
     let checked = validate::check(state, &mut people, &mut vars, &mut standing);
     match checked {

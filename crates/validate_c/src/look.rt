@@ -18,7 +18,7 @@ ghost use Rattle.validate_c.specs.Reported.{Says, nameOf, principalOf, v
 const MISSING: u64 = 4294967298;
 
 // A principal by name, with its password.
-pub fn principal(text: &[u8], marks: &[u64], count: usize, name: &[u8], out: &mut [u8]) -> u64
+pub fn principal(text: &[u8], marks: &[u32], count: usize, name: &[u8], out: &mut [u8]) -> u64
     requires { ⌜ SomePrincipals (now text) count (now marks) × (count ≤ 4096) × (65536 ≤ length (now out)) ⌝ }
     ensures { λ r. ⌜ ((ks : List Principal) → Principals ks (now (text .entry)) count (now (marks .entry)) → Says (principalOf ks (now (name .entry))) (now (out .entry)) (now (out .exit)) r) ⌝ }
 {
@@ -39,7 +39,7 @@ pub fn principal(text: &[u8], marks: &[u64], count: usize, name: &[u8], out: &mu
 }
 
 // A variable by name, with its value's text.
-pub fn variable(text: &[u8], marks: &[u64], count: usize, name: &[u8], out: &mut [u8]) -> u64
+pub fn variable(text: &[u8], marks: &[u32], count: usize, name: &[u8], out: &mut [u8]) -> u64
     requires { ⌜ SomeVariables (now text) count (now marks) × (count ≤ 4096) × (65536 ≤ length (now out)) ⌝ }
     ensures { λ r. ⌜ ((vs : List Variable) → Variables vs (now (text .entry)) count (now (marks .entry)) → Says (variableOf vs (now (name .entry))) (now (out .entry)) (now (out .exit)) r) ⌝ }
 {
@@ -59,7 +59,7 @@ pub fn variable(text: &[u8], marks: &[u64], count: usize, name: &[u8], out: &mut
 }
 
 // The name of the record of a number.
-pub fn nth_name(text: &[u8], marks: &[u64], count: usize, number: usize, out: &mut [u8]) -> u64
+pub fn nth_name(text: &[u8], marks: &[u32], count: usize, number: usize, out: &mut [u8]) -> u64
     requires { ⌜ SomeRows (now text) count (now marks) × (count ≤ 4096) × (65536 ≤ length (now out)) ⌝ }
     ensures { λ r. ⌜ ((rows : List Row) → Rows rows (now (text .entry)) count (now (marks .entry)) → Says (nameOf (rowNames rows) number) (now (out .entry)) (now (out .exit)) r) ⌝ }
 {

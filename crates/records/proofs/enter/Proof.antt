@@ -4,7 +4,8 @@ use native.Mathlib.Omega.{arith}
 use denote.Ref.{now}
 use lib.ListN.{set}
 use Rattle.lines.specs.Cuts.{part}
-use Rattle.records.proofs.Marking.{print-small, is-there, is-new}
+use Rattle.store.proofs.Prints.{print-small}
+use Rattle.records.proofs.Marking.{is-there, is-new}
 use borrow.Author.Needs.{needs}
 use Rattle.records.proofs.enter.Statement.{statement}
 use Rattle.records.proofs.enter.Tie as tie
@@ -70,6 +71,11 @@ mul-marks c =
 sub-marks : tie.Need-sub-marks
 sub-marks c = search needs
 
+cast-marks : tie.Need-cast-marks
+cast-marks c =
+    let s = c .before .before .before .before .before .before .before .before .before .before in
+    omega (arith, s .pre .small, s .pre .name-high, s .pre .name-low)
+
 add-marks : tie.Need-add-marks
 add-marks c =
     let a = c .before .before .before .before .before .before .before .before .before .before .args in
@@ -114,6 +120,7 @@ enter-spec =
     print-requires
     mul-marks
     sub-marks
+    cast-marks
     add-marks
     mul-marks-2
     slice-write-marks

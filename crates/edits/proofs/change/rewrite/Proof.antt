@@ -2,6 +2,7 @@ use Prim.Native.Nat.{_≤_}
 use native.Mathlib.Omega.{arith}
 use borrow.Author.Needs.{needs}
 use lib.ListN.{length, take}
+use lib.Seq.{length-take-le}
 use Rattle.store.proofs.Records.{marks-long}
 use Rattle.edits.proofs.Rewriting.{spot-in, movable, rewritten, outside}
 use Rattle.edits.proofs.change.rewrite.Statement.{statement}
@@ -11,29 +12,39 @@ inside : (c : tie.Start) → let a = c .args in (a .to ≤ a .len) × (a .count 
 inside c =
     let a = c .args in
     let p = c .pre in
-    let S = p .3 in (
+    let S = p .2 in (
       spot-in (a .buf .now) (a .len) (a .count) (a .marks .now) (a .number) (a .from) (a .to) (p .1) S,
       marks-long (S .rows) (take (a .len) (a .buf .now)) (a .count) (a .marks .now) (S .held),
     )
 
 splice-requires : tie.Need-splice-requires
 splice-requires c κs =
-    let s = c .before .before .before .before .before .before in
+    let s = c .before .before .before .before in
     let i = inside s in
-    (s .pre .3 .order, i .0, s .pre .1, s .pre .4, omega (arith, s .pre .2))
+    (s .pre .2 .order, i .0, s .pre .1, s .pre .3)
 
 sub-old : tie.Need-sub-old
 sub-old c = search needs
+
+cast-old : tie.Need-cast-old
+cast-old c =
+    let s = c .before .before .before .before .before .before .before in
+    omega (arith, inside s .0, s .pre .0, s .pre .1)
+
+cast-new : tie.Need-cast-new
+cast-new c =
+    let s = c .before .before .before .before .before .before .before in
+    omega (arith, s .pre .0, s .pre .3)
 
 add-next : tie.Need-add-next
 add-next c = search needs
 
 shift-requires : tie.Need-shift-requires
 shift-requires c κs =
-    let s = c .before .before .before .before .before .before .before .before .before .before .before .before in
+    let s = c .before .before .before .before .before .before .before .before in
     let a = s .args in
     let p = s .pre in
-    (omega (arith, p .3 .below), inside s .1, movable (take (a .len) (a .buf .now)) (a .count) (a .marks .now) (a .number) (a .from) (a .to) (length (a .src .now)) (p .3) (omega (arith, p .4, p .0)))
+    (omega (arith, p .2 .below), inside s .1, movable (take (a .len) (a .buf .now)) (a .count) (a .marks .now) (a .number) (a .from) (a .to) (length (a .src .now)) (p .2) (omega (arith, p .3, p .0, length-take-le (a .len) (a .buf .now) (p .1))))
 
 same-length : tie.Need-same-length
 same-length c = search needs
@@ -41,25 +52,22 @@ same-length c = search needs
 same-length-2 : tie.Need-same-length-2
 same-length-2 c = search needs
 
-same-length-3 : tie.Need-same-length-3
-same-length-3 c = search needs
-
 returns : tie.Need-returns
 returns c =
-    let s = c .before .before .before .before .before .before .before .before .before .before .before .before .before .before .before in
+    let s = c .before .before .before .before .before .before .before .before .before .before .before in
     let a = s .args in
     let p = s .pre in
-    let S = c .before .before .before .before .before .before .before .before .splice in
+    let S = c .before .before .before .before .before .before .splice in
     let M = c .before .before .shift in
     let i = inside s in
-    let fits : S .result ≤ length (a .buf .now) = omega (arith, S .ensures .0, p .4) in (
+    let fits : S .result ≤ length (a .buf .now) = omega (arith, S .ensures .0, p .3) in (
       S .ensures .0,
       (
-        outside (a .buf .now) (a .src .now) (S .last .0) (a .len) (a .count) (a .number) (a .from) (a .to) (S .result) (a .marks .now) (M .last .0) (p .3 .below) (i .1) (p .1) (p .3 .order) (i .0)
+        outside (a .buf .now) (a .src .now) (S .last .0) (a .len) (a .count) (a .number) (a .from) (a .to) (S .result) (a .marks .now) (M .last .0) (p .2 .below) (i .1) (p .1) (p .2 .order) (i .0)
             (S .ensures .0) fits (S .ensures .1) (M .ensures),
         λ rows row H R.
-            rewritten rows row (a .buf .now) (a .src .now) (S .last .0) (a .len) (a .count) (a .number) (a .from) (a .to) (S .result) (a .marks .now) (M .last .0) H (p .3 .below) (i .1) (p .0) (p .1)
-            (p .3 .order) (i .0) R (S .ensures .0) fits (S .ensures .1) (M .ensures),
+            rewritten rows row (a .buf .now) (a .src .now) (S .last .0) (a .len) (a .count) (a .number) (a .from) (a .to) (S .result) (a .marks .now) (M .last .0) H (p .2 .below) (i .1) (p .0) (p .1)
+            (p .2 .order) (i .0) R (S .ensures .0) fits (S .ensures .1) (M .ensures),
       ),
     )
 
@@ -69,9 +77,10 @@ rewrite-spec =
     (tie.spec
     splice-requires
     sub-old
+    cast-old
+    cast-new
     add-next
     shift-requires
     same-length
     same-length-2
-    same-length-3
     returns)

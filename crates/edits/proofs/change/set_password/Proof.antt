@@ -29,74 +29,74 @@ by-number : (s : tie.Start) (ks : List Principal) (p : Name) → Principals ks (
     → s .args .number ≡ position (principalNames ks) p → map (changed p (s .args .password .now)) ks ≡ withPassword ks (s .args .number) (s .args .password .now)
 by-number s ks p K d n =
     let a = s .args in
-    let b = below-principals ks (text s) (a .count) (a .marks .now) K (a .number) (s .pre .3 .below) in
+    let b = below-principals ks (text s) (a .count) (a .marks .now) K (a .number) (s .pre .2 .below) in
     changed-at ks p (a .password .now) d (omega (arith, n, b)) ∙ ap (λ (k : ℕ). withPassword ks k (a .password .now)) (sym n)
 
-room : (s : tie.Start) → length (principalsText (withPassword (s .pre .3 .principals) (s .args .number) (s .args .password .now))) ≤ length (s .args .buf .now)
+room : (s : tie.Start) → length (principalsText (withPassword (s .pre .2 .principals) (s .args .number) (s .args .password .now))) ≤ length (s .args .buf .now)
 room s =
-    let S = s .pre .3 in
+    let S = s .pre .2 in
     subst (λ (l : List Principal). length (principalsText l) ≤ length (s .args .buf .now)) (by-number s (S .principals) (S .name) (S .held) (S .apart) (S .number)) (S .fits)
 
-kept : (c : tie.After-enum-told) (ks : List Principal) → let s = c .before .before .before .before .before .before .before .before .before in Principals ks (text s) (s .args .count) (s .args .marks .now)
+kept : (c : tie.After-enum-told) (ks : List Principal) → let s = c .before .before .before .before .before .before .before .before in Principals ks (text s) (s .args .count) (s .args .marks .now)
     → principalAt ks (s .args .number) .password ≡ some (part (text s) (c .enum-told .given .0 .0) (c .enum-told .given .0 .1 .0))
 kept c ks K =
-    let s = c .before .before .before .before .before .before .before .before .before in
+    let s = c .before .before .before .before .before .before .before .before in
     sym (ap (passwordMeant (text s)) (sym (c .enum-told .given .1)) ∙ c .before .before .password-of .ensures ks K .meant)
 
-bare : (c : tie.After-enum-told2) (ks : List Principal) → let s = c .before .before .before .before .before .before .before .before .before in Principals ks (text s) (s .args .count) (s .args .marks .now)
+bare : (c : tie.After-enum-told2) (ks : List Principal) → let s = c .before .before .before .before .before .before .before .before in Principals ks (text s) (s .args .count) (s .args .marks .now)
     → principalAt ks (s .args .number) .password ≡ none
 bare c ks K =
-    let s = c .before .before .before .before .before .before .before .before .before in
+    let s = c .before .before .before .before .before .before .before .before in
     sym (ap (passwordMeant (text s)) (sym (c .enum-told2 .given .1)) ∙ c .before .before .password-of .ensures ks K .meant)
 
 -- one byte more, and the password
-longer : (c : tie.After-enum-told2) → let s = c .before .before .before .before .before .before .before .before .before in s .args .len + 1 + length (s .args .password .now) ≤ length (s .args .buf .now)
+longer : (c : tie.After-enum-told2) → let s = c .before .before .before .before .before .before .before .before in s .args .len + 1 + length (s .args .password .now) ≤ length (s .args .buf .now)
 longer c =
-    let s = c .before .before .before .before .before .before .before .before .before in
+    let s = c .before .before .before .before .before .before .before .before in
     let a = s .args in
-    let S = s .pre .3 in
-    omega (arith, room s, bare-size (S .principals) (text s) (a .count) (a .marks .now) (S .held) (a .number) (S .below) (a .password .now) (bare c (S .principals) (S .held)), length-take-le (a .len) (a .buf .now) (s .pre .2))
+    let S = s .pre .2 in
+    omega (arith, room s, bare-size (S .principals) (text s) (a .count) (a .marks .now) (S .held) (a .number) (S .below) (a .password .now) (bare c (S .principals) (S .held)), length-take-le (a .len) (a .buf .now) (s .pre .1))
 
 -- the line opened, and then the password written, of any principals that the text holds
-both-done : (c : tie.After-write-password2) (ks : List Principal) → let s = c .before .before .before .before .before .before .before .before .before .before .before .before .before .before .before .before .before .before .before .before .before .before .before in let a = s .args in let E = c .write-password2 in
-    Principals ks (text s) (a .count) (a .marks .now) → Principals (withPassword ks (a .number) (a .password .now)) (take (E .result) (E .last .0)) (a .count) (E .last .1 .1 .1 .0)
+both-done : (c : tie.After-write-password2) (ks : List Principal) → let s = c .before .before .before .before .before .before .before .before .before .before .before .before .before .before .before .before .before .before in let a = s .args in let E = c .write-password2 in
+    Principals ks (text s) (a .count) (a .marks .now) → Principals (withPassword ks (a .number) (a .password .now)) (take (E .result) (E .last .0)) (a .count) (E .last .1 .1 .0)
 both-done c ks K =
-    let s = c .before .before .before .before .before .before .before .before .before .before .before .before .before .before .before .before .before .before .before .before .before .before .before in
+    let s = c .before .before .before .before .before .before .before .before .before .before .before .before .before .before .before .before .before .before in
     let a = s .args in
-    let O = c .before .before .before .before .before .before .before .before .before .before .open-line in
+    let O = c .before .before .before .before .before .before .before .open-line in
     let E = c .write-password2 in
-    let l = below-principals ks (text s) (a .count) (a .marks .now) K (a .number) (s .pre .3 .below) in
-    subst (λ (q : List Principal). Principals q (take (E .result) (E .last .0)) (a .count) (E .last .1 .1 .1 .0)) (with-twice ks (a .number) [] (a .password .now) l)
-    (E .ensures .1 (withPassword ks (a .number) []) [] (O .ensures .1 .1 ks K (bare (c .before .before .before .before .before .before .before .before .before .before .before .before .before .before) ks K)) (with-kept ks (a .number) [] l))
+    let l = below-principals ks (text s) (a .count) (a .marks .now) K (a .number) (s .pre .2 .below) in
+    subst (λ (q : List Principal). Principals q (take (E .result) (E .last .0)) (a .count) (E .last .1 .1 .0)) (with-twice ks (a .number) [] (a .password .now) l)
+    (E .ensures .1 (withPassword ks (a .number) []) [] (O .ensures .1 .1 ks K (bare (c .before .before .before .before .before .before .before .before .before .before) ks K)) (with-kept ks (a .number) [] l))
 
 -- it has grown
-grown : (c : tie.After-write-password2) → c .before .before .before .before .before .before .before .before .before .before .open-line .result ≤ c .write-password2 .result
+grown : (c : tie.After-write-password2) → c .before .before .before .before .before .before .before .open-line .result ≤ c .write-password2 .result
 grown c =
-    let s = c .before .before .before .before .before .before .before .before .before .before .before .before .before .before .before .before .before .before .before .before .before .before .before in
+    let s = c .before .before .before .before .before .before .before .before .before .before .before .before .before .before .before .before .before .before in
     let a = s .args in
-    let S = s .pre .3 in
-    let O = c .before .before .before .before .before .before .before .before .before .before .open-line in
+    let S = s .pre .2 in
+    let O = c .before .before .before .before .before .before .before .open-line in
     let E = c .write-password2 in
     let h : E .result ≤ length (E .last .0) = omega (arith, E .ensures .0 .within, E .kept .0) in
     omega (
       arith,
       O .ensures .0,
-      held-size (withPassword (S .principals) (a .number) (a .password .now)) (E .last .0) (E .result) (a .count) (E .last .1 .1 .1 .0) h (both-done c (S .principals) (S .held)),
-      bare-size (S .principals) (text s) (a .count) (a .marks .now) (S .held) (a .number) (S .below) (a .password .now) (bare (c .before .before .before .before .before .before .before .before .before .before .before .before .before .before) (S .principals) (S .held)),
-      length-take-le (a .len) (a .buf .now) (s .pre .2),
+      held-size (withPassword (S .principals) (a .number) (a .password .now)) (E .last .0) (E .result) (a .count) (E .last .1 .1 .0) h (both-done c (S .principals) (S .held)),
+      bare-size (S .principals) (text s) (a .count) (a .marks .now) (S .held) (a .number) (S .below) (a .password .now) (bare (c .before .before .before .before .before .before .before .before .before .before) (S .principals) (S .held)),
+      length-take-le (a .len) (a .buf .now) (s .pre .1),
     )
 
 slice-reshare-prefix-password-of : tie.Need-slice-reshare-prefix-password-of
 slice-reshare-prefix-password-of c = search needs
 
 slice-aggregate-password-of : tie.Need-slice-aggregate-password-of
-slice-aggregate-password-of c = sym (length-take-le _ _ (c .before .before .before .before .before .pre .2))
+slice-aggregate-password-of c = sym (length-take-le _ _ (c .before .before .before .before .pre .1))
 
 password-of-requires : tie.Need-password-of-requires
 password-of-requires c κs =
-    let s = c .before .before .before .before .before .before in
+    let s = c .before .before .before .before .before in
     let a = s .args in
-    let S = s .pre .3 in
+    let S = s .pre .2 in
     (some-principals (S .principals) (text s) (a .count) (a .marks .now) (S .held), S .below)
 
 enum-told : tie.Need-enum-told
@@ -104,12 +104,11 @@ enum-told c = search needs
 
 write-password-requires : tie.Need-write-password-requires
 write-password-requires c κs =
-    let s = c .before .before .before .before .before .before .before .before .before .before .before .before in
-    let S = s .pre .3 in (
+    let s = c .before .before .before .before .before .before .before .before .before .before in
+    let S = s .pre .2 in (
       s .pre .0,
-      s .pre .2,
-      omega (arith, s .pre .1, s .pre .2),
-      record { principals = S .principals; old = _; held = S .held; below = S .below; kept = kept (c .before .before .before) (S .principals) (S .held); fits = room s },
+      s .pre .1,
+      record { principals = S .principals; old = _; held = S .held; below = S .below; kept = kept (c .before .before) (S .principals) (S .held); fits = room s },
     )
 
 enum-told-2 : tie.Need-enum-told-2
@@ -117,32 +116,30 @@ enum-told-2 c = search needs
 
 open-line-requires : tie.Need-open-line-requires
 open-line-requires c κs =
-    let s = c .before .before .before .before .before .before .before .before .before .before .before .before in
-    let S = s .pre .3 in (
+    let s = c .before .before .before .before .before .before .before .before .before .before in
+    let S = s .pre .2 in (
       s .pre .0,
-      omega (arith, longer (c .before .before .before)),
-      omega (arith, s .pre .1, s .pre .2),
-      record { principals = S .principals; held = S .held; below = S .below; bare = bare (c .before .before .before) (S .principals) (S .held) },
+      omega (arith, longer (c .before .before)),
+      record { principals = S .principals; held = S .held; below = S .below; bare = bare (c .before .before) (S .principals) (S .held) },
     )
 
 write-password-requires-2 : tie.Need-write-password-requires-2
 write-password-requires-2 c κs =
-    let s = c .before .before .before .before .before .before .before .before .before .before .before .before .before .before .before .before .before .before .before .before .before .before in
+    let s = c .before .before .before .before .before .before .before .before .before .before .before .before .before .before .before .before .before in
     let a = s .args in
-    let S = s .pre .3 in
+    let S = s .pre .2 in
     let ks = S .principals in
     let w = a .password .now in
-    let E = c .before .before .before .before .before .before .before .before .before .open-line in
+    let E = c .before .before .before .before .before .before .open-line in
     let n = E .ensures .0 in
     let l = below-principals ks (text s) (a .count) (a .marks .now) (S .held) (a .number) (S .below) in
     let z : length (E .last .0) ≡ length (a .buf .now) = E .kept .0 in (
       omega (arith, z, s .pre .0),
-      omega (arith, z, n, longer (c .before .before .before .before .before .before .before .before .before .before .before .before .before)),
-      omega (arith, E .kept .1 .0, n, longer (c .before .before .before .before .before .before .before .before .before .before .before .before .before), s .pre .1),
+      omega (arith, z, n, longer (c .before .before .before .before .before .before .before .before .before)),
       record {
         principals = withPassword ks (a .number) [];
         old = [];
-        held = E .ensures .1 .1 ks (S .held) (bare (c .before .before .before .before .before .before .before .before .before .before .before .before .before) ks (S .held));
+        held = E .ensures .1 .1 ks (S .held) (bare (c .before .before .before .before .before .before .before .before .before) ks (S .held));
         below = S .below;
         kept = with-kept ks (a .number) [] l;
         fits = subst (λ (q : List Principal). length (principalsText q) ≤ length (E .last .0)) (sym (with-twice ks (a .number) [] w l)) (omega (arith, room s, z));
@@ -155,38 +152,32 @@ same-length c = search needs
 same-length-2 : tie.Need-same-length-2
 same-length-2 c = search needs
 
-same-length-3 : tie.Need-same-length-3
-same-length-3 c = search needs
-
 returns : tie.Need-returns
 returns c =
-    let s = c .before .before .before .before .before .before .before .before .before .before .before .before .before .before .before .before .before .before .before in
+    let s = c .before .before .before .before .before .before .before .before .before .before .before .before .before .before .before in
     let a = s .args in
-    let E = c .before .before .before .before .before .before .write-password in (
+    let E = c .before .before .before .before .write-password in (
       E .ensures .0,
       λ ks p K d n.
-          subst (λ (q : List Principal). Principals q (take (E .result) (E .last .0)) (a .count) (E .last .1 .1 .1 .0)) (sym (by-number s ks p K d n))
-          (E .ensures .1 ks _ K (kept (c .before .before .before .before .before .before .before .before .before .before) ks K)),
+          subst (λ (q : List Principal). Principals q (take (E .result) (E .last .0)) (a .count) (E .last .1 .1 .0)) (sym (by-number s ks p K d n))
+          (E .ensures .1 ks _ K (kept (c .before .before .before .before .before .before .before) ks K)),
     )
+
+same-length-3 : tie.Need-same-length-3
+same-length-3 c = search needs
 
 same-length-4 : tie.Need-same-length-4
 same-length-4 c = search needs
 
-same-length-5 : tie.Need-same-length-5
-same-length-5 c = search needs
-
-same-length-6 : tie.Need-same-length-6
-same-length-6 c = search needs
-
 returns-2 : tie.Need-returns-2
 returns-2 c =
-    let s = c .before .before .before .before .before .before .before .before .before .before .before .before .before .before .before .before .before .before .before .before .before .before .before .before .before .before .before .before .before in
+    let s = c .before .before .before .before .before .before .before .before .before .before .before .before .before .before .before .before .before .before .before .before .before .before in
     let a = s .args in
-    let O = c .before .before .before .before .before .before .before .before .before .before .before .before .before .before .before .before .open-line in
-    let E = c .before .before .before .before .before .before .write-password2 in (
-      outside-on (a .buf .now) (O .last .0) (E .last .0) (O .result) (E .result) (a .marks .now) (O .last .1 .1 .1 .0) (E .last .1 .1 .1 .0) (a .count) (grown (c .before .before .before .before .before .before)) (O .kept .0) (O .ensures .1 .0) (E .ensures .0),
+    let O = c .before .before .before .before .before .before .before .before .before .before .before .open-line in
+    let E = c .before .before .before .before .write-password2 in (
+      outside-on (a .buf .now) (O .last .0) (E .last .0) (O .result) (E .result) (a .marks .now) (O .last .1 .1 .0) (E .last .1 .1 .0) (a .count) (grown (c .before .before .before .before)) (O .kept .0) (O .ensures .1 .0) (E .ensures .0),
       λ ks p K d n.
-          subst (λ (q : List Principal). Principals q (take (E .result) (E .last .0)) (a .count) (E .last .1 .1 .1 .0)) (sym (by-number s ks p K d n)) (both-done (c .before .before .before .before .before .before) ks K),
+          subst (λ (q : List Principal). Principals q (take (E .result) (E .last .0)) (a .count) (E .last .1 .1 .0)) (sym (by-number s ks p K d n)) (both-done (c .before .before .before .before) ks K),
     )
 
 pub set-password-spec : {M : Type 1} → statement M
@@ -203,9 +194,7 @@ set-password-spec =
     write-password-requires-2
     same-length
     same-length-2
-    same-length-3
     returns
+    same-length-3
     same-length-4
-    same-length-5
-    same-length-6
     returns-2)

@@ -1,9 +1,11 @@
-use mathlib.Core.Path.{_≡_, refl, ap, _∙_}
+use mathlib.Core.Path.{_≡_, refl, sym, ap, _∙_}
 use mathlib.Core.List.{List}
 use Prim.Native.Nat.{ℕ, _+_, _-_, _≤_}
 use native.Mathlib.Omega.{arith}
 use borrow.Author.Needs.{needs}
 use lib.ListN.{length, getD, set, length-set}
+use Rattle.edits.specs.Splices.{shifted}
+use Rattle.edits.proofs.Sliding.{shifted-none}
 use Rattle.edits.proofs.Splicing.{doing, doing-start, doing-at, doing-more}
 use Rattle.edits.proofs.splice.shift.Statement.{statement}
 use Rattle.edits.proofs.splice.shift.Tie as tie
@@ -16,14 +18,23 @@ abbrev μ-loop : tie.MeasureT-loop
 μ-loop marks₀ from to old new i₀ marks i =
     to - i
 
-here : (c : tie.In-loop Inv-loop μ-loop) → let a = c .before .before .args in getD (c .before .loop .marks) (c .before .loop .i) 0 ≡ getD (a .marks .now) (c .before .loop .i) 0
+returns : tie.Need-returns Inv-loop μ-loop
+returns c =
+    let a = c .before .args in
+    sym (ap (shifted (a .marks .now) (a .from) (a .to) (a .old)) (sym (c .if1 .taken)) ∙ shifted-none (a .marks .now) (a .from) (a .to) (a .old) (omega arith))
+
+here : (c : tie.In-loop Inv-loop μ-loop) → let a = c .before .before .before .args in getD (c .before .loop .marks) (c .before .loop .i) 0 ≡ getD (a .marks .now) (c .before .loop .i) 0
 here c =
-    let a = c .before .before .args in
+    let a = c .before .before .before .args in
     let l = c .before .loop in
     ap (λ (m : List ℕ). getD m (l .i) 0) (l .inv .2) ∙ doing-at (λ x. x + a .new - a .old) (a .marks .now) (a .from) (l .i) (l .inv .0) (omega arith)
 
+-- what goes down first has room to
+moved : (c : tie.In-loop Inv-loop μ-loop) → let a = c .before .before .before .args in let m = getD (c .before .loop .marks) (c .before .loop .i) 0 in m - a .old + a .new ≡ m + a .new - a .old
+moved c = let a = c .before .before .before in let l = c .before .loop in omega (arith, here c, a .pre .2 (l .i) (l .inv .0) (c .loop-test .taken))
+
 loop-holds : tie.Need-loop-holds Inv-loop μ-loop
-loop-holds c = let a = c .args in (omega arith, omega arith, doing-start (λ x. x + a .new - a .old) (a .marks .now) (a .from), refl)
+loop-holds c = let a = c .before .args in (omega arith, omega arith, doing-start (λ x. x + a .new - a .old) (a .marks .now) (a .from), refl)
 
 mul-m : tie.Need-mul-m Inv-loop μ-loop
 mul-m c = search needs
@@ -31,11 +42,11 @@ mul-m c = search needs
 slice-read-m : tie.Need-slice-read-m Inv-loop μ-loop
 slice-read-m c = omega arith
 
-add-marks : tie.Need-add-marks Inv-loop μ-loop
-add-marks c = let a = c .before .before .before in let l = c .before .before .loop in omega (arith, here (c .before), a .pre .2 (l .i) (l .inv .0) (c .before .loop-test .taken))
-
 sub-marks : tie.Need-sub-marks Inv-loop μ-loop
-sub-marks c = let a = c .before .before .before in let l = c .before .before .loop in omega (arith, here (c .before), a .pre .2 (l .i) (l .inv .0) (c .before .loop-test .taken))
+sub-marks c = let a = c .before .before .before .before in let l = c .before .before .loop in omega (arith, here (c .before), a .pre .2 (l .i) (l .inv .0) (c .before .loop-test .taken))
+
+add-marks : tie.Need-add-marks Inv-loop μ-loop
+add-marks c = let a = c .before .before .before .before in let l = c .before .before .loop in omega (arith, here (c .before), a .pre .2 (l .i) (l .inv .0) (c .before .loop-test .taken))
 
 mul-marks : tie.Need-mul-marks Inv-loop μ-loop
 mul-marks c = search needs
@@ -51,12 +62,12 @@ loop-less c = omega arith
 
 loop-again : tie.Need-loop-again Inv-loop μ-loop
 loop-again c =
-    let a = c .before .before .before .args in
+    let a = c .before .before .before .before .args in
     let l = c .before .before .loop in
     let f : ℕ → ℕ = λ x. x + a .new - a .old in (
       omega arith,
       omega arith,
-      ap (λ (x : ℕ). set (l .marks) (l .i) (f x)) (here (c .before)) ∙ ap (λ (m : List ℕ). set m (l .i) (f (getD (a .marks .now) (l .i) 0))) (l .inv .2)
+      ap (set (l .marks) (l .i)) (moved (c .before)) ∙ ap (λ (x : ℕ). set (l .marks) (l .i) (f x)) (here (c .before)) ∙ ap (λ (m : List ℕ). set m (l .i) (f (getD (a .marks .now) (l .i) 0))) (l .inv .2)
           ∙ doing-more f (a .marks .now) (a .from) (l .i) (l .inv .0) (omega arith),
       simp length-set (l .inv .3),
     )
@@ -64,9 +75,9 @@ loop-again c =
 same-length : tie.Need-same-length Inv-loop μ-loop
 same-length c = c .before .loop .inv .3
 
-returns : tie.Need-returns Inv-loop μ-loop
-returns c =
-    let a = c .before .before .args in
+returns-2 : tie.Need-returns-2 Inv-loop μ-loop
+returns-2 c =
+    let a = c .before .before .before .args in
     let l = c .before .loop in
     let e : l .i ≡ a .to = omega (arith, l .inv .1, c .loop-test .left) in
     l .inv .2 ∙ ap (λ (i : ℕ). doing (λ x. x + a .new - a .old) (a .marks .now) (a .from) i) e
@@ -77,15 +88,16 @@ shift-spec =
     (tie.spec
     Inv-loop
     μ-loop
+    returns
     loop-holds
     mul-m
     slice-read-m
-    add-marks
     sub-marks
+    add-marks
     mul-marks
     slice-write-marks
     add-i
     loop-less
     loop-again
     same-length
-    returns)
+    returns-2)

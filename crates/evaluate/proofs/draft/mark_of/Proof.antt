@@ -2,7 +2,7 @@
 -- Assumes nothing.
 use native.Mathlib.Omega.{arith}
 use Rattle.store.specs.Held.{print}
-use Rattle.evaluate.proofs.Labels.{print-fits}
+use Rattle.store.proofs.Prints.{print-small}
 use borrow.Author.Needs.{needs}
 use Rattle.evaluate.proofs.draft.mark_of.Statement.{statement}
 use Rattle.evaluate.proofs.draft.mark_of.Tie as tie
@@ -11,13 +11,16 @@ print-requires : tie.Need-print-requires
 print-requires c κs = search needs
 
 mul-result : tie.Need-mul-result
-mul-result c = omega (arith, c .print .ensures, print-fits (c .before .before .args .label .now))
+mul-result c = omega (arith, c .print .ensures, print-small (c .before .before .args .label .now))
+
+cast-result : tie.Need-cast-result
+cast-result c = omega (arith, c .before .before .pre)
 
 add-result : tie.Need-add-result
-add-result c = omega (arith, c .print .ensures, print-fits (c .before .before .args .label .now), c .before .before .pre)
+add-result c = omega (arith, c .print .ensures, print-small (c .before .before .args .label .now), c .before .before .pre)
 
 returns : tie.Need-returns
 returns c = search needs
 
 pub mark-of-spec : {M : Type 1} → statement M
-mark-of-spec = tie.close (tie.spec print-requires mul-result add-result returns)
+mark-of-spec = tie.close (tie.spec print-requires mul-result cast-result add-result returns)

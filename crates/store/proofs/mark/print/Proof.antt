@@ -12,7 +12,7 @@ use Rattle.store.proofs.mark.print.Tie as tie
 
 abbrev Inv-loop : tie.InvT-loop
 Inv-loop name h₀ i₀ h i =
-    (i ≤ length name) × (h < 4294967296) × (printFrom h (drop i name) ≡ print name)
+    (i ≤ length name) × (h < 65536) × (printFrom h (drop i name) ≡ print name)
 
 abbrev μ-loop : tie.MeasureT-loop
 μ-loop name h₀ i₀ h i =
@@ -47,7 +47,7 @@ loop-again c =
     let d : drop (l .i) n ≡ getD n (l .i) 0 ∷ drop (l .i + 1) n = rw add-one (drop-cons n (l .i) 0 (omega arith)) in (
       omega arith,
       omega arith,
-      ap (λ (b : ℕ). printFrom ((l .h * 31 + b) % 4294967296) (drop (l .i + 1) n)) w ∙ ap (printFrom (l .h)) (sym d) ∙ l .inv .2,
+      ap (λ (b : ℕ). printFrom ((l .h * 31 + b) % 65536) (drop (l .i + 1) n)) w ∙ ap (printFrom (l .h)) (sym d) ∙ l .inv .2,
     )
 
 returns : tie.Need-returns Inv-loop μ-loop

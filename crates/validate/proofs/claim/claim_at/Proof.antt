@@ -24,7 +24,6 @@ use Rattle.lines.proofs.byte_at.Reads as byte-at-reads
 use Rattle.validate.proofs.claim.packed.Reads as packed-reads
 use Rattle.validate.proofs.claim.right_code.Reads as right-code-reads
 use Rattle.validate.proofs.known.known_at.Reads as known-at-reads
-use Rattle.validate.proofs.people.name_weight.Reads as name-weight-reads
 
 abbrev People : (c : tie.Start) → List Row → Type 0
 People c rows = let r = c .args .roll in Rows rows (part (now (c .args .text)) (r .«people_from») (r .«people_to»)) (r .people) (now (c .args .people))

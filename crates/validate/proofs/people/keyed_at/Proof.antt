@@ -8,7 +8,8 @@ use Rattle.language.specs.Weight.{nameWeight}
 use Rattle.lines.specs.Cuts.{CutMeant, Field, part}
 use Rattle.records.specs.Sections.{StringMeant}
 use Rattle.records.proofs.Opening.{inside}
-use Rattle.validate.proofs.Persons.{name-light, keyed-unnamed, keyed-stringless, keyed-good}
+use Rattle.store.proofs.NameWeights.{name-light}
+use Rattle.validate.proofs.Persons.{keyed-unnamed, keyed-stringless, keyed-good}
 use borrow.Author.Needs.{needs}
 use Rattle.validate.proofs.people.keyed_at.Statement.{statement}
 use Rattle.validate.proofs.people.keyed_at.Tie as tie
@@ -16,7 +17,6 @@ use Rattle.validate.proofs.people.keyed_at.Reads as reads
 use Rattle.validate.proofs.people.keyed_at.Lts as lts
 use Rattle.lines.proofs.name_end.Reads as name-end-reads
 use Rattle.records.proofs.string_at.Reads as string-at-reads
-use Rattle.validate.proofs.people.name_weight.Reads as name-weight-reads
 
 far : (c : tie.Start) → c .args .at + 1 < length (now (c .args .text))
 far c = inside (now (c .args .text)) (c .args .at + 1) (omega (arith, c .pre .1))

@@ -6,14 +6,14 @@ use lib.ListN.{length}
 use Rattle.language.specs.Identifiers.{isName}
 use Rattle.lines.specs.Cuts.{CutMeant, Field, part}
 use Rattle.records.proofs.Opening.{inside}
-use Rattle.validate.proofs.Persons.{name-light, plain-unnamed, plain-heavy, plain-good}
+use Rattle.store.proofs.NameWeights.{name-light}
+use Rattle.validate.proofs.Persons.{plain-unnamed, plain-heavy, plain-good}
 use borrow.Author.Needs.{needs}
 use Rattle.validate.proofs.people.plain_at.Statement.{statement}
 use Rattle.validate.proofs.people.plain_at.Tie as tie
 use Rattle.validate.proofs.people.plain_at.Reads as reads
 use Rattle.validate.proofs.people.plain_at.Lts as lts
 use Rattle.lines.proofs.name_end.Reads as name-end-reads
-use Rattle.validate.proofs.people.name_weight.Reads as name-weight-reads
 
 far : (c : tie.Start) → c .args .at + 1 < length (now (c .args .text))
 far c = inside (now (c .args .text)) (c .args .at + 1) (omega (arith, c .pre .1))

@@ -3,13 +3,10 @@ use mathlib.Core.Bool.{Bool, _||_}
 use denote.Ref.{now}
 use Rattle.language.specs.Text.{_==_}
 use Rattle.language.specs.State.{admin, anyone}
-use Rattle.validate.proofs.Persons.{weighs-one, weighs-all, second-one}
+use Rattle.store.proofs.NameWeights.{weighs-one, weighs-all, second-one}
 use borrow.Author.Needs.{needs}
-use Rattle.validate.proofs.people.name_weight.Statement.{statement}
-use Rattle.validate.proofs.people.name_weight.Tie as tie
-use Rattle.validate.proofs.people.name_weight.Reads as reads
-use Rattle.validate.proofs.people.name_weight.Lts as lts
-use Rattle.text.proofs.same_bytes.Reads as same-bytes-reads
+use Rattle.store.proofs.name.name_weight.Statement.{statement}
+use Rattle.store.proofs.name.name_weight.Tie as tie
 
 slice-aggregate-same-bytes : tie.Need-slice-aggregate-same-bytes
 slice-aggregate-same-bytes c = search needs
