@@ -4,3 +4,4 @@ pub mod Comments
 pub mod Rows
 pub mod Wholes
 pub mod Bodies
+pub mod Firsts

@@ -9,11 +9,11 @@ use Rattle.language.specs.Tokens.{Token}
 use Rattle.language.specs.Syntax as Syntax
 use Rattle.language.specs.Grammar.{spent, the, anyName, anyString, anyLogin}
 use Rattle.syntax.specs.Values.{exprMeant, ExprWithin, recordAt}
-use Rattle.syntax.specs.Commands.{commandMeant, CommandWithin}
+use Rattle.commands.specs.Commands.{commandMeant, CommandWithin}
 use Rattle.syntax.specs.declared.value.Expr.{Expr}
 use Rattle.syntax.specs.declared.value.Expr.the-variants.{Single, Empty, Record}
-use Rattle.syntax.specs.declared.command.Command.{Command}
-use Rattle.syntax.specs.declared.command.Command.the-variants.{CreatePrincipal, ChangePassword, Set, Append, Local, Foreach, SetDelegation, DeleteDelegation, DefaultDelegator, Exit, Return}
+use Rattle.commands.specs.declared.command.Command.{Command}
+use Rattle.commands.specs.declared.command.Command.the-variants.{CreatePrincipal, ChangePassword, Set, Append, Local, Foreach, SetDelegation, DeleteDelegation, DefaultDelegator, Exit, Return}
 use Rattle.parser.specs.Lines.{isNil}
 
 -- ---- the line's end after what was read

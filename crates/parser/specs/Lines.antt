@@ -1,15 +1,15 @@
 -- What lines that were read mean in the terms of document 01, and where their parts stand.
-use Prim.Native.Nat.{ℕ, _≤_, _<_}
+use Prim.Native.Nat.{ℕ, _+_, _≤_, _<_}
 use mathlib.Core.Bool.{Bool, true, false}
 use mathlib.Core.Option.{Option, none, some}
 use mathlib.Core.List.{List, [], _∷_}
 use lib.ListN.{length, drop}
-use Rattle.language.specs.Text.{Text, parts, _>>=_}
+use Rattle.language.specs.Text.{Text, parts, front, _>>=_}
 use Rattle.language.specs.Tokens.{Token, lex}
 use Rattle.language.specs.Syntax as Syntax
 use Rattle.language.specs.Grammar.{Opening}
 use Rattle.language.specs.Programs.{above, lexed}
-use Rattle.text.specs.Meaning.{part, Within}
+use Rattle.text.specs.Meaning.{isNot, part, Within}
 use Rattle.parser.specs.declared.line.LineRead.{LineRead}
 use Rattle.parser.specs.declared.line.LineRead.the-variants as LineReadIs
 use Rattle.parser.specs.declared.line.LoginRead.{LoginRead}
@@ -18,7 +18,7 @@ use Rattle.parser.specs.declared.line.Line.{Line}
 use Rattle.parser.specs.declared.line.Line.the-variants.{Comment, Stars, Tokens, Broken}
 use Rattle.parser.specs.declared.line.Step.{Step}
 use Rattle.parser.specs.declared.line.Step.the-variants as StepIs
-use Rattle.syntax.specs.Commands.{commandMeant, CommandWithin}
+use Rattle.commands.specs.Commands.{commandMeant, CommandWithin}
 
 abbrev pub isNil : List Token → Bool
 isNil [] = true
@@ -46,6 +46,10 @@ LoginWithin t LoginIs.No = Unit
 abbrev pub lexedFrom : Text → ℕ → Option (List (List Token))
 lexedFrom t at = above (parts 10 (drop at t)) >>= λ ls. some (lexed ls)
 
+-- how many bytes the line at a place has
+abbrev pub lineLength : Text → ℕ → ℕ
+lineLength t at = length (front (isNot 10) (drop at t))
+
 -- a line's tokens in front of those of others
 abbrev pub ahead : List Token → Option (List (List Token)) → Option (List (List Token))
 ahead l none = none
@@ -60,7 +64,7 @@ lineMeant t at Broken = none
 abbrev pub LinePlaced : Text → ℕ → Line → Type 0
 LinePlaced t at (Comment n) = (at < n) × (n ≤ length t)
 LinePlaced t at Stars = Unit
-LinePlaced t at (Tokens n) = (at < n) × (n ≤ length t)
+LinePlaced t at (Tokens n) = (at + lineLength t at < n) × (n ≤ length t)
 LinePlaced t at Broken = Unit
 
 abbrev pub stepMeant : Text → Step → Option (List (List Token))
@@ -69,6 +73,6 @@ stepMeant t StepIs.Stars = some []
 stepMeant t StepIs.Broken = none
 
 abbrev pub StepPlaced : Text → ℕ → Step → Type 0
-StepPlaced t at (StepIs.Tokens s n) = (at ≤ s) × (s < n) × (n ≤ length t)
+StepPlaced t at (StepIs.Tokens s n) = (at ≤ s) × (s + lineLength t s < n) × (n ≤ length t)
 StepPlaced t at StepIs.Stars = Unit
 StepPlaced t at StepIs.Broken = Unit

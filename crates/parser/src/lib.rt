@@ -1,68 +1,22 @@
-// Whole programs: whether a text is one, and its commands in turn.
+// Whole programs: the login of a text, its commands in turn, and whether they are those of a program to its end.
 pub mod line;
 
+use commands::command::Command;
 use line::LineRead;
 use line::LoginRead;
 use line::Step;
-use syntax::command::Command;
 use text::Span;
 ghost use mathlib.Core.Path.{_≡_};
-ghost use mathlib.Core.Bool.{_&&_};
-ghost use mathlib.Core.Option.{some};
-ghost use mathlib.Core.List.{List};
-ghost use Prim.Native.Nat.{_≤_, _<_};
-ghost use lib.ListN.{length, drop};
+ghost use Prim.Native.Nat.{_≤_};
+ghost use lib.ListN.{length};
 ghost use Rattle.language.specs.Text.{present};
-ghost use Rattle.language.specs.Tokens.{lex};
-ghost use Rattle.language.specs.Syntax as Syntax;
-ghost use Rattle.language.specs.Grammar.{whole, anyEnding};
 ghost use Rattle.language.specs.Programs.{parse};
 ghost use Rattle.parser.specs.Lines.{lexedFrom};
-ghost use Rattle.parser.specs.Walks.{isEmpty, bodyFrom, programOf, leftOf, commandsFrom, Gives, ParsedWithin, Walked, WalkPlaced};
+ghost use Rattle.parser.specs.Bodies.{isEmpty, bodyFrom, headMeant, HeadWithin, ReadFrom};
 
-// Whether the line at `at` ends a program, and `***` comes next from the place `next` on.
-fn closes(text: &[u8], at: usize, next: usize) -> bool
-    requires { ⌜ at ≤ length (now text) ⌝ }
-    requires { ⌜ next ≤ length (now text) ⌝ }
-    ensures { λ r. ⌜ r ≡ (present (whole anyEnding (lex (drop at (now (text .entry))))) && isEmpty (lexedFrom (now (text .entry)) next)) ⌝ }
-{
-    let ending = line::ending_line(text, at);
-    let LineRead::Found(_) = ending else {
-        return false;
-    };
-    let step = line::next_line(text, next);
-    match step {
-        Step::Tokens(_, _) => false,
-        Step::Stars => true,
-        Step::Broken => false,
-    }
-}
-
-// Whether the lines from `at` on are commands, an ending and `***`.
-fn body_at(text: &[u8], at: usize) -> bool
-    requires { ⌜ at ≤ length (now text) ⌝ }
-    ensures { λ r. ⌜ r ≡ present (bodyFrom (now (text .entry)) at) ⌝ }
-{
-    let mut p = at;
-    loop {
-        let step = line::next_line(text, p);
-        match step {
-            Step::Tokens(s, n) => {
-                let command = line::command_line(text, s);
-                let LineRead::Found(_) = command else {
-                    return closes(text, s, n);
-                };
-                p = n;
-            }
-            Step::Stars => return false,
-            Step::Broken => return false,
-        }
-    }
-}
-
-// A program: who sends it, the password, and where its commands start.
-pub enum Parsed {
-    Program {
+// The login of a text: who sends it, the password, and where its commands start.
+pub enum Head {
+    Login {
         sender: Span,
         password: Span,
         at: usize,
@@ -70,77 +24,97 @@ pub enum Parsed {
     No,
 }
 
-// The program whose first line stands at `at`, the next one at `next`.
-fn opened(text: &[u8], at: usize, next: usize) -> Parsed
-    requires { ⌜ at ≤ length (now text) ⌝ }
-    requires { ⌜ next ≤ length (now text) ⌝ }
-    ensures meant { λ r. ⌜ Gives (now (text .entry)) (programOf (lex (drop at (now (text .entry)))) (lexedFrom (now (text .entry)) next)) r ⌝ }
-    ensures placed { λ r. ⌜ ParsedWithin (now (text .entry)) r ⌝ }
-{
-    let login = line::login_line(text, at);
-    let LoginRead::Found(sender, password) = login else {
-        return Parsed::No;
-    };
-    if !body_at(text, next) {
-        return Parsed::No;
-    }
-    Parsed::Program {
-        sender,
-        password,
-        at: next,
-    }
-}
-
-// The program that a text is.
-pub fn program(text: &[u8]) -> Parsed
-    ensures meant { λ r. ⌜ Gives (now (text .entry)) (parse (now (text .entry))) r ⌝ }
-    ensures placed { λ r. ⌜ ParsedWithin (now (text .entry)) r ⌝ }
+// The login that a text starts with, if it is not too long.
+pub fn login(text: &[u8]) -> Head
+    ensures meant { λ r. ⌜ parse (now (text .entry)) ≡ headMeant (now (text .entry)) r ⌝ }
+    ensures placed { λ r. ⌜ HeadWithin (now (text .entry)) r ⌝ }
 {
     if text.len() > 16384 {
-        return Parsed::No;
+        return Head::No;
     }
     let step = line::next_line(text, 0);
     match step {
-        Step::Tokens(s, n) => opened(text, s, n),
-        Step::Stars => Parsed::No,
-        Step::Broken => Parsed::No,
+        Step::Tokens(s, at) => {
+            let first = line::login_line(text, s);
+            let LoginRead::Found(sender, password) = first else {
+                return Head::No;
+            };
+            Head::Login {
+                sender,
+                password,
+                at,
+            }
+        }
+        Step::Stars => Head::No,
+        Step::Broken => Head::No,
     }
 }
 
-// A step of the walk over a program's commands: a command and the place of the next line, or their end.
-pub enum Walk {
-    Command(Command, usize),
+// What follows a command: further lines from a place on, or nothing, for it ends the program.
+pub enum Rest {
+    At(usize),
     End,
 }
 
-// The command of the line at `at`.
-fn walk_line(text: &[u8], at: usize, next: usize) -> Walk
-    requires { ⌜ at < next ⌝ }
-    requires { ⌜ next ≤ length (now text) ⌝ }
-    ensures meant { λ r. ⌜ ((cs : List Syntax.Command) → leftOf (lex (drop at (now (text .entry)))) (lexedFrom (now (text .entry)) next) ≡ some cs → Walked (now (text .entry)) cs r) ⌝ }
-    ensures placed { λ r. ⌜ WalkPlaced (now (text .entry)) at r ⌝ }
-{
-    let line = line::command_line(text, at);
-    if let LineRead::Found(c) = line {
-        return Walk::Command(c, next);
-    }
-    let ending = line::ending_line(text, at);
-    let LineRead::Found(c) = ending else {
-        return Walk::End;
-    };
-    Walk::Command(c, next)
+// A command and what follows it; or lines that are not the rest of a program.
+pub enum Read {
+    Command(Command, Rest),
+    Broken,
 }
 
-// The next command of a program that was parsed, from the line at `at` on.
-pub fn next_command(text: &[u8], at: usize) -> Walk
+// Whether nothing but `***` follows from `at` on.
+fn stars_at(text: &[u8], at: usize) -> bool
     requires { ⌜ at ≤ length (now text) ⌝ }
-    ensures meant { λ r. ⌜ ((cs : List Syntax.Command) → commandsFrom (now (text .entry)) at ≡ some cs → Walked (now (text .entry)) cs r) ⌝ }
-    ensures placed { λ r. ⌜ WalkPlaced (now (text .entry)) at r ⌝ }
+    ensures { λ r. ⌜ r ≡ isEmpty (lexedFrom (now (text .entry)) at) ⌝ }
 {
     let step = line::next_line(text, at);
     match step {
-        Step::Tokens(s, n) => walk_line(text, s, n),
-        Step::Stars => Walk::End,
-        Step::Broken => Walk::End,
+        Step::Tokens(_, _) => false,
+        Step::Stars => true,
+        Step::Broken => false,
+    }
+}
+
+// The first command of the lines from `at` on.
+pub fn read_at(text: &[u8], at: usize) -> Read
+    requires { ⌜ at ≤ length (now text) ⌝ }
+    ensures { λ r. ⌜ ReadFrom (now (text .entry)) at r ⌝ }
+{
+    let step = line::next_line(text, at);
+    match step {
+        Step::Tokens(s, n) => {
+            let line = line::command_line(text, s);
+            if let LineRead::Found(c) = line {
+                return Read::Command(c, Rest::At(n));
+            }
+            let ending = line::ending_line(text, s);
+            let LineRead::Found(c) = ending else {
+                return Read::Broken;
+            };
+            if !stars_at(text, n) {
+                return Read::Broken;
+            }
+            Read::Command(c, Rest::End)
+        }
+        Step::Stars => Read::Broken,
+        Step::Broken => Read::Broken,
+    }
+}
+
+// Whether the lines from `at` on are commands, an ending and `***`.
+pub fn body_at(text: &[u8], at: usize) -> bool
+    requires { ⌜ at ≤ length (now text) ⌝ }
+    ensures { λ r. ⌜ r ≡ present (bodyFrom (now (text .entry)) at) ⌝ }
+{
+    let mut p = at;
+    loop {
+        let read = read_at(text, p);
+        let Read::Command(_, rest) = read else {
+            return false;
+        };
+        let Rest::At(n) = rest else {
+            return true;
+        };
+        p = n;
     }
 }

@@ -3,21 +3,24 @@ use mathlib.Core.Path.{_≡_, refl, sym, ap, subst, _∙_}
 use Prim.Native.Nat.{ℕ, suc, _+_, _≤_, _<_}
 use native.Mathlib.Numerals.{add-one}
 use native.Mathlib.Omega.{arith}
-use mathlib.Core.Option.{Option, none, some}
+use mathlib.Core.Option.{Option, none, some, Option·some-inj}
 use mathlib.Core.List.{List, [], _∷_, _++_, map, append-assoc, append-nil, map-append}
-use lib.Dec.{T, leb, leb→le}
-use mathlib.Core.Bool.{Bool, true, false}
-use Rattle.language.specs.Programs.{above, lexed, program, longest, parse}
+use mathlib.Core.Bool.{true, false}
+use Rattle.language.specs.Grammar.{Opening}
+use Rattle.language.specs.Programs.{parse}
 use lib.ListN.{length, drop, set as put, getD, length-append, length-map, length-drop}
 use lib.Seq.{drop-cons, set-at}
-use Rattle.language.specs.Text.{Text, if_then_else_, _>>=_, parts}
+use Rattle.language.specs.Text.{Text, _>>=_, present}
 use Rattle.text.specs.Meaning.{part}
 use Rattle.language.specs.Syntax as Syntax
-use Rattle.parser.specs.Walks.{commandsFrom, Stepped, Done}
-use Rattle.syntax.specs.Commands.{commandMeant}
+use Rattle.parser.specs.declared.Rest.{Rest}
+use Rattle.parser.specs.declared.Rest.the-variants.{At, End}
+use Rattle.parser.specs.Bodies.{bodyFrom, withBody, restFrom, First}
+use Rattle.syntax.proofs.Reading.{no-some}
+use Rattle.commands.specs.Commands.{commandMeant}
 use Rattle.syntax.specs.Values.{exprMeant}
-use Rattle.syntax.specs.declared.command.Command.{Command}
-use Rattle.syntax.specs.declared.command.Command.the-variants.{CreatePrincipal, ChangePassword, Set, Append, Local, Foreach, SetDelegation, DeleteDelegation, DefaultDelegator, Return, Exit}
+use Rattle.commands.specs.declared.command.Command.{Command}
+use Rattle.commands.specs.declared.command.Command.the-variants.{CreatePrincipal, ChangePassword, Set, Append, Local, Foreach, SetDelegation, DeleteDelegation, DefaultDelegator, Return, Exit}
 use Rattle.parser_c.specs.Kinds.{kindOf, code, SomeCommands, Listed, notParsed, Answers}
 
 the : {d c : Syntax.Command} → some d ≡ some c → d ≡ c
@@ -50,8 +53,8 @@ code-kind t (Return e) c h = bound (exprMeant t e) Syntax.return 10 c (λ v. ref
 pub record Going (t : Text) (at : ℕ) (old now : Text) (p n : ℕ) : Type 0 where
   pub passed : List Syntax.Command
   pub rest : List Syntax.Command
-  pub all : commandsFrom t at ≡ some (passed ++ rest)
-  pub left : commandsFrom t p ≡ some rest
+  pub all : bodyFrom t at ≡ some (passed ++ rest)
+  pub left : bodyFrom t p ≡ some rest
   pub count : n ≡ length passed
   pub kinds : now ≡ map kindOf passed ++ drop n old
   pub within : p ≤ length t
@@ -69,61 +72,91 @@ begins t at old s = record {
   pace = omega arith;
 }
 
+-- of the commands cs the first is c, and the others are those of o
+pub record Split (cs : List Syntax.Command) (c : Syntax.Command) (o : Option (List Syntax.Command)) : Type 0 where
+  pub others : List Syntax.Command
+  pub are : o ≡ some others
+  pub together : cs ≡ c ∷ others
+
+split : (cs : List Syntax.Command) (c : Syntax.Command) (o : Option (List Syntax.Command)) → some cs ≡ (o >>= λ ds. some (c ∷ ds)) → Split cs c o
+split cs c none e = absurd (let z : _≡_ {A = ℕ} 0 1 = cc in omega arith)
+split cs c (some ds) e = record { others = ds; are = refl; together = Option·some-inj .0 e }
+
 module _ (t : Text) (at : ℕ) (old now : Text) (p n : ℕ) (short : length t ≤ 16384) (room : 16384 ≤ length old) (g : Going t at old now p n) where
   pub below : length now ≡ length old
   below = let h : n ≤ length old = omega (arith, g .pace, g .within) in
       ap length (g .kinds) ∙ length-append (map kindOf (g .passed)) (drop n old)
       ∙ omega (arith, length-map (g .passed) kindOf, length-drop n old, g .count)
 
-  pub goes-on : (k : Command) (next : ℕ) → Stepped (g .rest) (commandMeant t k) (commandsFrom t next) → p < next → next ≤ length t
-      → Going t at old (put now n (code k)) next (n + 1)
-  goes-on k next h l w = go (g .rest) (g .all) h
-    where
-      fits : n < length old
-      fits = omega (arith, g .pace, g .within)
+  -- a command is left
+  pub not-broken : {A : Type 0} → bodyFrom t p ≡ none → A
+  not-broken e = no-some (sym e ∙ g .left)
 
-      listed : (c : Syntax.Command) → code k ≡ kindOf c → put now n (code k) ≡ map kindOf (g .passed ++ (c ∷ [])) ++ drop (n + 1) old
-      listed c e =
-          ap (λ y. put y n (code k)) (g .kinds ∙ ap (λ y. map kindOf (g .passed) ++ y) (drop-cons old n 0 fits))
-          ∙ set-at (map kindOf (g .passed)) (getD old n 0) (drop (suc n) old) (code k) n (length-map (g .passed) kindOf ∙ sym (g .count))
-          ∙ ap (λ y. map kindOf (g .passed) ++ y ∷ drop (suc n) old) e
-          ∙ ap (λ m. map kindOf (g .passed) ++ kindOf c ∷ drop m old) (sym (add-one n))
-          ∙ sym (append-assoc (map kindOf (g .passed)) (kindOf c ∷ []) (drop (n + 1) old))
-          ∙ ap (λ y. y ++ drop (n + 1) old) (sym (map-append kindOf (g .passed) (c ∷ [])))
+  module _ (k : Command) (rest : Rest) (f : First t p k rest) where
+    next : Split (g .rest) (f .command) (restFrom t rest)
+    next = split (g .rest) (f .command) (restFrom t rest) (sym (g .left) ∙ f .all)
 
-      go : (rest : List Syntax.Command) → commandsFrom t at ≡ some (g .passed ++ rest) → Stepped rest (commandMeant t k) (commandsFrom t next)
-          → Going t at old (put now n (code k)) next (n + 1)
-      go [] a h = absurd h
-      go (c ∷ cs) a (m, r) = record {
-        passed = g .passed ++ (c ∷ []);
-        rest = cs;
-        all = a ∙ ap some (sym (append-assoc (g .passed) (c ∷ []) cs));
-        left = r;
-        count = ap (λ y. y + 1) (g .count) ∙ sym (length-append (g .passed) (c ∷ []));
-        kinds = listed c (code-kind t k c m);
-        within = w;
-        pace = omega (arith, g .pace);
-      }
+    fits : n < length old
+    fits = omega (arith, g .pace, g .within, room-left rest f)
+      where
+        room-left : (rest : Rest) → First t p k rest → p < length t
+        room-left (At m) f = omega (arith, f .placed .0, f .placed .1)
+        room-left End f = omega (arith, f .placed)
 
-  pub ends : Done (g .rest) → (cs : List Syntax.Command) → commandsFrom t at ≡ some cs → Listed cs old now n
-  ends d cs e = go (g .rest) (g .all) d
-    where
-      same : {a b : List Syntax.Command} → commandsFrom t at ≡ some a → commandsFrom t at ≡ some b → a ≡ b
-      same h k = cc
+    pub write-fits : n < length now
+    write-fits = omega (arith, fits, below)
 
-      go : (rest : List Syntax.Command) → commandsFrom t at ≡ some (g .passed ++ rest) → Done rest → Listed cs old now n
-      go [] a d =
-          let k : cs ≡ g .passed = same e a ∙ append-nil (g .passed) in
-          record { count = g .count ∙ ap length (sym k); kinds = subst (λ l. now ≡ map kindOf l ++ drop n old) (sym k) (g .kinds) }
-      go (c ∷ rest) a d = absurd d
+    listed : put now n (code k) ≡ map kindOf (g .passed ++ (f .command ∷ [])) ++ drop (n + 1) old
+    listed =
+        ap (λ y. put y n (code k)) (g .kinds ∙ ap (λ y. map kindOf (g .passed) ++ y) (drop-cons old n 0 fits))
+        ∙ set-at (map kindOf (g .passed)) (getD old n 0) (drop (suc n) old) (code k) n (length-map (g .passed) kindOf ∙ sym (g .count))
+        ∙ ap (λ y. map kindOf (g .passed) ++ y ∷ drop (suc n) old) (code-kind t k (f .command) (f .meant))
+        ∙ ap (λ m. map kindOf (g .passed) ++ kindOf (f .command) ∷ drop m old) (sym (add-one n))
+        ∙ sym (append-assoc (map kindOf (g .passed)) (kindOf (f .command) ∷ []) (drop (n + 1) old))
+        ∙ ap (λ y. y ++ drop (n + 1) old) (sym (map-append kindOf (g .passed) (f .command ∷ [])))
 
--- what parses is not too long
-pub parsed-short : (t : Text) {p : Syntax.Program} → parse t ≡ some p → length t ≤ 16384
-parsed-short t {p} e = go (leb (length t) longest) (leb→le (length t) longest) (above (parts 10 t) >>= λ ls. program (lexed ls)) e
+    passed-all : bodyFrom t at ≡ some ((g .passed ++ (f .command ∷ [])) ++ next .others)
+    passed-all = g .all ∙ ap (λ y. some (g .passed ++ y)) (next .together) ∙ ap some (sym (append-assoc (g .passed) (f .command ∷ []) (next .others)))
+
+    count-one : n + 1 ≡ length (g .passed ++ (f .command ∷ []))
+    count-one = ap (λ y. y + 1) (g .count) ∙ sym (length-append (g .passed) (f .command ∷ []))
+
+  pub goes-on : (k : Command) (m : ℕ) → First t p k (At m) → Going t at old (put now n (code k)) m (n + 1)
+  goes-on k m f = record {
+    passed = g .passed ++ (f .command ∷ []);
+    rest = next k (At m) f .others;
+    all = passed-all k (At m) f;
+    left = next k (At m) f .are;
+    count = count-one k (At m) f;
+    kinds = listed k (At m) f;
+    within = f .placed .1;
+    pace = omega (arith, g .pace, f .placed .0);
+  }
+
+  pub ends : (k : Command) → First t p k End → (cs : List Syntax.Command) → bodyFrom t at ≡ some cs → Listed cs old (put now n (code k)) (n + 1)
+  ends k f cs e =
+      let N = next k End f in
+      let last : N .others ≡ [] = Option·some-inj .0 (sym (N .are)) in
+      let same : cs ≡ g .passed ++ (f .command ∷ []) =
+      Option·some-inj .0 (sym e ∙ passed-all k End f) ∙ ap (λ y. (g .passed ++ (f .command ∷ [])) ++ y) last ∙ append-nil (g .passed ++ (f .command ∷ [])) in
+      record { count = count-one k End f ∙ ap length (sym same); kinds = listed k End f ∙ ap (λ l. map kindOf l ++ drop (n + 1) old) (sym same) }
+
+-- ---- the whole text
+-- there are commands from `at` on, where the text is a program
+pub some-commands : (t : Text) (at : ℕ) → at ≤ length t → present (bodyFrom t at) ≡ true → SomeCommands t at
+some-commands t at h e = go (bodyFrom t at) refl e
   where
-    go : (b : Bool) → (T b → length t ≤ 16384) → (o : Option Syntax.Program) → (if b then o else none) ≡ some p → length t ≤ 16384
-    go true f o e = f tt
-    go false f o e = let z : _≡_ {A = ℕ} 0 1 = cc in omega (arith, z)
+    go : (o : Option (List Syntax.Command)) → bodyFrom t at ≡ o → present o ≡ true → SomeCommands t at
+    go none q e = absurd (let z : _≡_ {A = ℕ} 0 1 = cc in omega arith)
+    go (some cs) q e = record { commands = cs; are = q; within = h }
+
+pub no-commands : (t : Text) (p : Opening) (o : Option (List Syntax.Command)) → parse t ≡ withBody p o → present o ≡ false → parse t ≡ none
+no-commands t p none e h = e
+no-commands t p (some cs) e h = absurd (let z : _≡_ {A = ℕ} 0 1 = cc in omega arith)
+
+pub parsed-as : (t : Text) (p : Opening) (o : Option (List Syntax.Command)) {cs : List Syntax.Command} → parse t ≡ withBody p o → o ≡ some cs
+    → parse t ≡ some (record { sender = p .sender; password = p .password; commands = cs })
+parsed-as t p o e h = e ∙ ap (withBody p) h
 
 pub answers-some : (t : Text) {old new : Text} {r : ℕ} (p : Syntax.Program) → parse t ≡ some p → Listed (p .commands) old new r → Answers (parse t) old new r
 answers-some t {old} {new} {r} p e h = subst (λ (o : Option Syntax.Program). Answers o old new r) (sym e) h

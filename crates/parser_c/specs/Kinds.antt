@@ -8,9 +8,9 @@ use Rattle.language.specs.Text.{Text}
 use Rattle.language.specs.Syntax as Syntax
 use Rattle.language.specs.Syntax.{create-principal, change-password, set, append-to, local, foreach, set-delegation, delete-delegation, default-delegator, exit, return}
 use Rattle.language.specs.Programs.{parse}
-use Rattle.parser.specs.Walks.{commandsFrom}
-use Rattle.syntax.specs.declared.command.Command.{Command}
-use Rattle.syntax.specs.declared.command.Command.the-variants.{CreatePrincipal, ChangePassword, Set, Append, Local, Foreach, SetDelegation, DeleteDelegation, DefaultDelegator, Return, Exit}
+use Rattle.parser.specs.Bodies.{bodyFrom}
+use Rattle.commands.specs.declared.command.Command.{Command}
+use Rattle.commands.specs.declared.command.Command.the-variants.{CreatePrincipal, ChangePassword, Set, Append, Local, Foreach, SetDelegation, DeleteDelegation, DefaultDelegator, Return, Exit}
 
 abbrev pub kindOf : Syntax.Command → ℕ
 kindOf (create-principal p t) = 1
@@ -39,10 +39,10 @@ code (DefaultDelegator p) = 9
 code (Return e) = 10
 code Exit = 11
 
--- commands stand from the line at `at` on
+-- the commands of a program stand from the line at `at` on
 pub record SomeCommands (t : Text) (at : ℕ) : Type 0 where
   pub commands : List Syntax.Command
-  pub are : commandsFrom t at ≡ some commands
+  pub are : bodyFrom t at ≡ some commands
   pub within : at ≤ length t
 
 -- the kinds of cs stand in the first r bytes, and the others are as they were

@@ -1,15 +1,15 @@
 // What a program's text says, for programs in other languages: whether it parses, how many commands it has, and of which kind each is.
-use parser::Parsed;
-use parser::Walk;
-use parser::next_command;
-use syntax::command::Command;
+use commands::command::Command;
+use parser::Head;
+use parser::Read;
+use parser::Rest;
 ghost use mathlib.Core.Path.{_≡_};
 ghost use mathlib.Core.List.{List};
 ghost use mathlib.Core.Option.{some};
 ghost use Prim.Native.Nat.{_≤_};
 ghost use lib.ListN.{length};
 ghost use Rattle.language.specs.Syntax as Syntax;
-ghost use Rattle.parser.specs.Walks.{commandsFrom};
+ghost use Rattle.parser.specs.Bodies.{bodyFrom};
 ghost use Rattle.parser_c.specs.Kinds.{code, SomeCommands, Listed, Reported};
 
 const NO: u64 = 65536;
@@ -37,17 +37,20 @@ fn kind(c: Command) -> u8
 // The kinds of the commands from the line at `at` on. How many there are.
 fn list(text: &[u8], at: usize, kinds: &mut [u8]) -> usize
     requires { ⌜ SomeCommands (now text) at × (length (now text) ≤ 16384) × (16384 ≤ length (now kinds)) ⌝ }
-    ensures { λ r. ⌜ ((cs : List Syntax.Command) → commandsFrom (now (text .entry)) at ≡ some cs → Listed cs (now (kinds .entry)) (now (kinds .exit)) r) ⌝ }
+    ensures { λ r. ⌜ ((cs : List Syntax.Command) → bodyFrom (now (text .entry)) at ≡ some cs → Listed cs (now (kinds .entry)) (now (kinds .exit)) r) ⌝ }
 {
     let mut p = at;
     let mut n: usize = 0;
     loop {
-        let step = next_command(text, p);
-        let Walk::Command(c, next) = step else {
+        let read = parser::read_at(text, p);
+        let Read::Command(c, rest) = read else {
             return n;
         };
         kinds[n] = kind(c);
         n += 1;
+        let Rest::At(next) = rest else {
+            return n;
+        };
         p = next;
     }
 }
@@ -61,16 +64,19 @@ pub extern "C" fn parser_kinds(text: &[u8], kinds: &mut [u8]) -> u64
     if kinds.len() < 16384 {
         return REFUSED;
     }
-    let parsed = parser::program(text);
-    match parsed {
-        Parsed::Program {
+    let head = parser::login(text);
+    match head {
+        Head::Login {
             sender: _,
             password: _,
             at,
         } => {
+            if !parser::body_at(text, at) {
+                return NO;
+            }
             let n = list(text, at, kinds);
             n as u64
         }
-        Parsed::No => NO,
+        Head::No => NO,
     }
 }

@@ -1,93 +1,78 @@
-use mathlib.Core.Path.{sym, subst}
-use Prim.Native.Nat.{ℕ, _+_, _-_, _≤_, _<_}
-use lib.ListN.{length, set as put}
-use Rattle.parser.specs.Walks.{Walked, WalkPlaced}
-use Rattle.parser.specs.declared.Walk.the-variants.{Command}
+use mathlib.Core.Path.{_≡_, refl, sym, ap, subst, _∙_}
+use Prim.Native.Nat.{ℕ, _+_, _-_}
+use lib.ListN.{length, set as put, length-set}
+use Rattle.language.specs.Syntax as Syntax
+use Rattle.syntax.proofs.Reading.{known}
+use Rattle.parser.specs.declared.Rest.{Rest}
+use Rattle.parser.specs.Bodies.{First, ReadFrom}
 use borrow.Author.Needs.{needs}
 use native.Mathlib.Omega.{arith}
-use Rattle.parser_c.proofs.Walking.{Going, begins, below, goes-on, ends}
+use Rattle.parser_c.specs.Kinds.{Listed}
+use Rattle.parser_c.proofs.Walking.{Going, begins, below, not-broken, write-fits, goes-on, ends}
 use Rattle.parser_c.proofs.list.Statement.{statement}
 use Rattle.parser_c.proofs.list.Tie as tie
 
 abbrev Inv-loop : tie.InvT-loop
-Inv-loop text at kinds₀ p₀ n₀ kinds p n = Going text at kinds₀ kinds p n
+Inv-loop text at kinds₀ p₀ n₀ kinds p n =
+    Going text at kinds₀ kinds p n
 
 abbrev μ-loop : tie.MeasureT-loop
-μ-loop text at kinds₀ p₀ n₀ kinds p n = length text - p
+μ-loop text at kinds₀ p₀ n₀ kinds p n =
+    length text - p
 
--- the walk goes on within the text
-progress : (c : tie.After-kind Inv-loop μ-loop) → (c .before .before .before .before .before .loop .p < c .before .before .step .given .0 .1 .0)
-    × (c .before .before .step .given .0 .1 .0 ≤ length (c .before .before .before .before .before .before .before .before .args .text .now))
-progress c =
-    let s = c .before .before .before .before .before .before .before .before in
-    let l = c .before .before .before .before .before in
-    let g = c .before .before .step .given in
-    let w : WalkPlaced (s .args .text .now) (l .loop .p) (Command (g .0 .0) (g .0 .1 .0)) =
-    subst (WalkPlaced (s .args .text .now) (l .loop .p)) (c .before .before .step .given .1) (c .before .before .before .before .next-command .ensures .1) in
-    (w .1, w .2)
+first : (c : tie.After-read Inv-loop μ-loop) (r : Rest) → c .read .given .0 .1 .0 ≡ r → First (c .before .before .before .before .before .before .args .text .now) (c .before .before .before .loop .p) (c .read .given .0 .0) r
+first c r is =
+    known (First (c .before .before .before .before .before .before .args .text .now) (c .before .before .before .loop .p) (c .read .given .0 .0))
+    (known (ReadFrom (c .before .before .before .before .before .before .args .text .now) (c .before .before .before .loop .p)) (c .before .before .read-at .ensures) (c .read .given .1)) is
 
 loop-holds : tie.Need-loop-holds Inv-loop μ-loop
 loop-holds c = begins _ _ _ (c .before .before .pre .0)
 
-next-command-requires : tie.Need-next-command-requires Inv-loop μ-loop
-next-command-requires c κs = c .loop .inv .within
+read-at-requires : tie.Need-read-at-requires Inv-loop μ-loop
+read-at-requires c κs = c .loop .inv .within
 
-enum-known-step : tie.Need-enum-known-step Inv-loop μ-loop
-enum-known-step c = search needs
+enum-known-read : tie.Need-enum-known-read Inv-loop μ-loop
+enum-known-read c = search needs
 
 enum-told : tie.Need-enum-told Inv-loop μ-loop
 enum-told c = search needs
 
 same-length : tie.Need-same-length Inv-loop μ-loop
-same-length c =
-    let s = c .before .before .before .before .before .before in
-    let l = c .before .before .before in
-    below (s .args .text .now) (s .args .at) (s .args .kinds .now) (l .loop .kinds) (l .loop .p) (l .loop .n) (s .pre .1) (s .pre .2) (l .loop .inv)
+same-length c = below (c .before .before .before .before .before .before .args .text .now) (c .before .before .before .before .before .before .args .at) (c .before .before .before .before .before .before .args .kinds .now) (c .before .before .before .loop .kinds) (c .before .before .before .loop .p) (c .before .before .before .loop .n) (c .before .before .before .before .before .before .pre .1) (c .before .before .before .before .before .before .pre .2) (c .before .before .before .loop .inv)
 
 returns : tie.Need-returns Inv-loop μ-loop
-returns c =
-    let s = c .before .before .before .before .before .before in
-    let l = c .before .before .before in
-    ends (s .args .text .now) (s .args .at) (s .args .kinds .now) (l .loop .kinds) (l .loop .p) (l .loop .n) (s .pre .1) (s .pre .2) (l .loop .inv)
-    (subst (Walked (s .args .text .now) (l .loop .inv .rest)) (c .enum-told .given .1)
-    (c .before .before .next-command .ensures .0 (l .loop .inv .rest) (l .loop .inv .left)))
+returns c cs e = not-broken (c .before .before .before .before .before .before .args .text .now) (c .before .before .before .before .before .before .args .at) (c .before .before .before .before .before .before .args .kinds .now) (c .before .before .before .loop .kinds) (c .before .before .before .loop .p) (c .before .before .before .loop .n) (c .before .before .before .before .before .before .pre .1) (c .before .before .before .before .before .before .pre .2) (c .before .before .before .loop .inv) (known (ReadFrom (c .before .before .before .before .before .before .args .text .now) (c .before .before .before .loop .p)) (c .before .before .read-at .ensures) (c .enum-told .given .1))
 
 kind-requires : tie.Need-kind-requires Inv-loop μ-loop
 kind-requires c κs = search needs
 
 slice-write-kinds : tie.Need-slice-write-kinds Inv-loop μ-loop
-slice-write-kinds c =
-    let s = c .before .before .before .before .before .before .before .before in
-    let l = c .before .before .before .before .before in
-    omega (
-      arith,
-      l .loop .inv .pace,
-      l .loop .inv .within,
-      s .pre .1,
-      s .pre .2,
-      below (s .args .text .now) (s .args .at) (s .args .kinds .now) (l .loop .kinds) (l .loop .p) (l .loop .n) (s .pre .1) (s .pre .2) (l .loop .inv),
-      progress c,
-    )
+slice-write-kinds c = write-fits (c .before .before .before .before .before .before .before .before .args .text .now) (c .before .before .before .before .before .before .before .before .args .at) (c .before .before .before .before .before .before .before .before .args .kinds .now) (c .before .before .before .before .before .loop .kinds) (c .before .before .before .before .before .loop .p) (c .before .before .before .before .before .loop .n) (c .before .before .before .before .before .before .before .before .pre .1) (c .before .before .before .before .before .before .before .before .pre .2) (c .before .before .before .before .before .loop .inv) (c .before .before .read .given .0 .0) _ (first (c .before .before) _ refl)
 
 add-n : tie.Need-add-n Inv-loop μ-loop
-add-n c =
-    let s = c .before .before .before .before .before .before .before .before in
-    let l = c .before .before .before .before .before in
-    omega (arith, l .loop .inv .pace, l .loop .inv .within, s .pre .1)
+add-n c = omega (arith, c .before .before .before .before .before .loop .inv .pace, c .before .before .before .before .before .loop .inv .within, c .before .before .before .before .before .before .before .before .pre .1)
+
+enum-known-rest : tie.Need-enum-known-rest Inv-loop μ-loop
+enum-known-rest c = search needs
+
+enum-told-2 : tie.Need-enum-told-2 Inv-loop μ-loop
+enum-told-2 c = search needs
+
+same-length-2 : tie.Need-same-length-2 Inv-loop μ-loop
+same-length-2 c = ap length (ap (λ (b : ℕ). put (c .before .before .before .before .before .before .before .loop .kinds) (c .before .before .before .before .before .before .before .loop .n) b) (c .before .before .kind .ensures)) ∙ length-set (c .before .before .before .before .before .before .before .loop .kinds) (c .before .before .before .before .before .before .before .loop .n) _ ∙ below (c .before .before .before .before .before .before .before .before .before .before .args .text .now) (c .before .before .before .before .before .before .before .before .before .before .args .at) (c .before .before .before .before .before .before .before .before .before .before .args .kinds .now) (c .before .before .before .before .before .before .before .loop .kinds) (c .before .before .before .before .before .before .before .loop .p) (c .before .before .before .before .before .before .before .loop .n) (c .before .before .before .before .before .before .before .before .before .before .pre .1) (c .before .before .before .before .before .before .before .before .before .before .pre .2) (c .before .before .before .before .before .before .before .loop .inv)
+
+returns-2 : tie.Need-returns-2 Inv-loop μ-loop
+returns-2 c cs e =
+    subst (λ (b : ℕ). Listed cs (c .before .before .before .before .before .before .before .before .before .before .args .kinds .now) (put (c .before .before .before .before .before .before .before .loop .kinds) (c .before .before .before .before .before .before .before .loop .n) b) (c .before .before .before .before .before .before .before .loop .n + 1)) (sym (c .before .before .kind .ensures))
+    (ends (c .before .before .before .before .before .before .before .before .before .before .args .text .now) (c .before .before .before .before .before .before .before .before .before .before .args .at) (c .before .before .before .before .before .before .before .before .before .before .args .kinds .now) (c .before .before .before .before .before .before .before .loop .kinds) (c .before .before .before .before .before .before .before .loop .p) (c .before .before .before .before .before .before .before .loop .n) (c .before .before .before .before .before .before .before .before .before .before .pre .1) (c .before .before .before .before .before .before .before .before .before .before .pre .2) (c .before .before .before .before .before .before .before .loop .inv) (c .before .before .before .before .read .given .0 .0) (first (c .before .before .before .before) _ (c .enum-told2 .given .1)) cs e)
 
 loop-less : tie.Need-loop-less Inv-loop μ-loop
-loop-less c = omega (arith, progress c)
+loop-less c = let q = first (c .before .before .before .before .before) _ (c .before .rest .given .1) .placed in omega (arith, q .0, q .1)
 
 loop-again : tie.Need-loop-again Inv-loop μ-loop
 loop-again c =
-    let s = c .before .before .before .before .before .before .before .before in
-    let l = c .before .before .before .before .before in
-    let w = c .before .before .step .given in
-    subst (λ (b : ℕ). Going (s .args .text .now) (s .args .at) (s .args .kinds .now) (put (l .loop .kinds) (l .loop .n) b) (w .0 .1 .0) (l .loop .n + 1)) (sym (c .kind .ensures))
-    (goes-on (s .args .text .now) (s .args .at) (s .args .kinds .now) (l .loop .kinds) (l .loop .p) (l .loop .n) (s .pre .1) (s .pre .2) (l .loop .inv) (w .0 .0) (w .0 .1 .0)
-    (subst (Walked (s .args .text .now) (l .loop .inv .rest)) (w .1)
-    (c .before .before .before .before .next-command .ensures .0 (l .loop .inv .rest) (l .loop .inv .left)))
-    (progress c .0) (progress c .1))
+    subst (λ (b : ℕ). Going (c .before .before .before .before .before .before .before .before .before .before .before .args .text .now) (c .before .before .before .before .before .before .before .before .before .before .before .args .at) (c .before .before .before .before .before .before .before .before .before .before .before .args .kinds .now) (put (c .before .before .before .before .before .before .before .before .loop .kinds) (c .before .before .before .before .before .before .before .before .loop .n) b) (c .before .rest .given .0 .0) (c .before .before .before .before .before .before .before .before .loop .n + 1)) (sym (c .before .before .before .kind .ensures))
+    (goes-on (c .before .before .before .before .before .before .before .before .before .before .before .args .text .now) (c .before .before .before .before .before .before .before .before .before .before .before .args .at) (c .before .before .before .before .before .before .before .before .before .before .before .args .kinds .now) (c .before .before .before .before .before .before .before .before .loop .kinds) (c .before .before .before .before .before .before .before .before .loop .p) (c .before .before .before .before .before .before .before .before .loop .n) (c .before .before .before .before .before .before .before .before .before .before .before .pre .1) (c .before .before .before .before .before .before .before .before .before .before .before .pre .2) (c .before .before .before .before .before .before .before .before .loop .inv) (c .before .before .before .before .before .read .given .0 .0) _ (first (c .before .before .before .before .before) _ (c .before .rest .given .1)))
 
 pub list-spec : {M : Type 1} → statement M
 list-spec =
@@ -96,13 +81,17 @@ list-spec =
     Inv-loop
     μ-loop
     loop-holds
-    next-command-requires
-    enum-known-step
+    read-at-requires
+    enum-known-read
     enum-told
     same-length
     returns
     kind-requires
     slice-write-kinds
     add-n
+    enum-known-rest
+    enum-told-2
+    same-length-2
+    returns-2
     loop-less
     loop-again)

@@ -1,32 +1,56 @@
-use mathlib.Core.Path.{_≡_, refl, subst}
+use mathlib.Core.Path.{_≡_, refl, sym, ap, _∙_}
 use native.Mathlib.Omega.{arith}
-use mathlib.Core.Option.{none}
+use Rattle.language.specs.Grammar.{Opening}
 use Rattle.language.specs.Programs.{parse}
-use Rattle.parser.specs.Walks.{Parsing, Gives, ParsedWithin}
-use Rattle.parser.specs.declared.Parsed.the-variants.{Program}
-use Rattle.parser_c.proofs.Walking.{parsed-short, answers-some, answers-none}
 use Rattle.text.specs.Meaning.{part}
+use Rattle.syntax.proofs.Reading.{known}
+use Rattle.parser.specs.Bodies.{bodyFrom, withBody, headMeant, HeadWithin}
+use Rattle.parser.specs.declared.Head.the-variants.{Login}
+use Rattle.parser_c.specs.Kinds.{SomeCommands}
+use Rattle.parser_c.proofs.Walking.{some-commands, no-commands, parsed-as, answers-some, answers-none}
+use borrow.Author.Tests.{not-true, not-false}
 use borrow.Author.Needs.{needs}
 use Rattle.parser_c.proofs.parser_kinds.Statement.{statement}
 use Rattle.parser_c.proofs.parser_kinds.Tie as tie
 
+placed : (c : tie.After-head) → let g = c .head .given .0 in HeadWithin (c .before .before .before .before .before .before .args .text .now) (Login (g .0) (g .1 .0) (g .1 .1 .0))
+placed c = known (HeadWithin (c .before .before .before .before .before .before .args .text .now)) (c .before .before .login .ensures .1) (c .head .given .1)
+
+abbrev opening : tie.After-head → Opening
+opening c = let g = c .head .given .0 in record { sender = part (c .before .before .before .before .before .before .args .text .now) (g .0); password = part (c .before .before .before .before .before .before .args .text .now) (g .1 .0) }
+
+parsed : (c : tie.After-head) → let t = c .before .before .before .before .before .before .args .text .now in parse t ≡ withBody (opening c) (bodyFrom t (c .head .given .0 .1 .1 .0))
+parsed c = c .before .before .login .ensures .0 ∙ ap (headMeant (c .before .before .before .before .before .before .args .text .now)) (c .head .given .1)
+
+listing : (c : tie.Else2) → SomeCommands (c .before .before .before .before .before .before .before .before .before .args .text .now) (c .before .before .before .head .given .0 .1 .1 .0)
+listing c =
+    let b = c .before .body-at in
+    some-commands (c .before .before .before .before .before .before .before .before .before .args .text .now) (c .before .before .before .head .given .0 .1 .1 .0) (placed (c .before .before .before) .2) (sym (b .ensures) ∙ not-false (b .result) (c .if2 .left))
+
 returns : tie.Need-returns
 returns c = record { refuses = λ h. (refl, refl); answers = λ h. absurd (omega arith) }
 
-program-requires : tie.Need-program-requires
-program-requires c κs = search needs
+login-requires : tie.Need-login-requires
+login-requires c κs = search needs
 
-enum-known-parsed : tie.Need-enum-known-parsed
-enum-known-parsed c = search needs
+enum-known-head : tie.Need-enum-known-head
+enum-known-head c = search needs
+
+body-at-requires : tie.Need-body-at-requires
+body-at-requires c κs = placed (c .before) .2
+
+returns-2 : tie.Need-returns-2
+returns-2 c =
+    let t = c .before .before .before .before .before .before .before .before .before .args .text .now in
+    let b = c .before .body-at in
+    record {
+      refuses = λ h. absurd (omega arith);
+      answers = λ h. answers-none t (c .before .before .before .before .before .before .before .before .before .args .kinds .now)
+          (no-commands t (opening (c .before .before .before)) (bodyFrom t (c .before .before .before .head .given .0 .1 .1 .0)) (parsed (c .before .before .before)) (sym (b .ensures) ∙ not-true (b .result) (c .if2 .taken)));
+    }
 
 list-requires : tie.Need-list-requires
-list-requires c κs =
-    let g = c .before .before .parsed .given in
-    let t = c .before .before .before .before .before .before .before .before .args .text .now in
-    let p = c .before .before .before .before .program in
-    let k : Parsing t (parse t) (g .0 .0) (g .0 .1 .0) (g .0 .1 .1 .0) = subst (Gives t (parse t)) (g .1) (p .ensures .0) in
-    let w : ParsedWithin t (Program (g .0 .0) (g .0 .1 .0) (g .0 .1 .1 .0)) = subst (ParsedWithin t) (g .1) (p .ensures .1) in
-    (record { commands = k .commands; are = k .walked; within = w .2 }, parsed-short t (k .parsed), omega arith)
+list-requires c κs = (listing (c .before), placed (c .before .before .before .before) .3, omega arith)
 
 enum-told : tie.Need-enum-told
 enum-told c = search needs
@@ -34,32 +58,34 @@ enum-told c = search needs
 same-length : tie.Need-same-length
 same-length c = search needs
 
-returns-2 : tie.Need-returns-2
-returns-2 c =
-    let d = c .before .before .before .before in
-    let g = d .before .parsed .given in
-    let t = d .before .before .before .before .before .before .before .args .text .now in
-    let k : Parsing t (parse t) (g .0 .0) (g .0 .1 .0) (g .0 .1 .1 .0) = subst (Gives t (parse t)) (g .1) (d .before .before .before .program .ensures .0) in
-    record {
-      refuses = λ h. absurd (omega arith);
-      answers = λ h. answers-some t (record { sender = part t (g .0 .0); password = part t (g .0 .1 .0); commands = k .commands }) (k .parsed) (c .before .before .list .ensures (k .commands) (k .walked));
-    }
-
 returns-3 : tie.Need-returns-3
 returns-3 c =
+    let t = c .before .before .before .before .before .before .before .before .before .before .before .before .before .args .text .now in
+    let L = listing (c .before .before .before .before) in
+    record {
+      refuses = λ h. absurd (omega arith);
+      answers = λ h. answers-some t _ (parsed-as t (opening (c .before .before .before .before .before .before .before)) (bodyFrom t (c .before .before .before .before .before .before .before .head .given .0 .1 .1 .0)) (parsed (c .before .before .before .before .before .before .before)) (L .are)) (c .before .before .list .ensures (L .commands) (L .are));
+    }
+
+returns-4 : tie.Need-returns-4
+returns-4 c =
     let t = c .before .before .before .before .before .before .args .text .now in
-    let k : parse t ≡ none = subst (Gives t (parse t)) (c .enum-told .given .1) (c .before .before .program .ensures .0) in
-    record { refuses = λ h. absurd (omega arith); answers = λ h. answers-none t (c .before .before .before .before .before .before .args .kinds .now) k }
+    record {
+      refuses = λ h. absurd (omega arith);
+      answers = λ h. answers-none t (c .before .before .before .before .before .before .args .kinds .now) (c .before .before .login .ensures .0 ∙ ap (headMeant t) (c .enum-told .given .1));
+    }
 
 pub parser-kinds-spec : {M : Type 1} → statement M
 parser-kinds-spec =
     tie.close
     (tie.spec
     returns
-    program-requires
-    enum-known-parsed
+    login-requires
+    enum-known-head
+    body-at-requires
+    returns-2
     list-requires
     enum-told
     same-length
-    returns-2
-    returns-3)
+    returns-3
+    returns-4)

@@ -7,7 +7,7 @@ use Rattle.language.specs.Tokens.{lex}
 use Rattle.syntax.proofs.Reading.{told, known}
 use borrow.Author.Tests.{not-true, not-false}
 use Rattle.language.specs.Grammar.{spent}
-use Rattle.syntax.specs.Commands.{commandMeant, commandReadMeant, CommandPlaced}
+use Rattle.commands.specs.Commands.{commandMeant, commandReadMeant, CommandPlaced}
 use Rattle.parser.proofs.Wholes.{not-spent, all-spent}
 use Rattle.parser.proofs.line.command_line.Statement.{statement}
 use Rattle.parser.proofs.line.command_line.Tie as tie

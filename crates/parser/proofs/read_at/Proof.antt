@@ -1,0 +1,127 @@
+use mathlib.Core.Path.{_≡_, sym, ap, _∙_}
+use mathlib.Core.Option.{Option, none}
+use mathlib.Core.List.{List}
+use native.Mathlib.Omega.{arith}
+use borrow.Author.Needs.{needs}
+use borrow.Author.Tests.{not-true, not-false}
+use denote.Ref.{now}
+use lib.ListN.{drop}
+use Rattle.language.specs.Text.{_>>=_}
+use Rattle.language.specs.Tokens.{Token, lex}
+use Rattle.language.specs.Grammar.{whole, anyCommand}
+use Rattle.language.specs.Programs.{body}
+use Rattle.syntax.proofs.Reading.{told, known}
+use Rattle.parser.specs.declared.line.Step.{Step}
+use Rattle.parser.specs.declared.line.Step.the-variants as StepIs
+use Rattle.parser.specs.Lines.{lineReadMeant, LineWithin, lexedFrom, stepMeant, StepPlaced}
+use Rattle.parser.proofs.Firsts.{first-command, first-ending, no-stars, neither}
+use Rattle.parser.proofs.read_at.Statement.{statement}
+use Rattle.parser.proofs.read_at.Tie as tie
+
+after-comments : (c : tie.After-next-line) (r : Step) → c .next-line .result ≡ r → lexedFrom (now (c .before .before .args .text)) (c .before .before .args .at) ≡ stepMeant (now (c .before .before .args .text)) r
+after-comments c r is = c .next-line .ensures .0 ∙ ap (stepMeant (now (c .before .before .args .text))) is
+
+placed : (c : tie.After-step) → StepPlaced (now (c .before .before .before .before .args .text)) (c .before .before .before .before .args .at) (StepIs.Tokens (c .step .given .0 .0) (c .step .given .0 .1 .0))
+placed c = known (StepPlaced (now (c .before .before .before .before .args .text)) (c .before .before .before .before .args .at)) (c .before .before .next-line .ensures .1) (c .step .given .1)
+
+no-command : (c : tie.After-enum-told) → whole anyCommand (lex (drop (c .before .before .before .before .step .given .0 .0) (now (c .before .before .before .before .before .before .before .before .args .text)))) ≡ none
+no-command c = told (lineReadMeant (now (c .before .before .before .before .before .before .before .before .args .text))) (c .before .before .command-line .ensures .0) (c .enum-told .given .1)
+
+next-line-requires : tie.Need-next-line-requires
+next-line-requires c κs = search needs
+
+enum-known-step : tie.Need-enum-known-step
+enum-known-step c = search needs
+
+command-line-requires : tie.Need-command-line-requires
+command-line-requires c κs = let q = placed (c .before) in omega arith
+
+enum-known-line : tie.Need-enum-known-line
+enum-known-line c = search needs
+
+returns : tie.Need-returns
+returns c =
+    let t = now (c .before .before .before .before .before .before .before .before .before .args .text) in
+    let q = placed (c .before .before .before .before .before) in
+    let g = c .before .before .before .before .before .step .given in
+    let x = c .before .before .before .command-line in
+    let k = c .before .line .given in
+    first-command t (c .before .before .before .before .before .before .before .before .before .args .at) (g .0 .0) (g .0 .1 .0) (q .0) (q .1) (q .2) (after-comments (c .before .before .before .before .before .before .before) _ (g .1)) (k .0 .0)
+    (known (LineWithin t) (x .ensures .1) (k .1)) (told (lineReadMeant t) (x .ensures .0) (k .1))
+
+enum-told : tie.Need-enum-told
+enum-told c = search needs
+
+ending-line-requires : tie.Need-ending-line-requires
+ending-line-requires c κs = let q = placed (c .before .before .before .before) in omega arith
+
+enum-known-ending : tie.Need-enum-known-ending
+enum-known-ending c = search needs
+
+enum-told-2 : tie.Need-enum-told-2
+enum-told-2 c = search needs
+
+returns-2 : tie.Need-returns-2
+returns-2 c =
+    let t = now (c .before .before .before .before .before .before .before .before .before .before .before .args .text) in
+    let q = placed (c .before .before .before .before .before .before .before) in
+    let g = c .before .before .before .before .before .before .before .step .given in
+    neither t (c .before .before .before .before .before .before .before .before .before .before .before .args .at) (g .0 .0) (g .0 .1 .0) (q .0) (q .1) (q .2) (after-comments (c .before .before .before .before .before .before .before .before .before) _ (g .1)) (no-command (c .before .before .before))
+    (told (lineReadMeant t) (c .before .before .ending-line .ensures .0) (c .enum-told2 .given .1))
+
+stars-at-requires : tie.Need-stars-at-requires
+stars-at-requires c κs = placed (c .before .before .before .before .before .before .before .before) .2
+
+returns-3 : tie.Need-returns-3
+returns-3 c =
+    let t = now (c .before .before .before .before .before .before .before .before .before .before .before .before .before .before .args .text) in
+    let q = placed (c .before .before .before .before .before .before .before .before .before .before) in
+    let g = c .before .before .before .before .before .before .before .before .before .before .step .given in
+    let x = c .before .stars-at in
+    no-stars t (c .before .before .before .before .before .before .before .before .before .before .before .before .before .before .args .at) (g .0 .0) (g .0 .1 .0) (q .0) (q .1) (q .2) (after-comments (c .before .before .before .before .before .before .before .before .before .before .before .before) _ (g .1)) (no-command (c .before .before .before .before .before .before))
+    (sym (x .ensures) ∙ not-true (x .result) (c .if1 .taken))
+
+enum-told-3 : tie.Need-enum-told-3
+enum-told-3 c = search needs
+
+enum-told-4 : tie.Need-enum-told-4
+enum-told-4 c = search needs
+
+returns-4 : tie.Need-returns-4
+returns-4 c =
+    let t = now (c .before .before .before .before .before .before .before .before .before .before .before .before .before .before .args .text) in
+    let q = placed (c .before .before .before .before .before .before .before .before .before .before) in
+    let g = c .before .before .before .before .before .before .before .before .before .before .step .given in
+    let x = c .before .stars-at in
+    let y = c .before .before .before .before .before .ending-line in
+    let k = c .before .before .before .ending .given in
+    first-ending t (c .before .before .before .before .before .before .before .before .before .before .before .before .before .before .args .at) (g .0 .0) (g .0 .1 .0) (q .0) (q .1) (q .2) (after-comments (c .before .before .before .before .before .before .before .before .before .before .before .before) _ (g .1)) (no-command (c .before .before .before .before .before .before)) (k .0 .0)
+    (known (LineWithin t) (y .ensures .1) (k .1)) (told (lineReadMeant t) (y .ensures .0) (k .1)) (sym (x .ensures) ∙ not-false (x .result) (c .if1 .left))
+
+returns-5 : tie.Need-returns-5
+returns-5 c = ap (λ (z : Option (List (List Token))). z >>= body) (after-comments (c .before .before) _ (c .enum-told3 .given .1))
+
+returns-6 : tie.Need-returns-6
+returns-6 c = ap (λ (z : Option (List (List Token))). z >>= body) (after-comments (c .before .before) _ (c .enum-told4 .given .1))
+
+pub read-at-spec : {M : Type 1} → statement M
+read-at-spec =
+    tie.close
+    (tie.spec
+    next-line-requires
+    enum-known-step
+    command-line-requires
+    enum-known-line
+    returns
+    enum-told
+    ending-line-requires
+    enum-known-ending
+    enum-told-2
+    returns-2
+    stars-at-requires
+    returns-3
+    enum-told-3
+    enum-told-4
+    returns-4
+    returns-5
+    returns-6)
