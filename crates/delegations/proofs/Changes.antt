@@ -29,7 +29,7 @@ use Rattle.running.specs.Sessions.{Slices, Running}
 use Rattle.running.proofs.Scoping.{store-valid}
 use Rattle.running.proofs.Room.{assertions-few}
 use Rattle.delegations.specs.Entering.{Asserts, entered, withdrawn, restood, relaid}
-use Rattle.delegations.proofs.Weighing.{name-light}
+use Rattle.store.proofs.NameWeights.{name-light}
 use Rattle.delegations.proofs.Lists.{enter-stood, withdraw-absent}
 
 pub valid-known : (s : Store) (a : Assertion) → T (validAssertion s a) → T (known (people s) (variables s) a)

@@ -28,7 +28,7 @@ use Rattle.running.specs.Sessions.{Slices, Running}
 use Rattle.running.proofs.Scoping.{store-valid, everyone}
 use Rattle.delegations.specs.Numbered.{Numbered}
 use Rattle.delegations.specs.Entering.{Asserts, Delegates, entered, withdrawn, restood}
-use Rattle.delegations.proofs.Weighing.{name-light}
+use Rattle.store.proofs.NameWeights.{name-light}
 use Rattle.delegations.proofs.Lists.{assertionAt, on-next, on-split, entering-append, withdrawing-append, entering-grows-by}
 
 -- the name in the row of a number

@@ -3,9 +3,10 @@
 use mathlib.Core.Path.{_≡_, refl, sym, ap, subst, _∙_}
 use mathlib.Core.Bool.{Bool, true, false, _&&_, _||_, not}
 use mathlib.Core.List.{List, [], _∷_, _++_}
-use Prim.Native.Nat.{ℕ}
+use Prim.Native.Nat.{ℕ, _≤_}
 use native.Mathlib.Omega.{arith}
 use lib.Dec.{T}
+use lib.ListN.{length}
 use Rattle.language.specs.Text.{if_then_else_, _==_, any}
 use Rattle.language.specs.Syntax.{Name, Right, delegate, Target, every, only, set-delegation, delete-delegation}
 use Rattle.language.specs.State.{admin}
@@ -14,8 +15,10 @@ use Rattle.language.specs.Values.{Session, isShared, isPrincipal}
 use Rattle.language.specs.Commands.{Need, need, needs, met, isNone, denied}
 use Rattle.language.proofs.Logic.Tests.{true-of, ==→≡}
 use Rattle.store.specs.Rows.{position}
+use Rattle.delegations.specs.declared.ask.Aim.{Aim}
 use Rattle.delegations.specs.declared.ask.Aim.the-variants.{All, One}
-use Rattle.delegations.specs.Asking.{aimOf}
+use Rattle.delegations.specs.Asking.{aimOf, Few}
+use Rattle.store.proofs.Positions.{position-most}
 
 -- ---- targets
 
@@ -32,6 +35,13 @@ pub record Aimed (xs : List Name) (t : Target) (n : ℕ) : Type 0 where
 pub aim-only : (xs : List Name) (t : Target) (n : ℕ) → One n ≡ aimOf xs t → Aimed xs t n
 aim-only xs every n e = absurd (let z : _≡_ {A = ℕ} 0 1 = cc in omega arith)
 aim-only xs (only x) n e = let h : n ≡ position xs x = cc in record { name = x; is-only = refl; number = h }
+
+pub aim-few : (xs : List Name) (t : Target) (a : Aim) → length xs ≤ 4096 → a ≡ aimOf xs t → Few a
+aim-few xs t a h e = subst Few (sym e) (go t)
+  where
+    go : (t : Target) → Few (aimOf xs t)
+    go every = tt
+    go (only x) = omega (arith, position-most xs x)
 
 -- ---- the sender
 

@@ -35,6 +35,9 @@ module _ (s : Session) (l : Layout) (b : Slices) (R : Running s l b) where
   every-variable : l .vars ≡ length (variables (s .store))
   every-variable = R .variables .counted ∙ sym (length-map (s .store .variables) (λ (v : Variable). v .name))
 
+  pub few-variables : length (variables (s .store)) ≤ 4096
+  few-variables = omega (arith, every-variable, records-few s l b R, R .light)
+
 module _ (s : Session) (l : Layout) (b : Slices) (standing : List ℕ) (R : Runs s l b standing) where
   standing-held : Standing (s .store) (l .asserted) standing
   standing-held = subst (Standing (s .store) (l .asserted)) (R .stood) (R .running .assertions)

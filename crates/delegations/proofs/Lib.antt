@@ -1,7 +1,7 @@
 -- Laws of delegations in a running session.
 pub mod Places
 pub mod Gathering
-pub mod Weighing
+pub mod FromStart
 pub mod Lists
 pub mod Changes
 pub mod Delegating

@@ -3,21 +3,16 @@
 use mathlib.Core.Path.{_≡_, refl, sym, ap, _∙_}
 use mathlib.Core.Bool.{Bool, true, false, not}
 use mathlib.Core.List.{List, [], _∷_, _++_, map, map-append, append-nil}
-use Prim.Native.Nat.{ℕ, zero, suc, _+_, _-_, _≤_, _<_}
-use native.Mathlib.Nat.{not-suc-le-zero, le-of-suc-le-suc, sub-zero}
+use Prim.Native.Nat.{ℕ, zero, suc, _+_, _<_}
+use native.Mathlib.Nat.{not-suc-le-zero, le-of-suc-le-suc}
 use native.Mathlib.Numerals.{add-one}
-use native.Mathlib.Omega.{arith}
 use lib.Dec.{T, T-not}
-use lib.ListN.{length, getD, take, drop}
+use lib.ListN.{length, getD, take}
 use lib.Seq.{take-suc}
 use Rattle.language.specs.Text.{if_then_else_, _==_, keep, member, distinct}
 use Rattle.language.specs.Syntax.{Name}
 use Rattle.language.proofs.Logic.Tests.{both, left-of, right-of, true-of, ==→≡, ==-refl}
 use Rattle.store.specs.Rows.{position}
-
--- the part of a list that starts at 0
-pub from-start : {A : Type 0} (l : List A) (n : ℕ) → take (n - 0) (drop 0 l) ≡ take n l
-from-start l n = ap (λ (k : ℕ). take k l) (sub-zero n)
 
 pub member-at : (l : List Name) (k : ℕ) → k < length l → T (member (getD l k []) l)
 member-at [] k h = absurd (not-suc-le-zero h)
@@ -34,14 +29,6 @@ position-own (y ∷ l) (suc k) d h =
     go : (b : Bool) → (T b → y ≡ getD l k []) → ¬ T (member y l) → position l (getD l k []) ≡ k → (if b then 0 else suc (position l (getD l k []))) ≡ suc k
     go true e n r = absurd (n (rw (e tt) (member-at l k (le-of-suc-le-suc h))))
     go false e n r = ap suc r
-
-pub position-most : (l : List Name) (x : Name) → position l x ≤ length l
-position-most [] x = omega arith
-position-most (y ∷ l) x = go (y == x) (position-most l x)
-  where
-    go : (b : Bool) → position l x ≤ length l → (if b then 0 else suc (position l x)) ≤ suc (length l)
-    go true h = omega arith
-    go false h = omega arith
 
 keep-append : (f : Name → Bool) (l m : List Name) → keep f (l ++ m) ≡ keep f l ++ keep f m
 keep-append f [] m = refl

@@ -1,6 +1,6 @@
 -- What a delegation names, by numbers. A name that is missing has the number after the last.
 use mathlib.Core.Path.{_≡_}
-use Prim.Native.Nat.{ℕ}
+use Prim.Native.Nat.{ℕ, _≤_}
 use mathlib.Core.List.{List}
 use Rattle.language.specs.Syntax.{Name, Target, every, only}
 use Rattle.language.specs.Values.{Session}
@@ -15,6 +15,11 @@ use Rattle.delegations.specs.declared.ask.Ask.{Ask}
 abbrev pub aimOf : List Name → Target → Aim
 aimOf xs every = All
 aimOf xs (only x) = One (position xs x)
+
+-- no session has more than 4,096 variables
+abbrev pub Few : Aim → Type 0
+Few All = Unit
+Few (One n) = n ≤ 4096
 
 -- the numbers k are those of the target t and of the principals' names
 pub record Names (s : Session) (t : Target) (from to : Name) (k : Ask) : Type 0 where

@@ -1,8 +1,8 @@
 // What a delegation names, who may send it, and which variables it is about.
+use commands::form::Right;
+use commands::form::Target;
 use running::Layout;
-use store::mark::Found;
-use syntax::form::Right;
-use syntax::form::Target;
+use store::name::number_of;
 use text::Span;
 ghost use mathlib.Core.Path.{_≡_};
 ghost use mathlib.Core.Bool.{_&&_, not};
@@ -18,12 +18,12 @@ ghost use Rattle.language.specs.Chains.{has};
 ghost use Rattle.language.specs.Values.{Session, isShared, isPrincipal};
 ghost use Rattle.language.specs.Commands.{isNone, denied, targets};
 ghost use Rattle.text.specs.Meaning.{part, Within};
-ghost use Rattle.syntax.specs.Forms.{rightMeant, targetMeant, TargetWithin};
+ghost use Rattle.commands.specs.Forms.{rightMeant, targetMeant, TargetWithin};
 ghost use Rattle.store.specs.Rows.{Row, Rows, SomeRows, rowNames, position};
 ghost use Rattle.numbers.specs.Numbers.{code, variables};
 ghost use Rattle.numbers.specs.Numbers as Numbers;
 ghost use Rattle.running.specs.Sessions.{Slices, slices, Running};
-ghost use Rattle.delegations.specs.Asking.{aimOf, Names, Runs, SomeRuns};
+ghost use Rattle.delegations.specs.Asking.{aimOf, Few, Names, Runs, SomeRuns};
 
 // What a delegation is about: every variable on which the giver has delegate, or the one of a number.
 pub enum Aim {
@@ -38,24 +38,8 @@ pub struct Ask {
     pub taker: usize,
 }
 
-// The number of a name.
-fn number_of(rows: &[u8], marks: &[u64], len: usize, count: usize, name: &[u8]) -> usize
-    requires { ⌜ (len ≤ length (now rows)) × SomeRows (take len (now rows)) count (now marks) ⌝ }
-    ensures { λ r. ⌜ ((l : List Row) → Rows l (take len (now (rows .entry))) count (now (marks .entry)) → r ≡ position (rowNames l) (now (name .entry))) ⌝ }
-{
-    let found = store::mark::find(&rows[0..len], marks, count, name);
-    match found {
-        Found::At {
-            number,
-            start: _,
-            end: _,
-        } => number,
-        Found::Missing => count,
-    }
-}
-
 // What a target is about.
-fn aim_of(vars: &[u8], marks: &[u64], len: usize, count: usize, text: &[u8], target: Target) -> Aim
+fn aim_of(vars: &[u8], marks: &[u32], len: usize, count: usize, text: &[u8], target: Target) -> Aim
     requires { ⌜ (len ≤ length (now vars)) × SomeRows (take len (now vars)) count (now marks) × TargetWithin (now text) target ⌝ }
     ensures { λ r. ⌜ ((l : List Row) → Rows l (take len (now (vars .entry))) count (now (marks .entry)) → r ≡ aimOf (rowNames l) (targetMeant (now (text .entry)) target)) ⌝ }
 {
@@ -72,9 +56,9 @@ fn aim_of(vars: &[u8], marks: &[u64], len: usize, count: usize, text: &[u8], tar
 // The numbers of what a command names.
 pub fn asked(
     people: &[u8],
-    people_marks: &[u64],
+    people_marks: &[u32],
     vars: &[u8],
-    var_marks: &[u64],
+    var_marks: &[u32],
     l: Layout,
     text: &[u8],
     target: Target,
@@ -186,8 +170,8 @@ pub fn missing(l: Layout, k: Ask) -> bool
 }
 
 // The numbers of the variables that a delegation is about, at the start of `chosen`; how many there are.
-pub fn choose(standing: &[u64], l: Layout, k: Ask, chosen: &mut [u64]) -> usize
-    requires { ⌜ SomeRuns l (now standing) × (4096 ≤ length (now chosen)) ⌝ }
+pub fn choose(standing: &[u64], l: Layout, k: Ask, chosen: &mut [u32]) -> usize
+    requires { ⌜ SomeRuns l (now standing) × (4096 ≤ length (now chosen)) × Few (k .aim) ⌝ }
     ensures within { λ r. ⌜ r ≤ 4096 ⌝ }
     ensures are { λ r. ⌜ ((s : Session) (b : Slices) (t : Syntax.Target) (from to : Name) → Runs s l b (now (standing .entry)) → Names s t from to k → T (isPrincipal s from)
         → take r (now (chosen .exit)) ≡ map (position (variables (s .store))) (targets (s .store) t from)) ⌝ }
@@ -196,7 +180,7 @@ pub fn choose(standing: &[u64], l: Layout, k: Ask, chosen: &mut [u64]) -> usize
     match aim {
         Aim::All => crate::collect(standing, l.asserted, l.people, l.vars, k.giver, chosen),
         Aim::One(x) => {
-            chosen[0] = x as u64;
+            chosen[0] = x as u32;
             1
         }
     }

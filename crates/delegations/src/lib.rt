@@ -3,10 +3,10 @@ mod ask; // what a delegation names, and who may send it
 mod entry; // one assertion
 mod weigh; // what an assertion weighs, and its number
 
+use commands::form::Right;
+use commands::form::Target;
 use running::Layout;
 use running::Verdict;
-use syntax::form::Right;
-use syntax::form::Target;
 use text::Span;
 ghost use mathlib.Core.Path.{_≡_};
 ghost use mathlib.Core.List.{List, map};
@@ -22,7 +22,7 @@ ghost use Rattle.numbers.specs.Numbers.{variables};
 ghost use Rattle.running.specs.Sessions.{slices, Running, SomeRunning};
 ghost use Rattle.running.specs.Endings.{Ended};
 ghost use Rattle.text.specs.Meaning.{part, Within};
-ghost use Rattle.syntax.specs.Forms.{rightMeant, targetMeant, TargetWithin};
+ghost use Rattle.commands.specs.Forms.{rightMeant, targetMeant, TargetWithin};
 ghost use Rattle.delegations.specs.Numbered.{Numbered, Counted};
 ghost use Rattle.delegations.specs.Entering.{Ends, Delegates, SomeDelegates, entered, withdrawn};
 
@@ -39,7 +39,7 @@ pub fn collect(
     people: usize,
     vars: usize,
     q: usize,
-    targets: &mut [u64],
+    targets: &mut [u32],
 ) -> usize
     requires { ⌜ (asserted ≤ length (now standing)) × (asserted ≤ 2048) × (people ≤ 4096) × (vars ≤ 4096) × (4096 ≤ length (now targets)) ⌝ }
     ensures few { λ r. ⌜ r ≤ vars ⌝ }
@@ -50,7 +50,7 @@ pub fn collect(
     let mut k = 0;
     while k < vars {
         if numbers::may(standing, asserted, people, k, 3, q) {
-            targets[n] = k as u64;
+            targets[n] = k as u32;
             n += 1;
         }
         k += 1;
@@ -61,14 +61,14 @@ pub fn collect(
 // Enters the assertions from q to p of a right on each of the first `count` targets.
 pub fn enter_all(
     people: &[u8],
-    people_marks: &[u64],
+    people_marks: &[u32],
     vars: &[u8],
-    var_marks: &[u64],
+    var_marks: &[u32],
     locals: &[u8],
-    local_marks: &[u64],
+    local_marks: &[u32],
     standing: &mut [u64],
     l: Layout,
-    targets: &[u64],
+    targets: &[u32],
     count: usize,
     q: usize,
     right: u16,
@@ -103,14 +103,14 @@ pub fn enter_all(
 // Withdraws those that stand of the assertions from q to p of a right on each of the first `count` targets.
 pub fn withdraw_all(
     people: &[u8],
-    people_marks: &[u64],
+    people_marks: &[u32],
     vars: &[u8],
-    var_marks: &[u64],
+    var_marks: &[u32],
     locals: &[u8],
-    local_marks: &[u64],
+    local_marks: &[u32],
     standing: &mut [u64],
     l: Layout,
-    targets: &[u64],
+    targets: &[u32],
     count: usize,
     q: usize,
     right: u16,
@@ -140,13 +140,13 @@ pub fn withdraw_all(
 // Set delegation: enters the right, from q to p, on what the target is about.
 pub fn set_delegation(
     people: &[u8],
-    people_marks: &[u64],
+    people_marks: &[u32],
     vars: &[u8],
-    var_marks: &[u64],
+    var_marks: &[u32],
     locals: &[u8],
-    local_marks: &[u64],
+    local_marks: &[u32],
     standing: &mut [u64],
-    targets: &mut [u64],
+    targets: &mut [u32],
     l: Layout,
     text: &[u8],
     target: Target,
@@ -193,13 +193,13 @@ pub fn set_delegation(
 // Delete delegation: withdraws the right, from q to p, on what the target is about.
 pub fn delete_delegation(
     people: &[u8],
-    people_marks: &[u64],
+    people_marks: &[u32],
     vars: &[u8],
-    var_marks: &[u64],
+    var_marks: &[u32],
     locals: &[u8],
-    local_marks: &[u64],
+    local_marks: &[u32],
     standing: &mut [u64],
-    targets: &mut [u64],
+    targets: &mut [u32],
     l: Layout,
     text: &[u8],
     target: Target,

@@ -1,4 +1,5 @@
 // What the names in an assertion weigh, and the assertion's number.
+use store::name::principal_weight;
 ghost use mathlib.Core.Path.{_≡_};
 ghost use mathlib.Core.List.{List};
 ghost use Prim.Native.Nat.{_+_, _≤_, _<_};
@@ -7,41 +8,18 @@ ghost use Rattle.language.specs.Weight.{nameWeight};
 ghost use Rattle.rights.specs.Packed.{pack};
 ghost use Rattle.store.specs.Rows.{Row, Rows, SomeRows, rowAt};
 
-// The weight of a principal's name: 1 for admin and anyone.
-fn name_weight(name: &[u8]) -> usize
-    ensures { λ r. ⌜ r ≡ nameWeight (now (name .entry)) ⌝ }
-{
-    if text::same_bytes(name, b"admin") {
-        return 1;
-    }
-    if text::same_bytes(name, b"anyone") {
-        return 1;
-    }
-    name.len()
-}
-
-// The weight of the name of a principal, by its number.
-fn principal(people: &[u8], marks: &[u64], count: usize, number: usize) -> usize
-    requires { ⌜ SomeRows (now people) count (now marks) × (number < count) ⌝ }
-    ensures { λ r. ⌜ ((rows : List Row) → Rows rows (now (people .entry)) count (now (marks .entry)) → r ≡ nameWeight (rowAt rows number .name)) ⌝ }
-{
-    let place = store::mark::nth(people, marks, count, number);
-    let from = place.start + 2;
-    let to = place.mid;
-    name_weight(&people[from..to])
-}
-
 // The weight of the names of two principals, by their numbers.
-pub fn pair(people: &[u8], marks: &[u64], len: usize, count: usize, q: usize, p: usize) -> usize
+pub fn pair(people: &[u8], marks: &[u32], len: usize, count: usize, q: usize, p: usize) -> usize
     requires { ⌜ (len ≤ length (now people)) × SomeRows (take len (now people)) count (now marks) × (q < count) × (p < count) ⌝ }
     ensures { λ r. ⌜ ((rows : List Row) → Rows rows (take len (now (people .entry))) count (now (marks .entry))
         → r ≡ nameWeight (rowAt rows q .name) + nameWeight (rowAt rows p .name)) ⌝ }
 {
-    principal(&people[0..len], marks, count, q) + principal(&people[0..len], marks, count, p)
+    principal_weight(&people[0..len], marks, count, q)
+        + principal_weight(&people[0..len], marks, count, p)
 }
 
 // The length of the name of a variable, by its number.
-pub fn variable(vars: &[u8], marks: &[u64], len: usize, count: usize, number: usize) -> usize
+pub fn variable(vars: &[u8], marks: &[u32], len: usize, count: usize, number: usize) -> usize
     requires { ⌜ (len ≤ length (now vars)) × SomeRows (take len (now vars)) count (now marks) × (number < count) ⌝ }
     ensures { λ r. ⌜ ((rows : List Row) → Rows rows (take len (now (vars .entry))) count (now (marks .entry)) → r ≡ length (rowAt rows number .name)) ⌝ }
 {

@@ -13,7 +13,6 @@ use Rattle.language.specs.Weight.{limit, storeWeight}
 use Rattle.language.specs.Valid.{wellFormed, validStore, valid}
 use Rattle.language.specs.Run.{login, right, begin}
 use Rattle.language.proofs.Logic.Tests.{both}
-use Rattle.language.proofs.StateText.Bound.{principals-bound}
 use Rattle.language.proofs.Meaning.ValidRuns.{begin-ready}
 use Rattle.store.specs.Held.{part, Principals, Variables}
 use Rattle.store.specs.Rows.{position}
@@ -25,6 +24,7 @@ use Rattle.validate.specs.Checked.{Represents}
 use Rattle.validate.specs.declared.Parts.{Parts}
 use Rattle.running.specs.declared.Layout.{Layout}
 use Rattle.running.specs.Sessions.{slices, Sized, Running}
+use Rattle.running.proofs.PeopleText.{people-text}
 
 -- where the parts of the session stand, when m bytes of principals and n of variables were copied
 abbrev pub firstLayout : Parts → ℕ → ℕ → ℕ → Layout
@@ -52,8 +52,10 @@ module _ (t : Text) (marks-p marks-v standing : List ℕ) (q : Parts) (s : State
       omega (arith, R .weighed)
 
   -- the principals' text fits its buffer
-  pub people-fit : length (part t (q .«people_from») (q .«people_to»)) ≤ 45056
-  people-fit = omega (arith, light, R .weighed, ap length (R .principals .is-text), principals-bound (s .store .principals) (store-shape (s .store) store-valid .principals-valid))
+  pub people-fit : length (part t (q .«people_from») (q .«people_to»)) ≤ 20992
+  people-fit =
+      let G = store-shape (s .store) store-valid in
+      omega (arith, light, R .weighed, ap length (R .principals .is-text), people-text (s .store .principals) (G .order) (G .principals-valid) (G .principals-distinct))
 
   module _ (people-before people-after vars-before vars-after locals : Text) (local-marks : List ℕ) (m n : ℕ)
       (sizes : Sized (slices people-before marks-p vars-before marks-v locals local-marks standing))

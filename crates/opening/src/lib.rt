@@ -32,7 +32,7 @@ pub enum Login {
 }
 
 // Whether a principal's password is kept and is the one given.
-fn opens(people: &[u8], marks: &[u64], count: usize, number: usize, password: &[u8]) -> bool
+fn opens(people: &[u8], marks: &[u32], count: usize, number: usize, password: &[u8]) -> bool
     requires { ⌜ SomePrincipals (now people) count (now marks) × (number < count) ⌝ }
     ensures { λ r. ⌜ ((ks : List Principal) → Principals ks (now (people .entry)) count (now (marks .entry))
         → r ≡ Run.opens (now (password .entry)) (principalAt ks number .password)) ⌝ }
@@ -47,7 +47,7 @@ fn opens(people: &[u8], marks: &[u64], count: usize, number: usize, password: &[
 // Who the sender of a program is.
 pub fn log_in(
     state: &[u8],
-    people_marks: &[u64],
+    people_marks: &[u32],
     parts: Parts,
     name: &[u8],
     password: &[u8],
@@ -79,15 +79,15 @@ pub fn log_in(
 // The session that a program of a sender begins with: the state's texts copied to the starts of lent buffers, and no locals.
 pub fn begin(
     state: &[u8],
-    people_marks: &[u64],
-    var_marks: &[u64],
+    people_marks: &[u32],
+    var_marks: &[u32],
     standing: &[u64],
     parts: Parts,
     sender: usize,
     people: &mut [u8],
     vars: &mut [u8],
     locals: &[u8],
-    local_marks: &[u64],
+    local_marks: &[u32],
 ) -> Layout
     requires { ⌜ SomeValid (now state) (now «people_marks») (now «var_marks») (now standing) parts ⌝ }
     requires { ⌜ Sized (slices (now people) (now «people_marks») (now vars) (now «var_marks») (now locals) (now «local_marks») (now standing)) ⌝ }

@@ -33,7 +33,7 @@ use Rattle.running.specs.declared.Layout.{Layout}
 use Rattle.running.specs.Sessions.{Slices, Running}
 use Rattle.running.proofs.Scoping.{store-valid, sender-known}
 use Rattle.running.proofs.Room.{people-short, records-few}
-use Rattle.delegations.proofs.Weighing.{weighs-all}
+use Rattle.store.proofs.NameWeights.{weighs-all}
 use Rattle.delegations.proofs.Changes.{valid-known}
 use Rattle.principals.specs.Creating.{withPeople, New}
 use Rattle.principals.proofs.Peopled.{peopled, Same, with-people}
@@ -90,7 +90,7 @@ module _ (s : Session) (l : Layout) (b : Slices) (text : Text) (marks : List ℕ
   module _ (w : l .weight + 1 + length p + length t ≤ limit) where
     pub added-fits : (length text ≤ 65536) × (l .«people_len» + 4 + length p + length t ≤ length text) × (l .people < length marks)
     added-fits =
-        let z : length text ≡ 45056 = ap length (sym (N .people-are)) ∙ N .running .sized .people-size in
+        let z : length text ≡ 20992 = ap length (sym (N .people-are)) ∙ N .running .sized .people-size in
         let m : length marks ≡ 4096 = ap length (sym (N .marks-are)) ∙ N .running .sized .people-marks-size in
         let n = name-length p added-name .0 in
         (omega (arith, z), omega (arith, z, people-short s l b (N .running)), omega (arith, m, n, records-few s l b (N .running)))

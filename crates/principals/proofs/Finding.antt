@@ -13,33 +13,29 @@ use Rattle.language.specs.Syntax.{Name}
 use Rattle.language.specs.State.{Principal}
 use Rattle.language.specs.Weight.{passwordWeight}
 use Rattle.language.specs.Values.{Session, isPrincipal}
-use Rattle.store.specs.Rows.{position, principalRow, place}
+use Rattle.store.specs.Rows.{Row, Rows, rowNames, position, principalRow}
 use Rattle.store.specs.Contents.{principalAt, PasswordAt}
-use Rattle.store.specs.declared.mark.Found.the-variants.{Missing}
 use Rattle.store.specs.declared.content.Password.the-variants.{Kept}
-use Rattle.store.proofs.Answers.{unanswered, principal-names}
+use Rattle.store.proofs.Holders.{principals-rows}
+use Rattle.store.proofs.Answers.{principal-names}
 use Rattle.numbers.specs.Numbers.{people}
 use Rattle.running.specs.declared.Layout.{Layout}
 use Rattle.running.specs.Sessions.{Slices, Running}
 use Rattle.running.proofs.Admin.{principal-exists}
-use Rattle.delegations.proofs.Places.{position-most}
-
--- a name that is not found has the number of principals
-pub missing-position : (ks : List Principal) (p : Name) → Missing ≡ place (map principalRow ks) p → position (map (λ k. k .name) ks) p ≡ length ks
-missing-position ks p q = omega (
-  arith,
-  unanswered (map principalRow ks) p q,
-  ap (λ (ns : List Name). position ns p) (principal-names ks),
-  length-map ks principalRow,
-  length-map ks (λ k. k .name),
-  position-most (map (λ k. k .name) ks) p,
-)
+use Rattle.store.proofs.Positions.{position-most}
 
 pub part-length : (t : Text) (s e : ℕ) → e ≤ length t → length (take (e - s) (drop s t)) ≡ e - s
 part-length t s e h = length-take-le (e - s) (drop s t) (omega (arith, length-drop s t))
 
 pub kept-weight : (ks : List Principal) (t : Text) (k s e : ℕ) → PasswordAt ks t k (Kept s e) → e - s ≡ passwordWeight (principalAt ks k .password)
 kept-weight ks t k s e A = sym (part-length t s e (A .within .1)) ∙ ap passwordWeight (A .meant)
+
+-- the number of a row is that of its principal
+pub row-number : (s : Session) (l : Layout) (b : Slices) → Running s l b → (p : Name) (n : ℕ)
+    → ((rows : List Row) → Rows rows (take (l .«people_len») (b .people)) (l .people) (b .people-marks) → n ≡ position (rowNames rows) p) → n ≡ position (people (s .store)) p
+row-number s l b R p n f =
+    f (map principalRow (s .store .principals)) (principals-rows (s .store .principals) (take (l .«people_len») (b .people)) (l .people) (b .people-marks) (R .principals))
+    ∙ ap (λ (ns : List Name). position ns p) (principal-names (s .store .principals))
 
 module _ (s : Session) (l : Layout) (b : Slices) (R : Running s l b) (p : Name) (n : ℕ) (e : n ≡ position (people (s .store)) p) where
   pub is-missing : n ≡ l .people → isPrincipal s p ≡ false

@@ -19,7 +19,6 @@ use Rattle.language.specs.Values.{Session}
 use Rattle.language.specs.Commands.{changed, withStore, withPrincipals, Effect, effect, sessionWeight, step, refused, went, DENIED, FAILED, FULL, done}
 use Rattle.language.proofs.Parsing.ValidPrograms.{validCommand}
 use Rattle.language.proofs.Logic.Tests.{both}
-use Rattle.language.proofs.StateText.Bound.{principals-bound}
 use Rattle.language.proofs.Meaning.Adding.{changed-names}
 use Rattle.language.proofs.Meaning.Stores.{changed-shape}
 use Rattle.language.proofs.Meaning.Weights.{password-weight}
@@ -32,6 +31,7 @@ use Rattle.running.specs.declared.Layout.{Layout}
 use Rattle.running.specs.Sessions.{Slices, Running}
 use Rattle.running.specs.Endings.{Succeeds}
 use Rattle.running.proofs.Steps.{is-denied, is-failed, is-full, is-done, after-ready}
+use Rattle.running.proofs.PeopleText.{people-text}
 use Rattle.principals.specs.Creating.{withPeople}
 use Rattle.principals.proofs.Denials.{strangers-denied, they-may}
 use Rattle.principals.proofs.Finding.{is-missing, is-there}
@@ -106,5 +106,5 @@ module _ (s : Session) (l : Layout) (b : Slices) (R : Running s l b) (p : Name) 
           below = h;
           apart = R .ready .is-good .store-shape .principals-distinct;
           number = n-is;
-          fits = omega (arith, light, R .sized .people-size, principals-bound (map (changed p t) (s .store .principals)) (G .principals-valid));
+          fits = omega (arith, light, R .sized .people-size, people-text (map (changed p t) (s .store .principals)) (G .order) (G .principals-valid) (G .principals-distinct));
         }

@@ -14,7 +14,7 @@ ghost use Rattle.principals.specs.Creating.{withPeople, New, SomeNew, de
 // Adds a principal that is not there. Its name weighs its length, since admin and anyone are there.
 pub fn add(
     people: &mut [u8],
-    people_marks: &mut [u64],
+    people_marks: &mut [u32],
     l: Layout,
     name: &[u8],
     password: &[u8],
@@ -40,13 +40,13 @@ pub fn add(
 // Delegates a right on all variables on which principal q has delegate to principal p.
 fn delegate_all(
     people: &[u8],
-    people_marks: &[u64],
+    people_marks: &[u32],
     vars: &[u8],
-    var_marks: &[u64],
+    var_marks: &[u32],
     locals: &[u8],
-    local_marks: &[u64],
+    local_marks: &[u32],
     standing: &mut [u64],
-    targets: &mut [u64],
+    targets: &mut [u32],
     l: Layout,
     q: usize,
     right: u16,
@@ -82,13 +82,13 @@ fn delegate_all(
 // The same for each of the four rights in turn.
 pub fn delegate_rights(
     people: &[u8],
-    people_marks: &[u64],
+    people_marks: &[u32],
     vars: &[u8],
-    var_marks: &[u64],
+    var_marks: &[u32],
     locals: &[u8],
-    local_marks: &[u64],
+    local_marks: &[u32],
     standing: &mut [u64],
-    targets: &mut [u64],
+    targets: &mut [u32],
     l: Layout,
     q: usize,
     p: usize,

@@ -1,10 +1,11 @@
 // The commands about principals on a running session: their creation, passwords, the default delegator; and exit.
 mod create; // a principal added, and what is delegated to it
-mod number; // the numbers of principals, and what their passwords weigh
+mod number; // what passwords weigh
 
 use delegations::Entered;
 use running::Layout;
 use running::Verdict;
+use store::name::number_of;
 use text::Span;
 ghost use mathlib.Core.Path.{_≡_};
 ghost use Prim.Native.Nat.{_≤_};
@@ -22,11 +23,11 @@ ghost use Rattle.running.specs.Endings.{Ended};
 // Exit, which admin alone may send, closes the server.
 pub fn exit(
     people: &[u8],
-    people_marks: &[u64],
+    people_marks: &[u32],
     vars: &[u8],
-    var_marks: &[u64],
+    var_marks: &[u32],
     locals: &[u8],
-    local_marks: &[u64],
+    local_marks: &[u32],
     standing: &[u64],
     l: Layout,
 ) -> Verdict
@@ -45,11 +46,11 @@ pub fn exit(
 // New principals get their rights from the default delegator, whom admin alone may name.
 pub fn default_delegator(
     people: &[u8],
-    people_marks: &[u64],
+    people_marks: &[u32],
     vars: &[u8],
-    var_marks: &[u64],
+    var_marks: &[u32],
     locals: &[u8],
-    local_marks: &[u64],
+    local_marks: &[u32],
     standing: &[u64],
     l: Layout,
     text: &[u8],
@@ -68,7 +69,7 @@ pub fn default_delegator(
     let b = p.end;
     let len = l.people_len;
     let count = l.people;
-    let n = number::of(people, len, people_marks, count, &text[a..b]);
+    let n = number_of(people, people_marks, len, count, &text[a..b]);
     if n == count {
         return Verdict::Failed;
     }
@@ -80,13 +81,12 @@ pub fn default_delegator(
 // Another password: admin may set anybody's, the others their own.
 pub fn change_password(
     people: &mut [u8],
-    people_marks: &mut [u64],
+    people_marks: &mut [u32],
     vars: &[u8],
-    var_marks: &[u64],
+    var_marks: &[u32],
     locals: &[u8],
-    local_marks: &[u64],
+    local_marks: &[u32],
     standing: &[u64],
-    spare: &mut [u8],
     l: Layout,
     text: &[u8],
     p: Span,
@@ -94,7 +94,6 @@ pub fn change_password(
 ) -> Verdict
     requires { ⌜ SomeRunning l (slices (now people) (now «people_marks») (now vars) (now «var_marks») (now locals) (now «local_marks») (now standing)) ⌝ }
     requires { ⌜ Within (now text) p × Within (now text) password × T (validCommand (change-password (part (now text) p) (part (now text) password))) × (length (now text) ≤ longest) ⌝ }
-    requires { ⌜ length (now spare) ≡ 45056 ⌝ }
     ensures { λ r. ⌜ ((s : Session) → Running s l (slices (now (people .entry)) (now («people_marks» .entry)) (now (vars .entry)) (now («var_marks» .entry)) (now (locals .entry)) (now («local_marks» .entry)) (now (standing .entry)))
         → Ended r (step s (change-password (part (now (text .entry)) p) (part (now (text .entry)) password))) (slices (now (people .exit)) (now («people_marks» .exit)) (now (vars .entry)) (now («var_marks» .entry)) (now (locals .entry)) (now («local_marks» .entry)) (now (standing .entry)))) ⌝ }
 {
@@ -103,7 +102,7 @@ pub fn change_password(
     let len = l.people_len;
     let count = l.people;
     let sender = l.sender;
-    let n = number::of(people, len, people_marks, count, &text[a..b]);
+    let n = number_of(people, people_marks, len, count, &text[a..b]);
     if sender != 0 {
         if sender != n {
             return Verdict::Denied;
@@ -119,15 +118,7 @@ pub fn change_password(
     if 8192 < weight {
         return Verdict::Full;
     }
-    let new = edits::change::set_password(
-        people,
-        spare,
-        len,
-        people_marks,
-        count,
-        n,
-        &text[from..to],
-    );
+    let new = edits::change::set_password(people, len, people_marks, count, n, &text[from..to]);
     let mut k = l;
     k.people_len = new;
     k.weight = weight;
@@ -137,13 +128,13 @@ pub fn change_password(
 // A new principal, whom admin alone may create. The default delegator delegates to it what it may.
 pub fn create_principal(
     people: &mut [u8],
-    people_marks: &mut [u64],
+    people_marks: &mut [u32],
     vars: &[u8],
-    var_marks: &[u64],
+    var_marks: &[u32],
     locals: &[u8],
-    local_marks: &[u64],
+    local_marks: &[u32],
     standing: &mut [u64],
-    targets: &mut [u64],
+    targets: &mut [u32],
     l: Layout,
     text: &[u8],
     p: Span,
@@ -163,7 +154,7 @@ pub fn create_principal(
     let b = p.end;
     let len = l.people_len;
     let count = l.people;
-    let n = number::of(people, len, people_marks, count, &text[a..b]);
+    let n = number_of(people, people_marks, len, count, &text[a..b]);
     if n != count {
         return Verdict::Failed;
     }

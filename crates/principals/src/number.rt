@@ -1,40 +1,21 @@
-// Principals by number, in a text that is the first `len` bytes of a buffer: the place of a name among the principals, and what is kept at a place.
+// Principals by number, in a text that is the first `len` bytes of a buffer.
 use store::content::Password;
 use store::content::password_of;
-use store::mark::Found;
-use store::mark::find;
 ghost use mathlib.Core.Path.{_≡_};
-ghost use mathlib.Core.List.{List, map};
+ghost use mathlib.Core.List.{List};
 ghost use Prim.Native.Nat.{_≤_, _<_};
 ghost use lib.ListN.{length, take};
 ghost use Rattle.language.specs.State.{Principal};
 ghost use Rattle.language.specs.Weight.{passwordWeight};
 ghost use Rattle.store.specs.Held.{Principals};
-ghost use Rattle.store.specs.Rows.{position};
 ghost use Rattle.store.specs.Contents.{principalAt};
 ghost use Rattle.principals.specs.Known.{SomePrincipals};
-
-// The number of a principal; of a name that is none's, how many there are.
-pub fn of(people: &[u8], len: usize, marks: &[u64], count: usize, name: &[u8]) -> usize
-    requires { ⌜ (len ≤ length (now people)) × SomePrincipals (take len (now people)) count (now marks) ⌝ }
-    ensures { λ r. ⌜ ((ks : List Principal) → Principals ks (take len (now (people .entry))) count (now (marks .entry)) → r ≡ position (map (λ k. k .name) ks) (now (name .entry))) ⌝ }
-{
-    let found = find(&people[..len], marks, count, name);
-    match found {
-        Found::At {
-            number,
-            start: _,
-            end: _,
-        } => number,
-        Found::Missing => count,
-    }
-}
 
 // What a principal's password weighs: its length, or nothing where there is none.
 pub fn password_weight(
     people: &[u8],
     len: usize,
-    marks: &[u64],
+    marks: &[u32],
     count: usize,
     number: usize,
 ) -> usize

@@ -6,8 +6,8 @@ use mathlib.Core.Bool.{true, _&&_}
 use mathlib.Core.Option.{Option}
 use mathlib.Core.List.{List, [], _∷_, _++_}
 use lib.Dec.{T}
-use lib.ListN.{length, take}
-use lib.Seq.{length-take-le, take-take}
+use lib.ListN.{length, take, drop}
+use lib.Seq.{length-take-le, take-take, take-at}
 use Rattle.language.specs.Text.{Text}
 use Rattle.language.specs.Syntax.{Expr}
 use Rattle.language.specs.Identifiers.{isName}
@@ -21,6 +21,7 @@ use Rattle.text.specs.declared.Span.{Span}
 use Rattle.text.specs.Meaning.{part}
 use Rattle.syntax.specs.declared.value.Expr as Read
 use Rattle.store.specs.Held.{Variables}
+use Rattle.edits.specs.Splices.{over}
 use Rattle.edits.proofs.Adding.{variables-front}
 use Rattle.evaluate.specs.Scopes.{Scope}
 use Rattle.evaluate.proofs.LastLocal.{withLast, replaced-last}
@@ -65,3 +66,30 @@ module _ {s : Session} {x : Expr} {shared : Text} {marks : List ℕ} {count : �
   -- what is evaluated in that session is what takes the element's place
   pub made-of : (r : Made) (out : Text) → MadeOf single r (elementIn (value (withLast s (part text y) a) x)) out → MadeOf single r (replaced s (part text y) x a) out
   made-of r out h = subst (λ (o : Option Element). MadeOf single r o out) (replaced-last s (part text y) x a (I .is-new)) h
+
+-- ---- the same locals in another buffer
+
+module _ {s : Session} {x : Expr} {shared : Text} {marks : List ℕ} {count : ℕ} {locals : Text} {len : ℕ} {lmarks : List ℕ} {lcount : ℕ} {text : Text} {y : Span} {e : Read.Expr} where
+  pub elsewhere : Turning s x shared marks count locals len lmarks lcount text y e → (t : Text) → take len t ≡ take len locals → Turning s x shared marks count t len lmarks lcount text y e
+  elsewhere I t q = record {
+    scope = subst (λ (u : Text). Scope s shared marks count u lmarks lcount) (sym q) (I .scope);
+    is-light = I .is-light;
+    is-new = I .is-new;
+    meant = I .meant;
+  }
+
+  -- and back in their own, with the marks that they have then
+  pub brought-back : Turning s x shared marks count locals len lmarks lcount text y e → (t : Text) (amarks : List ℕ) → Turning s x shared marks count t len amarks lcount text y e
+      → Turning s x shared marks count locals len amarks lcount text y e
+  brought-back I t amarks J = record {
+    scope =
+        subst (λ (u : Text). Scope s shared marks count u amarks lcount) (J .scope .locals-held .is-text ∙ sym (I .scope .locals-held .is-text)) (J .scope);
+    is-light = I .is-light;
+    is-new = I .is-new;
+    meant = I .meant;
+  }
+
+-- a text that was copied to the front of a buffer
+pub copied-front : (d t : Text) (len : ℕ) → len ≤ length t → (after : Text) → after ≡ over d 0 (take len t) → take len after ≡ take len t
+copied-front d t len h after q =
+    ap (take len) q ∙ take-at (take len t) (drop (0 + length (take len t)) d) len (length-take-le len t h)

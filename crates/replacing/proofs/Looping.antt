@@ -78,16 +78,15 @@ module _ (f : Element → Option Element) (es : List Element) (t : Text) (at : �
 -- what a turn leaves is ready for the next
 pub still : {shared : Text} {marks : List ℕ} {count : ℕ} {locals : Text} {len : ℕ} {lmarks : List ℕ} {lcount : ℕ} {text : Text} {y : Span} {e : Read.Expr}
     (P : SomeTurning shared marks count locals len lmarks lcount text y e) (after : Text) (amarks : List ℕ)
-    → Turning (P .session) (P .says .expression) shared marks count after len amarks lcount text y e → length after ≡ length locals → length amarks ≡ length lmarks
+    → Turning (P .session) (P .says .expression) shared marks count after len amarks lcount text y e → length amarks ≡ length lmarks
     → SomeTurning shared marks count after len amarks lcount text y e
-still P after amarks I p q = record {
+still P after amarks I q = record {
   session = P .session;
   says = P .says;
   turning = I;
   text-short = P .text-short;
   y-within = P .y-within;
   y-named = P .y-named;
-  locals-size = p ∙ P .locals-size;
   locals-short = P .locals-short;
   marks-room = omega (arith, P .marks-room, q);
 }

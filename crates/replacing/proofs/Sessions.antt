@@ -47,16 +47,15 @@ module _ (s : Session) (l : Layout) (b : Slices) (R : Running s l b) (text : Tex
     text-short = k;
     y-within = w;
     y-named = n;
-    locals-size = R .sized .locals-size;
     locals-short = omega (arith, variables-short s l b R, R .light);
     marks-room = omega (arith, records-few s l b R, people-some s l b R, R .light, R .sized .local-marks-size);
   }
 
--- the same session, whose locals' buffer is changed where it holds nothing
-pub running-again : (s : Session) (u : Expr) (l : Layout) (b : Slices) → Running s l b → (t : Text) (marks : List ℕ) (text : Text) (y : Span) (e : Read.Expr)
-    → length t ≡ length (b .locals) → length marks ≡ length (b .local-marks)
-    → Turning s u (take (l .«vars_len») (b .vars)) (b .var-marks) (l .vars) t (l .«locals_len») marks (l .locals) text y e
-    → Running s l (slices (b .people) (b .people-marks) (b .vars) (b .var-marks) t marks (b .standing))
-running-again s u l b R t marks text y e p q I =
-    other-locals s l b R (s .locals) t marks (l .«locals_len») (l .locals) (l .weight) (p ∙ R .sized .locals-size) (q ∙ R .sized .local-marks-size) (I .scope .locals-held)
-    (omega (arith, R .locals-within, p)) (R .ready .is-good .locals-valid) (R .weighed) (R .light)
+-- the same session, whose locals' marks are changed where they mark nothing
+pub running-again : (s : Session) (u : Expr) (l : Layout) (b : Slices) → Running s l b → (marks : List ℕ) (text : Text) (y : Span) (e : Read.Expr)
+    → length marks ≡ length (b .local-marks)
+    → Turning s u (take (l .«vars_len») (b .vars)) (b .var-marks) (l .vars) (b .locals) (l .«locals_len») marks (l .locals) text y e
+    → Running s l (slices (b .people) (b .people-marks) (b .vars) (b .var-marks) (b .locals) marks (b .standing))
+running-again s u l b R marks text y e q I =
+    other-locals s l b R (s .locals) (b .locals) marks (l .«locals_len») (l .locals) (l .weight) (R .sized .locals-size) (q ∙ R .sized .local-marks-size) (I .scope .locals-held)
+    (R .locals-within) (R .ready .is-good .locals-valid) (R .weighed) (R .light)

@@ -76,8 +76,6 @@ pub record SomeForeach (t : Text) (y x : Span) (e : Read.Expr) : Type 0 where
   pub short : length t ≤ longest
 
 -- the buffers in which it works are large enough
-pub record Workspace (value spare elements : Text) (labels : List ℕ) : Type 0 where
+pub record Workspace (value : Text) (labels : List ℕ) : Type 0 where
   pub value-size : length value ≡ 45056
-  pub spare-size : 32768 ≤ length spare
-  pub elements-size : 32768 ≤ length elements
   pub labels-size : 4096 ≤ length labels

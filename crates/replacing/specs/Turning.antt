@@ -22,6 +22,10 @@ use Rattle.evaluate.specs.declared.result.Evaluated.{Evaluated}
 use Rattle.evaluate.specs.Scopes.{Scope}
 use Rattle.evaluate.specs.Results.{SomeExpr, Valued}
 
+-- room for the locals of any session, and for one more, whose value is one element: 32,768 bytes, 258 for its name, and 24,579
+abbrev pub scopeSize : ℕ
+scopeSize = 57605
+
 -- the texts hold the session s, whose locals stand in the first len bytes of their buffer; y is no local, and e says x
 pub record Turning (s : Session) (x : Expr) (shared : Text) (marks : List ℕ) (count : ℕ) (locals : Text) (len : ℕ) (lmarks : List ℕ) (lcount : ℕ) (text : Text) (y : Span) (e : Read.Expr)
     : Type 0 where
@@ -30,7 +34,7 @@ pub record Turning (s : Session) (x : Expr) (shared : Text) (marks : List ℕ) (
   pub is-new : valueIn (s .locals) (part text y) ≡ none
   pub meant : exprMeant text e ≡ some x
 
--- some session, with room for one local more, which y names
+-- some session, which may have one local more, of the name y
 pub record SomeTurning (shared : Text) (marks : List ℕ) (count : ℕ) (locals : Text) (len : ℕ) (lmarks : List ℕ) (lcount : ℕ) (text : Text) (y : Span) (e : Read.Expr) : Type 0 where
   pub session : Session
   pub says : SomeExpr text e
@@ -38,7 +42,6 @@ pub record SomeTurning (shared : Text) (marks : List ℕ) (count : ℕ) (locals 
   pub text-short : length text ≤ longest
   pub y-within : Within text y
   pub y-named : T (isName (part text y))
-  pub locals-size : length locals ≡ 65536
   pub locals-short : len ≤ 32768
   pub marks-room : lcount < length lmarks
 

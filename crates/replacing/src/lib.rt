@@ -23,19 +23,18 @@ ghost use Rattle.running.specs.Sessions.{slices, Running, SomeRunning};
 ghost use Rattle.running.specs.Endings.{Ended};
 ghost use Rattle.replacing.specs.Sources.{source as sourceOf, Copied, SomeSource, SomeForeach, Workspace};
 
-// Replaces the elements of the list in the first `n` bytes of `elements`, and puts the new one in its place.
+// Replaces the elements of the list in the first `n` bytes of `elements`, and puts the new list in its place.
 fn replace(
     people: &[u8],
-    people_marks: &[u64],
+    people_marks: &[u32],
     vars: &mut [u8],
-    var_marks: &mut [u64],
+    var_marks: &mut [u32],
     locals: &mut [u8],
-    local_marks: &mut [u64],
+    local_marks: &mut [u32],
     standing: &mut [u64],
     value: &mut [u8],
-    spare: &mut [u8],
     elements: &[u8],
-    labels: &mut [u64],
+    labels: &mut [u32],
     l: Layout,
     text: &[u8],
     y: Span,
@@ -44,7 +43,7 @@ fn replace(
     n: usize,
 ) -> Verdict
     requires { ⌜ SomeSource l (slices (now people) (now «people_marks») (now vars) (now «var_marks») (now locals) (now «local_marks») (now standing)) (part (now text) y) (part (now text) x) (now elements) n ⌝ }
-    requires { ⌜ SomeForeach (now text) y x e × Workspace (now value) (now spare) (now elements) (now labels) ⌝ }
+    requires { ⌜ SomeForeach (now text) y x e × Workspace (now value) (now labels) ⌝ }
     ensures { λ r. ⌜ ((s : Session) (u : Syntax.Expr)
         → Running s l (slices (now (people .entry)) (now («people_marks» .entry)) (now (vars .entry)) (now («var_marks» .entry)) (now (locals .entry)) (now («local_marks» .entry)) (now (standing .entry)))
         → exprMeant (now (text .entry)) e ≡ some u → denied s (Syntax.foreach (part (now (text .entry)) y) (part (now (text .entry)) x) u) ≡ false
@@ -52,8 +51,9 @@ fn replace(
         → Ended r (step s (Syntax.foreach (part (now (text .entry)) y) (part (now (text .entry)) x) u))
         (slices (now (people .entry)) (now («people_marks» .entry)) (now (vars .exit)) (now («var_marks» .exit)) (now (locals .exit)) (now («local_marks» .exit)) (now (standing .exit)))) ⌝ }
 {
+    let mut new = [0u8; 32768];
     let vars_len = l.vars_len;
-    let made = list::replace_all(
+    let made = list::replace_aside(
         &vars[..vars_len],
         var_marks,
         l.vars,
@@ -66,7 +66,7 @@ fn replace(
         e,
         &elements[..n],
         value,
-        spare,
+        &mut new,
         labels,
     );
     let Made::Done(d) = made else {
@@ -87,10 +87,9 @@ fn replace(
         locals,
         local_marks,
         standing,
-        value,
         l,
         &text[a..b],
-        &spare[..len],
+        &new[..len],
         weight,
     );
     let Assigned::Done(k) = put else {
@@ -99,19 +98,17 @@ fn replace(
     Verdict::Done(k)
 }
 
-// `foreach y in x replacewith e`. `value`, `spare`, `elements` and `labels` are room to work in.
+// `foreach y in x replacewith e`. `value` and `labels` are room to work in; the list that it goes through is copied before it is replaced.
 pub fn foreach(
     people: &[u8],
-    people_marks: &[u64],
+    people_marks: &[u32],
     vars: &mut [u8],
-    var_marks: &mut [u64],
+    var_marks: &mut [u32],
     locals: &mut [u8],
-    local_marks: &mut [u64],
+    local_marks: &mut [u32],
     standing: &mut [u64],
     value: &mut [u8],
-    spare: &mut [u8],
-    elements: &mut [u8],
-    labels: &mut [u64],
+    labels: &mut [u32],
     l: Layout,
     text: &[u8],
     y: Span,
@@ -119,13 +116,14 @@ pub fn foreach(
     e: Expr,
 ) -> Verdict
     requires { ⌜ SomeRunning l (slices (now people) (now «people_marks») (now vars) (now «var_marks») (now locals) (now «local_marks») (now standing)) ⌝ }
-    requires { ⌜ SomeForeach (now text) y x e × Workspace (now value) (now spare) (now elements) (now labels) ⌝ }
+    requires { ⌜ SomeForeach (now text) y x e × Workspace (now value) (now labels) ⌝ }
     ensures { λ r. ⌜ ((s : Session) (u : Syntax.Expr)
         → Running s l (slices (now (people .entry)) (now («people_marks» .entry)) (now (vars .entry)) (now («var_marks» .entry)) (now (locals .entry)) (now («local_marks» .entry)) (now (standing .entry)))
         → exprMeant (now (text .entry)) e ≡ some u
         → Ended r (step s (Syntax.foreach (part (now (text .entry)) y) (part (now (text .entry)) x) u))
         (slices (now (people .entry)) (now («people_marks» .entry)) (now (vars .exit)) (now («var_marks» .exit)) (now (locals .exit)) (now («local_marks» .exit)) (now (standing .exit)))) ⌝ }
 {
+    let mut elements = [0u8; 32768];
     let p = source::prepare(
         people,
         people_marks,
@@ -134,7 +132,7 @@ pub fn foreach(
         locals,
         local_marks,
         standing,
-        elements,
+        &mut elements,
         l,
         text,
         y,
@@ -153,8 +151,7 @@ pub fn foreach(
             local_marks,
             standing,
             value,
-            spare,
-            elements,
+            &elements,
             labels,
             l,
             text,

@@ -18,7 +18,7 @@ ghost use Rattle.text.specs.Meaning.{part};
 ghost use Rattle.values.specs.Encoding.{Holds, ListText};
 ghost use Rattle.evaluate.specs.Drafts.{Lent};
 ghost use Rattle.replacing.specs.Drafts.{Drafted, SomeList, SomeSingle, MadeOf};
-ghost use Rattle.replacing.specs.Turning.{Turning, SomeTurning};
+ghost use Rattle.replacing.specs.Turning.{scopeSize, Turning, SomeTurning};
 
 // A list without elements.
 fn start(out: &mut [u8]) -> Draft
@@ -48,13 +48,13 @@ fn put_element(out: &mut [u8], d: Draft, value: &[u8], one: Draft) -> Draft
 }
 
 // Replaces the elements of the list one after the other; the new list is written from the start of `out` on.
-pub fn replace_all(
+fn replace_all(
     shared: &[u8],
-    marks: &[u64],
+    marks: &[u32],
     count: usize,
     locals: &mut [u8],
     len: usize,
-    lmarks: &mut [u64],
+    lmarks: &mut [u32],
     lcount: usize,
     text: &[u8],
     y: Span,
@@ -62,10 +62,10 @@ pub fn replace_all(
     elements: &[u8],
     value: &mut [u8],
     out: &mut [u8],
-    labels: &mut [u64],
+    labels: &mut [u32],
 ) -> Made
     requires { ⌜ SomeTurning (now shared) (now marks) count (now locals) len (now lmarks) lcount (now text) y e ⌝ }
-    requires { ⌜ ListText (now elements) × (length (now elements) ≤ 24579) ⌝ }
+    requires { ⌜ ListText (now elements) × (length (now elements) ≤ 24579) × (length (now locals) ≡ scopeSize) ⌝ }
     requires { ⌜ Lent (now value) (now labels) × (32768 ≤ length (now out)) ⌝ }
     ensures meant { λ r. ⌜ ((s : Session) (x : Syntax.Expr) (es : List Element)
         → Turning s x (now (shared .entry)) (now (marks .entry)) count (now (locals .entry)) len (now (lmarks .entry)) lcount (now (text .entry)) y e
@@ -104,4 +104,52 @@ pub fn replace_all(
         d = put_element(out, d, value, one);
         at = b;
     }
+}
+
+// Replaces them over a copy of the locals, which has room for y; the locals stay as they are, and of their marks only what follows is
+// changed.
+pub fn replace_aside(
+    shared: &[u8],
+    marks: &[u32],
+    count: usize,
+    locals: &[u8],
+    len: usize,
+    lmarks: &mut [u32],
+    lcount: usize,
+    text: &[u8],
+    y: Span,
+    e: Expr,
+    elements: &[u8],
+    value: &mut [u8],
+    out: &mut [u8],
+    labels: &mut [u32],
+) -> Made
+    requires { ⌜ SomeTurning (now shared) (now marks) count (now locals) len (now lmarks) lcount (now text) y e ⌝ }
+    requires { ⌜ ListText (now elements) × (length (now elements) ≤ 24579) × (len ≤ length (now locals)) ⌝ }
+    requires { ⌜ Lent (now value) (now labels) × (32768 ≤ length (now out)) ⌝ }
+    ensures meant { λ r. ⌜ ((s : Session) (x : Syntax.Expr) (es : List Element)
+        → Turning s x (now (shared .entry)) (now (marks .entry)) count (now (locals .entry)) len (now (lmarks .entry)) lcount (now (text .entry)) y e
+        → Holds (list es) (now (elements .entry)) → MadeOf list r (each (replaced s (part (now (text .entry)) y) x) es) (now (out .exit))) ⌝ }
+    ensures kept { λ r. ⌜ ((s : Session) (x : Syntax.Expr)
+        → Turning s x (now (shared .entry)) (now (marks .entry)) count (now (locals .entry)) len (now (lmarks .entry)) lcount (now (text .entry)) y e
+        → Turning s x (now (shared .entry)) (now (marks .entry)) count (now (locals .entry)) len (now (lmarks .exit)) lcount (now (text .entry)) y e) ⌝ }
+{
+    let mut scope = [0u8; 57605];
+    edits::splice::copy(&mut scope, 0, &locals[..len]);
+    replace_all(
+        shared,
+        marks,
+        count,
+        &mut scope,
+        len,
+        lmarks,
+        lcount,
+        text,
+        y,
+        e,
+        elements,
+        value,
+        out,
+        labels,
+    )
 }

@@ -34,7 +34,7 @@ pub enum Prepared {
 // Whether the sender may read and write what a name stands for.
 fn may_replace(
     shared: &[u8],
-    marks: &[u64],
+    marks: &[u32],
     count: usize,
     standing: &[u64],
     n: usize,
@@ -55,10 +55,10 @@ fn may_replace(
 // Copies the value of x, where that is a list and y is undefined.
 fn copy_list<'a>(
     shared: &'a [u8],
-    marks: &[u64],
+    marks: &[u32],
     count: usize,
     locals: &'a [u8],
-    lmarks: &[u64],
+    lmarks: &[u32],
     lcount: usize,
     text: &[u8],
     y: Span,
@@ -92,11 +92,11 @@ fn copy_list<'a>(
 // Whether the sender may send it, and what list there is to go through. Only where it has an element is the expression evaluated.
 pub fn prepare<'a>(
     people: &[u8],
-    people_marks: &[u64],
+    people_marks: &[u32],
     vars: &'a [u8],
-    var_marks: &[u64],
+    var_marks: &[u32],
     locals: &'a [u8],
-    local_marks: &[u64],
+    local_marks: &[u32],
     standing: &[u64],
     out: &mut [u8],
     l: Layout,

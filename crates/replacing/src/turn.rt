@@ -21,7 +21,7 @@ ghost use Rattle.evaluate.specs.Scopes.{Scope};
 ghost use Rattle.evaluate.specs.Results.{Valued};
 ghost use Rattle.evaluate.specs.Drafts.{Lent};
 ghost use Rattle.replacing.specs.Drafts.{MadeOf};
-ghost use Rattle.replacing.specs.Turning.{Turning, SomeTurning, SomeElement, LightList, SomeAnswer, elementIn};
+ghost use Rattle.replacing.specs.Turning.{scopeSize, Turning, SomeTurning, SomeElement, LightList, SomeAnswer, elementIn};
 
 // Whether a value is a list.
 pub fn is_list(value: &[u8]) -> bool
@@ -59,21 +59,21 @@ fn settled(out: &[u8], r: Evaluated) -> Made
 // Evaluates the expression with y, last among the locals, for the element. Of the locals' text and marks only what follows is changed.
 pub fn turn<'a>(
     shared: &'a [u8],
-    marks: &[u64],
+    marks: &[u32],
     count: usize,
     locals: &mut [u8],
     len: usize,
-    lmarks: &mut [u64],
+    lmarks: &mut [u32],
     lcount: usize,
     text: &[u8],
     y: Span,
     e: Expr,
     element: &[u8],
     out: &mut [u8],
-    labels: &mut [u64],
+    labels: &mut [u32],
 ) -> Made
     requires { ⌜ SomeTurning (now shared) (now marks) count (now locals) len (now lmarks) lcount (now text) y e ⌝ }
-    requires { ⌜ SomeElement (now element) × (length (now element) ≤ 24579) ⌝ }
+    requires { ⌜ SomeElement (now element) × (length (now element) ≤ 24579) × (length (now locals) ≡ scopeSize) ⌝ }
     requires { ⌜ Lent (now out) (now labels) ⌝ }
     ensures meant { λ r. ⌜ ((s : Session) (x : Syntax.Expr) (a : Element)
         → Turning s x (now (shared .entry)) (now (marks .entry)) count (now (locals .entry)) len (now (lmarks .entry)) lcount (now (text .entry)) y e

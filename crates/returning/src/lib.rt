@@ -38,14 +38,14 @@ fn answered(r: Evaluated) -> Returned
 // Writes the value of the expression that the program's text says at the places e, from the start of `value` on, where it may be returned.
 pub fn value<'a>(
     people: &[u8],
-    people_marks: &[u64],
+    people_marks: &[u32],
     vars: &'a [u8],
-    var_marks: &[u64],
+    var_marks: &[u32],
     locals: &'a [u8],
-    local_marks: &[u64],
+    local_marks: &[u32],
     standing: &[u64],
     value: &mut [u8],
-    labels: &mut [u64],
+    labels: &mut [u32],
     l: Layout,
     text: &[u8],
     e: Expr,

@@ -61,7 +61,7 @@ same-numbers s vs n standing e S = record {
 }
 
 module _ (s : Session) (l : Layout) (b : Slices) (R : Running s l b) where
-  pub other-locals : (vs : List Variable) (t : Text) (marks : List ℕ) (n count w : ℕ) → length t ≡ 65536 → length marks ≡ 4096 → Variables vs (take n t) count marks → n ≤ length t
+  pub other-locals : (vs : List Variable) (t : Text) (marks : List ℕ) (n count w : ℕ) → length t ≡ 32768 → length marks ≡ 4096 → Variables vs (take n t) count marks → n ≤ length t
       → T (all holding vs) → w ≡ sessionWeight (withLocals s vs) → w ≤ limit
       → Running (withLocals s vs) (withOtherLocals l n count w) (slices (b .people) (b .people-marks) (b .vars) (b .var-marks) t marks (b .standing))
   other-locals vs t marks n count w size marks-size held within h weighs light = record {

@@ -14,13 +14,14 @@ use Rattle.language.specs.Encode.{principalsText, variablesText}
 use Rattle.language.specs.Valid.{validVariable, validPrincipal, validPassword, validValue, validOrder}
 use Rattle.language.specs.Values.{Session}
 use Rattle.language.proofs.Logic.Tests.{both, three}
-use Rattle.language.proofs.StateText.Bound.{principals-bound, variables-bound}
+use Rattle.language.proofs.StateText.Bound.{variables-bound}
 use Rattle.language.proofs.StateText.Clean.{name-length}
 use Rattle.language.proofs.StateText.Shape.{Shape, spelled, assertions-spelled}
 use Rattle.numbers.proofs.Few.{at-least, name-weighs}
 use Rattle.running.specs.declared.Layout.{Layout}
 use Rattle.running.specs.Sessions.{Slices, Running}
 use Rattle.running.proofs.Scoping.{locals-valid}
+use Rattle.running.proofs.PeopleText.{people-text}
 
 pub variables-two : (vs : List Variable) → T (all validVariable vs) → 2 * length vs ≤ sum variableWeight vs
 variables-two = at-least 2 validVariable variableWeight (λ w h. omega (arith, name-length (w .name) (both (isName (w .name)) (validValue (w .value)) h .0) .0))
@@ -51,8 +52,8 @@ module _ (s : Session) (l : Layout) (b : Slices) (R : Running s l b) where
   locals-is = sym (length-take-le (l .«locals_len») (b .locals) (R .locals-within)) ∙ ap length (R .local-variables .is-text)
 
   -- the texts
-  pub people-short : l .«people_len» ≤ 5 * l .weight
-  people-short = omega (arith, weighs, people-is, principals-bound (s .store .principals) (shaped .principals-valid))
+  pub people-short : 2 * l .«people_len» ≤ 5 * l .weight + 18
+  people-short = omega (arith, weighs, people-is, people-text (s .store .principals) (shaped .order) (shaped .principals-valid) (shaped .principals-distinct))
 
   pub variables-short : l .«vars_len» + l .«locals_len» ≤ 4 * l .weight
   variables-short =

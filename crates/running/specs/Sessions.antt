@@ -36,11 +36,11 @@ slices people people-marks vars var-marks locals local-marks standing = record {
 
 -- how large they are: enough for every session that is not too heavy
 pub record Sized (b : Slices) : Type 0 where
-  pub people-size : length (b .people) ≡ 45056
+  pub people-size : length (b .people) ≡ 20992
   pub people-marks-size : length (b .people-marks) ≡ 4096
   pub vars-size : length (b .vars) ≡ 65536
   pub var-marks-size : length (b .var-marks) ≡ 4096
-  pub locals-size : length (b .locals) ≡ 65536
+  pub locals-size : length (b .locals) ≡ 32768
   pub local-marks-size : length (b .local-marks) ≡ 4096
   pub standing-size : length (b .standing) ≡ 2048
 

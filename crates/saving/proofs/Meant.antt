@@ -1,7 +1,7 @@
 -- What a number stands for: the name of the record at that place, and the parts of an assertion.
 -- Assumes nothing.
 use mathlib.Core.Path.{_≡_, sym, ap, _∙_}
-use Prim.Native.Nat.{ℕ, _+_, _/_, _%_, _^_, _<_}
+use Prim.Native.Nat.{ℕ, _/_, _%_, _^_, _<_}
 use native.Mathlib.Omega.{arith}
 use mathlib.Core.List.{List, [], map}
 use lib.Dec.{T}
@@ -11,10 +11,8 @@ use Rattle.language.specs.Syntax.{Name}
 use Rattle.language.specs.State.{Principal, Variable, Assertion, Store, named, valueIn}
 use Rattle.language.proofs.Logic.Tests.{three}
 use Rattle.language.proofs.StateText.Names.{named-is, valued-is}
-use Rattle.store.specs.Held.{Principals, Variables, part}
-use Rattle.store.specs.Rows.{Row, Rows, rowAt, rowNames, noRow, position, principalRow, variableRow, Placed}
-use Rattle.store.specs.declared.mark.Place.{Place}
-use Rattle.store.proofs.Records.{name-part}
+use Rattle.store.specs.Held.{Principals, Variables}
+use Rattle.store.specs.Rows.{Row, Rows, rowAt, rowNames, noRow, position, principalRow, variableRow}
 use Rattle.store.proofs.Holders.{principals-rows, variables-rows}
 use Rattle.store.proofs.Answers.{principal-names, variable-names}
 use Rattle.rights.specs.Packed.{fields}
@@ -26,12 +24,6 @@ use Rattle.running.specs.declared.Layout.{Layout}
 use Rattle.saving.specs.Stores.{Named, Claims}
 
 -- ---- the name of a record
-
--- the part of the text that a place says is the row's name
-pub name-there : (rows : List Row) (t : Text) (count : ℕ) (marks : List ℕ) → Rows rows t count marks → (k : ℕ) → k < count → (p : Place) → Placed rows k p
-    → part t (p .start + 2) (p .mid) ≡ rowAt rows k .name
-name-there rows t count marks H k h p P =
-    ap (λ (n : ℕ). part t (n + 2) (p .mid)) (P .starts) ∙ name-part rows t count marks H k h (p .mid) (P .name-ends)
 
 -- the row at the place of a name has that name
 module _ (rows : List Row) (names : List Name) (same : rowNames rows ≡ names) (x : Name) (known : T (member x names)) (k : ℕ) (e : k ≡ position names x) where

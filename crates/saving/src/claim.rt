@@ -15,9 +15,9 @@ fn put_claim(
     out: &mut [u8],
     at: usize,
     people: &[u8],
-    people_marks: &[u64],
+    people_marks: &[u32],
     vars: &[u8],
-    var_marks: &[u64],
+    var_marks: &[u32],
     l: Layout,
     assertion: u64,
 ) -> usize
@@ -40,9 +40,9 @@ pub fn put_claims(
     out: &mut [u8],
     at: usize,
     people: &[u8],
-    people_marks: &[u64],
+    people_marks: &[u32],
     vars: &[u8],
-    var_marks: &[u64],
+    var_marks: &[u32],
     standing: &[u64],
     l: Layout,
 ) -> usize

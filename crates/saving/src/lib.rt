@@ -8,8 +8,8 @@ use render::state::zero_rest;
 use running::Layout;
 use values::copy_in;
 ghost use mathlib.Core.Path.{_≡_};
-ghost use Prim.Native.Nat.{_≤_};
-ghost use lib.ListN.{length};
+ghost use Prim.Native.Nat.{_-_, _≤_};
+ghost use lib.ListN.{length, drop, replicate};
 ghost use Rattle.language.specs.State.{Store, lastCount};
 ghost use Rattle.language.specs.Encode.{stateText, padded};
 ghost use Rattle.language.specs.Values.{Session};
@@ -33,7 +33,7 @@ pub fn counted(count: u64) -> u64
 fn put_records(
     out: &mut [u8],
     people: &[u8],
-    people_marks: &[u64],
+    people_marks: &[u32],
     vars: &[u8],
     l: Layout,
     count: u32,
@@ -49,21 +49,23 @@ fn put_records(
     copy_in(out, c, vars)
 }
 
-// The whole state text, with the count in its first line, and zeros to the buffer's end. The locals are gone.
+// The whole state text, with the count in its first line, and zeros to the buffer's end. The locals are gone. From `used` on the buffer
+// holds zeros already, so that only what the old text leaves behind the new one is cleared.
 pub fn save(
     people: &[u8],
-    people_marks: &[u64],
+    people_marks: &[u32],
     vars: &[u8],
-    var_marks: &[u64],
+    var_marks: &[u32],
     locals: &[u8],
-    local_marks: &[u64],
+    local_marks: &[u32],
     standing: &[u64],
     l: Layout,
     count: u64,
     state: &mut [u8],
+    used: usize,
 )
     requires { ⌜ SomeRunning l (slices (now people) (now «people_marks») (now vars) (now «var_marks») (now locals) (now «local_marks») (now standing)) ⌝ }
-    requires { ⌜ (length (now state) ≡ 65536) × (count ≤ lastCount) ⌝ }
+    requires { ⌜ (length (now state) ≡ 65536) × (count ≤ lastCount) × (used ≤ 65536) × (drop used (now state) ≡ replicate (65536 - used) 0) ⌝ }
     ensures { λ _. ⌜ ((s : Session)
         → Running s l (slices (now (people .entry)) (now («people_marks» .entry)) (now (vars .entry)) (now («var_marks» .entry)) (now (locals .entry)) (now («local_marks» .entry)) (now (standing .entry)))
         → now (state .exit) ≡ padded (stateText (record { count = count; store = s .store }))) ⌝ }
@@ -83,5 +85,8 @@ pub fn save(
         standing,
         l,
     );
-    zero_rest(state, b);
+    if used <= b {
+        return;
+    }
+    zero_rest(&mut state[..used], b);
 }

@@ -9,7 +9,7 @@ ghost use Rattle.store.specs.Rows.{Row, Rows, SomeRows, rowAt};
 ghost use Rattle.numbers.specs.Numbers.{code};
 
 // The name of the record of a number.
-pub fn name_of<'a>(text: &'a [u8], marks: &[u64], count: usize, number: usize) -> &'a [u8]
+pub fn name_of<'a>(text: &'a [u8], marks: &[u32], count: usize, number: usize) -> &'a [u8]
     requires { ⌜ SomeRows (now text) count (now marks) × (number < count) ⌝ }
     ensures { λ r. ⌜ ((rows : List Row) → Rows rows (now (text .entry)) count (now (marks .entry)) → now r ≡ rowAt rows number .name) ⌝ }
 {

@@ -84,7 +84,8 @@ module _ (vs : List Variable) (t : Text) (count : ℕ) (marks : List ℕ) (H : V
 module _ (s : Session) (l : Layout) (b : Slices) (R : Running s l b) where
   pub locals-lie : Lies (s .locals) (b .locals) (l .«locals_len») (l .locals) (b .local-marks) (l .weight)
   locals-lie = record {
-    size = R .sized .locals-size;
+    room = omega (arith, R .sized .locals-size);
+    small = omega (arith, R .sized .locals-size);
     marks-size = R .sized .local-marks-size;
     held = R .local-variables;
     within = R .locals-within;
@@ -94,7 +95,8 @@ module _ (s : Session) (l : Layout) (b : Slices) (R : Running s l b) where
 
   pub shared-lie : (w : ℕ) → l .weight ≤ w → Lies (s .store .variables) (b .vars) (l .«vars_len») (l .vars) (b .var-marks) w
   shared-lie w h = record {
-    size = R .sized .vars-size;
+    room = omega (arith, R .sized .vars-size);
+    small = omega (arith, R .sized .vars-size);
     marks-size = R .sized .var-marks-size;
     held = R .variables;
     within = R .vars-within;
@@ -116,18 +118,18 @@ module _ (s : Session) (l : Layout) (b : Slices) (R : Running s l b) where
     local-full u e h =
         subst (λ (t : Session). limit < sessionWeight t) (sym (assign-local s x v u e)) (locals-full h)
 
-    pub local-put : (t : Text) (marks : List ℕ) (n count w : ℕ) → Became (s .locals) (put x v (s .locals)) (l .weight) t n count marks w
+    pub local-put : (t : Text) (marks : List ℕ) (n count w : ℕ) → length t ≡ length (b .locals) → Became (s .locals) (put x v (s .locals)) (l .weight) t n count marks w
         → Running (withLocals s (put x v (s .locals))) (withOtherLocals l n count w) (slices (b .people) (b .people-marks) (b .vars) (b .var-marks) t marks (b .standing))
-    local-put t marks n count w B =
-        other-locals s l b R (put x v (s .locals)) t marks n count w (B .size) (B .marks-size) (B .held) (B .within)
+    local-put t marks n count w z B =
+        other-locals s l b R (put x v (s .locals)) t marks n count w (z ∙ R .sized .locals-size) (B .marks-size) (B .held) (B .within)
         (put-all holding x v (s .locals) is-valid (R .ready .is-good .locals-valid)) (omega (arith, weighs s l b R, B .weighs)) (B .light)
 
-    pub local-done : (u : Value) → valueIn (s .locals) x ≡ some u → (t : Text) (marks : List ℕ) (n w : ℕ)
+    pub local-done : (u : Value) → valueIn (s .locals) x ≡ some u → (t : Text) (marks : List ℕ) (n w : ℕ) → length t ≡ length (b .locals)
         → Became (s .locals) (put x v (s .locals)) (l .weight) t n (l .locals) marks w
         → Running (assign s x v) (withOtherLocals l n (l .locals) w) (slices (b .people) (b .people-marks) (b .vars) (b .var-marks) t marks (b .standing))
-    local-done u e t marks n w B =
+    local-done u e t marks n w z B =
         subst (λ (z : Session). Running z (withOtherLocals l n (l .locals) w) (slices (b .people) (b .people-marks) (b .vars) (b .var-marks) t marks (b .standing)))
-        (sym (assign-local s x v u e)) (local-put t marks n (l .locals) w B)
+        (sym (assign-local s x v u e)) (local-put t marks n (l .locals) w z B)
 
     -- ---- a shared variable
 
@@ -141,13 +143,13 @@ module _ (s : Session) (l : Layout) (b : Slices) (R : Running s l b) where
           subst (λ (t : Session). limit < sessionWeight t) (sym (assign-shared s x v u none-local e))
           (let k : limit < sessionWeight (onShared s x v) = omega (arith, weighs s l b R) in k)
 
-      pub shared-done : valueIn (s .locals) x ≡ none → (u : Value) → valueIn (s .store .variables) x ≡ some u → (t : Text) (marks : List ℕ) (n w : ℕ)
+      pub shared-done : valueIn (s .locals) x ≡ none → (u : Value) → valueIn (s .store .variables) x ≡ some u → (t : Text) (marks : List ℕ) (n w : ℕ) → length t ≡ length (b .vars)
           → Became (s .store .variables) (put x v (s .store .variables)) (l .weight) t n (l .vars) marks w
           → Running (assign s x v) (withOtherShared l n (l .vars) (l .asserted) w) (slices (b .people) (b .people-marks) t marks (b .locals) (b .local-marks) (b .standing))
-      shared-done none-local u e t marks n w B =
+      shared-done none-local u e t marks n w z B =
           subst (λ (z : Session). Running z (withOtherShared l n (l .vars) (l .asserted) w) (slices (b .people) (b .people-marks) t marks (b .locals) (b .local-marks) (b .standing)))
           (sym (assign-shared s x v u none-local e))
-          (other-shared s l b R (put x v (s .store .variables)) (s .store .assertions) t marks (b .standing) n (l .vars) (l .asserted) w (B .size) (B .marks-size)
+          (other-shared s l b R (put x v (s .store .variables)) (s .store .assertions) t marks (b .standing) n (l .vars) (l .asserted) w (z ∙ R .sized .vars-size) (B .marks-size)
           (R .sized .standing-size) (B .held) (B .within) (same-numbers (s .store) (put x v (s .store .variables)) (l .asserted) (b .standing) same-names (R .assertions)) shape
           (omega (arith, weighs s l b R, B .weighs)) (B .light))
         where
@@ -189,13 +191,13 @@ module _ (s : Session) (l : Layout) (b : Slices) (R : Running s l b) where
             go true = tt
             go false = each rights
 
-        pub new-done : valueIn (s .locals) x ≡ none → (t : Text) (marks standing : List ℕ) (n w r : ℕ) → Became (s .store .variables) (put x v (s .store .variables)) (l .weight + extra) t n (l .vars + 1) marks w
+        pub new-done : valueIn (s .locals) x ≡ none → (t : Text) (marks standing : List ℕ) (n w r : ℕ) → length t ≡ length (b .vars) → Became (s .store .variables) (put x v (s .store .variables)) (l .weight + extra) t n (l .vars + 1) marks w
             → length standing ≡ 2048 → r ≤ length standing → take r standing ≡ take (l .asserted) (b .standing) ++ grantNumbers (l .vars) (l .sender)
             → Running (assign s x v) (withOtherShared l n (l .vars + 1) r w) (slices (b .people) (b .people-marks) t marks (b .locals) (b .local-marks) standing)
-        new-done none-local t marks standing n w r B size within left =
+        new-done none-local t marks standing n w r z B size within left =
             subst (λ (z : Session). Running z (withOtherShared l n (l .vars + 1) r w) (slices (b .people) (b .people-marks) t marks (b .locals) (b .local-marks) standing))
             (sym (assign-new s x v none-local new))
-            (other-shared s l b R (put x v (s .store .variables)) (entering (s .store .assertions) (granted s x)) t marks standing n (l .vars + 1) r w (B .size) (B .marks-size)
+            (other-shared s l b R (put x v (s .store .variables)) (entering (s .store .assertions) (granted s x)) t marks standing n (l .vars + 1) r w (z ∙ R .sized .vars-size) (B .marks-size)
             size (B .held) (B .within) stands′
             (enter-shape (withVariables (s .store) (put x v (s .store .variables))) shape (granted s x) grants-valid)
             (omega (arith, weighs s l b R, B .weighs, assertions-weigh)) (B .light))

@@ -15,17 +15,14 @@ use lib.Seq.{take-suc-set}
 use Rattle.language.specs.Text.{Text, if_then_else_, _==_, all, sum, member, present}
 use Rattle.language.specs.Syntax.{Name, Right, read, write, append, delegate, rights, same}
 use Rattle.language.specs.State.{Value, Principal, Assertion, Store, admin, anyone, named, valueIn, sameAssertion, stands, enter}
-use Rattle.language.specs.Identifiers.{isName}
 use Rattle.language.specs.Weight.{nameWeight, assertionWeight}
 use Rattle.language.specs.Valid.{hasPassword, validOrder, validAssertion}
 use Rattle.language.specs.Commands.{entering}
 use Rattle.language.proofs.Logic.Tests.{both, and, three, and-three, ==→≡, ==-refl, ==-sym, true-of}
 use Rattle.language.proofs.StateText.Names.{named-is, valued-is}
-use Rattle.language.proofs.StateText.Clean.{name-length}
 use Rattle.store.specs.Held.{Principals}
-use Rattle.store.specs.Rows.{Row, Rows, noRow, rowAt, principalRow, position}
+use Rattle.store.specs.Rows.{Row, noRow, rowAt, principalRow, position}
 use Rattle.store.proofs.Answers.{principal-names, position-name}
-use Rattle.store.proofs.Records.{all-at}
 use Rattle.edits.specs.Changes.{principalNames, variableNames}
 use Rattle.edits.proofs.Splicing.{map-append}
 use Rattle.numbers.specs.Numbers.{code, people, variables, numbered}
@@ -44,35 +41,20 @@ same-test k a p h = subst (λ (z : Name). (k == p) ≡ (p == z)) (==→≡ k a h
     go false true f g = absurd (g tt)
     go false false f g = refl
 
--- p's place says whether it is admin, and what its name weighs
-pub record Ranked (n : ℕ) (p : Name) : Type 0 where
-  pub is-admin : eqb n 0 ≡ (p == admin)
-  pub low : n < 2 → nameWeight p ≡ 1
-  pub high : 2 ≤ n → nameWeight p ≡ length p
-
-pub ranked : (ks : List Principal) (p : Name) → T (validOrder ks) → Ranked (position (principalNames ks) p) p
-ranked [] p o = absurd o
-ranked (k ∷ []) p o = absurd o
-ranked (k ∷ l ∷ ks) p o =
+-- admin comes first
+pub first-is : (ks : List Principal) (p : Name) → T (validOrder ks) → eqb (position (principalNames ks) p) 0 ≡ (p == admin)
+first-is [] p o = absurd o
+first-is (k ∷ []) p o = absurd o
+first-is (k ∷ l ∷ ks) p o =
     let (h, r) = both ((k .name == admin) && hasPassword k && (l .name == anyone)) (all hasPassword ks) o in
-    let (a, w, b) = three (k .name == admin) (hasPassword k) (l .name == anyone) h in
-    go (k .name == p) (l .name == p) (same-test (k .name) admin p a) (same-test (l .name) anyone p b)
+    go (k .name == p) (same-test (k .name) admin p (three (k .name == admin) (hasPassword k) (l .name == anyone) h .0))
   where
     m : ℕ
-    m = position (principalNames ks) p
+    m = position (principalNames (l ∷ ks)) p
 
-    go : (b c : Bool) → b ≡ (p == admin) → c ≡ (p == anyone) → Ranked (if b then 0 else suc (if c then 0 else suc m)) p
-    go true c e f = record { is-admin = e; low = λ i. ap (λ (z : Bool). if_then_else_ {A = ℕ} (z || (p == anyone)) 1 (length p)) (sym e); high = λ i. absurd (omega (arith, i)) }
-    go false true e f = record {
-      is-admin = eqb·suc-zero 0 ∙ e;
-      low = λ i. λ j. if_then_else_ {A = ℕ} (sym e j || sym f j) 1 (length p);
-      high = λ i. absurd (omega (arith, i));
-    }
-    go false false e f = record {
-      is-admin = eqb·suc-zero (suc m) ∙ e;
-      low = λ i. absurd (omega (arith, i));
-      high = λ i. λ j. if_then_else_ {A = ℕ} (sym e j || sym f j) 1 (length p);
-    }
+    go : (b : Bool) → b ≡ (p == admin) → eqb (if b then 0 else suc m) 0 ≡ (p == admin)
+    go true e = e
+    go false e = eqb·suc-zero m ∙ e
 
 -- what stands between a record's first two bytes and its name's end
 pub name-at : (ks : List Principal) (t : Text) (count : ℕ) (marks : List ℕ) → Principals ks t count marks → (p : Name) (k : ℕ) → k < count → k ≡ position (principalNames ks) p
@@ -82,9 +64,6 @@ name-at ks t count marks H p k h n =
     let d : length (principalNames ks) ≡ length ks = length-map ks (λ (q : Principal). q .name) in
     sym (List·getD-map (λ (r : Row). r .name) (map principalRow ks) k noRow) ∙ ap (λ (ns : List Name). getD ns k []) (principal-names ks)
     ∙ ap (λ (m : ℕ). getD (principalNames ks) m []) n ∙ position-name (principalNames ks) p (omega (arith, n, H .counted, d))
-
-pub row-name-short : (rows : List Row) (t : Text) (count : ℕ) (marks : List ℕ) → Rows rows t count marks → (k : ℕ) → k < count → length (rowAt rows k .name) ≤ 255
-row-name-short rows t count marks H k h = name-length (rowAt rows k .name) (all-at (λ (r : Row). isName (r .name)) rows k noRow (H .named) (omega (arith, H .counted))) .1
 
 pub admin-first : (ks : List Principal) → T (validOrder ks) → position (principalNames ks) admin ≡ 0
 admin-first [] o = absurd o
@@ -230,7 +209,7 @@ module _ (s : Store) (o : T (validOrder (s .principals))) (h : T (all (validAsse
   number r = λ i. pack ((position-end (variables s) x new ∙ sym kn) i) (admin-first (s .principals) o i) (code r) (sym sn i)
 
   grants-numbers : map (numbered (people s) (variables s ++ (x ∷ []))) (grants x p) ≡ grantNumbers k sender
-  grants-numbers = go (p == admin) (eqb sender 0) (sym (ap (λ (n : ℕ). eqb n 0) sn ∙ ranked (s .principals) p o .is-admin))
+  grants-numbers = go (p == admin) (eqb sender 0) (sym (ap (λ (n : ℕ). eqb n 0) sn ∙ first-is (s .principals) p o))
     where
       go : (b c : Bool) → b ≡ c → map (numbered (people s) (variables s ++ (x ∷ []))) (if b then [] else map (granting x p) rights)
           ≡ (if c then [] else pack k 0 0 sender ∷ pack k 0 1 sender ∷ pack k 0 2 sender ∷ pack k 0 3 sender ∷ [])
@@ -251,12 +230,12 @@ module _ (ks : List Principal) (p : Name) (o : T (validOrder ks)) (n sender : �
   pub no-grants : sender ≡ position (principalNames ks) p → sender ≡ 0 → 0 ≡ grantWeight n p
   no-grants e z =
       ap (λ (b : Bool). if_then_else_ {A = ℕ} b 0 (4 * (n + 2 + nameWeight p)))
-      (sym (eq-eqb sender 0 z) ∙ ap (λ (m : ℕ). eqb m 0) e ∙ ranked ks p o .is-admin)
+      (sym (eq-eqb sender 0 z) ∙ ap (λ (m : ℕ). eqb m 0) e ∙ first-is ks p o)
 
   pub some-grants : (w : ℕ) → sender ≡ position (principalNames ks) p → (sender ≡ 0 → ⊥) → w ≡ nameWeight p → 4 * (n + 2 + w) ≡ grantWeight n p
   some-grants w e z h =
       ap (λ (m : ℕ). 4 * (n + 2 + m)) h
-      ∙ ap (λ (b : Bool). if_then_else_ {A = ℕ} b 0 (4 * (n + 2 + nameWeight p))) (sym (ne-eqb sender 0 z) ∙ ap (λ (m : ℕ). eqb m 0) e ∙ ranked ks p o .is-admin)
+      ∙ ap (λ (b : Bool). if_then_else_ {A = ℕ} b 0 (4 * (n + 2 + nameWeight p))) (sym (ne-eqb sender 0 z) ∙ ap (λ (m : ℕ). eqb m 0) e ∙ first-is ks p o)
 
 module _ (l : List ℕ) (n variable sender : ℕ) where
   pub no-numbers : sender ≡ 0 → take n l ≡ take n l ++ grantNumbers variable sender

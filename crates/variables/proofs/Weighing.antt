@@ -48,15 +48,12 @@ value-holds vs t k s e h l A = record {
 }
 
 -- variables that are not too heavy are short
-pub fits : (ws : List Variable) → T (all validVariable ws) → sum variableWeight ws ≤ limit → length (variablesText ws) ≤ 65536
+pub fits : (ws : List Variable) → T (all validVariable ws) → sum variableWeight ws ≤ limit → length (variablesText ws) ≤ 32768
 fits ws h k = omega (arith, variables-bound ws h)
 
 module _ {vs : List Variable} {buf : Text} {len count : ℕ} {marks : List ℕ} {total : ℕ} (L : Lies vs buf len count marks total) where
   pub len-is : len ≡ length (variablesText vs)
   len-is = sym (length-take-le len buf (L .within)) ∙ ap length (L .held .is-text)
-
-  pub short : len ≤ 4 * total
-  short = omega (arith, len-is, variables-bound vs (L .are-valid), L .weight-within)
 
   module _ (x : Name) (k : ℕ) (h : k < count) (n : k ≡ position (variableNames vs) x) where
     below : k < length vs
@@ -82,13 +79,12 @@ module _ {vs : List Variable} {buf : Text} {len count : ℕ} {marks : List ℕ} 
       pub replaced-full : limit < total - old + weight → limit + sum variableWeight vs < total + sum variableWeight (put x v vs)
       replaced-full f = omega (arith, grown, q, old-within)
 
-      pub replaced-fits : total - old + weight ≤ limit → length (variablesText (put x v vs)) ≤ 65536
+      pub replaced-fits : total - old + weight ≤ limit → length (variablesText (put x v vs)) ≤ 32768
       replaced-fits f = fits (put x v vs) (put-valid v (W .held .is-valid)) (omega (arith, grown, q, old-within, L .weight-within))
 
       pub replaced : (buf′ : Text) (r : ℕ) (marks′ : List ℕ) → total - old + weight ≤ limit → length buf′ ≡ length buf → length marks′ ≡ length marks → r ≤ length buf
           → Variables (put x v vs) (take r buf′) count marks′ → Became vs (put x v vs) total buf′ r count marks′ (total - old + weight)
       replaced buf′ r marks′ f e m l H = record {
-        size = e ∙ L .size;
         marks-size = m ∙ L .marks-size;
         held = H;
         within = omega (arith, e, l);
@@ -121,13 +117,12 @@ module _ {vs : List Variable} {buf : Text} {len count : ℕ} {marks : List ℕ} 
       pub extended-full : limit < total + weight → limit + sum variableWeight vs < total + sum variableWeight (put x (list (es ++ fs)) vs)
       extended-full f = omega (arith, lengthened)
 
-      pub extended-fits : total + weight ≤ limit → length (variablesText (put x (list (es ++ fs)) vs)) ≤ 65536
+      pub extended-fits : total + weight ≤ limit → length (variablesText (put x (list (es ++ fs)) vs)) ≤ 32768
       extended-fits f = fits (put x (list (es ++ fs)) vs) (put-valid (list (es ++ fs)) both-valid) (omega (arith, lengthened, L .weight-within))
 
       pub extended : (buf′ : Text) (r : ℕ) (marks′ : List ℕ) → total + weight ≤ limit → length buf′ ≡ length buf → length marks′ ≡ length marks → r ≤ length buf
           → Variables (put x (list (es ++ fs)) vs) (take r buf′) count marks′ → Became vs (put x (list (es ++ fs)) vs) total buf′ r count marks′ (total + weight)
       extended buf′ r marks′ f e m l H = record {
-        size = e ∙ L .size;
         marks-size = m ∙ L .marks-size;
         held = H;
         within = omega (arith, e, l);
@@ -146,13 +141,13 @@ module _ {vs : List Variable} {buf : Text} {len count : ℕ} {marks : List ℕ} 
         let ws : List Variable = vs ++ (record { name = x; value = v } ∷ []) in
         let valid : T (all validVariable ws) = all-append validVariable vs (record { name = x; value = v } ∷ []) (L .are-valid) (and (validVariable (record { name = x; value = v })) (all validVariable []) (and (isName x) (validValue v) N (W .held .is-valid)) tt) in
         let w : sum variableWeight ws ≡ sum variableWeight vs + (1 + length x + valueWeight v + 0) = sum-append variableWeight vs (record { name = x; value = v } ∷ []) in
-        let short : length (variablesText ws) ≤ 65536 = fits ws valid (omega (arith, w, W .weighs, L .weight-within)) in
+        let short : length (variablesText ws) ≤ 32768 = fits ws valid (omega (arith, w, W .weighs, L .weight-within)) in
         let t : length (variablesText ws) ≡ length (variablesText vs) + (length (variableText x v) + 0) =
         ap length (joined-append (λ (z : Variable). variableText (z .name) (z .value)) vs (record { name = x; value = v } ∷ []))
         ∙ length-append (variablesText vs) _ ∙ omega (arith, length-append (variableText x v) []) in
         let u : length (variableText x v) ≡ 3 + length x + length src =
         ap length (variable-text x v) ∙ omega (arith, length-append x (9 ∷ valueText v), ap length (W .held .is-text)) in
-        (omega (arith, L .size), omega (arith, L .size, len-is), omega (arith, L .marks-size, few))
+        (L .small, omega (arith, L .room, len-is), omega (arith, L .marks-size, few))
 
     module _ (new : valueIn vs x ≡ none) where
       more : sum variableWeight (put x v vs) ≡ sum variableWeight vs + (1 + length x + weight)
@@ -165,7 +160,6 @@ module _ {vs : List Variable} {buf : Text} {len count : ℕ} {marks : List ℕ} 
           → Variables (vs ++ (record { name = x; value = v } ∷ [])) (take r buf′) (count + 1) marks′
           → Became vs (put x v vs) total buf′ r (count + 1) marks′ (total + 1 + length x + weight)
       added buf′ r marks′ f e m l H = record {
-        size = e ∙ L .size;
         marks-size = m ∙ L .marks-size;
         held = subst (λ (ws : List Variable). Variables ws (take r buf′) (count + 1) marks′) (sym (Putting.put-new vs x v new)) H;
         within = omega (arith, e, l);

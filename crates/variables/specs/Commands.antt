@@ -18,7 +18,6 @@ pub record Names (t : Text) (x : Span) (e : Read.Expr) : Type 0 where
   pub said : Said t e
 
 -- room to work in
-pub record Scratch (value spare : Text) (labels : List ℕ) : Type 0 where
+pub record Scratch (value : Text) (labels : List ℕ) : Type 0 where
   pub value-size : length value ≡ 45056
-  pub spare-size : length spare ≡ 45056
   pub labels-size : length labels ≡ 4096

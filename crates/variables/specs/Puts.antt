@@ -20,9 +20,10 @@ use Rattle.variables.specs.declared.put.Put.the-variants.{Full, Done}
 
 -- ---- what is there
 
--- the variables vs are the first `len` bytes of a buffer, and weigh no more than the whole session
+-- the variables vs are the first `len` bytes of a buffer, which has room for every session's, and weigh no more than the whole session
 pub record Lies (vs : List Variable) (buf : Text) (len count : ℕ) (marks : List ℕ) (total : ℕ) : Type 0 where
-  pub size : length buf ≡ 65536
+  pub room : 32768 ≤ length buf
+  pub small : length buf ≤ 65536
   pub marks-size : length marks ≡ 4096
   pub held : Variables vs (take len buf) count marks
   pub within : len ≤ length buf
@@ -81,7 +82,6 @@ pub record SomeListed (buf : Text) (len count : ℕ) (marks : List ℕ) (total n
 
 -- the variables are ws, in the first n bytes, and the session's weight w has changed as theirs
 pub record Became (vs ws : List Variable) (total : ℕ) (buf : Text) (n count : ℕ) (marks : List ℕ) (w : ℕ) : Type 0 where
-  pub size : length buf ≡ 65536
   pub marks-size : length marks ≡ 4096
   pub held : Variables ws (take n buf) count marks
   pub within : n ≤ length buf

@@ -12,7 +12,6 @@ ghost use mathlib.Core.List.{List};
 ghost use mathlib.Core.Option.{none};
 ghost use Prim.Native.Nat.{ℕ};
 ghost use lib.Dec.{T};
-ghost use lib.ListN.{length};
 ghost use Rattle.language.specs.Text.{Text};
 ghost use Rattle.language.specs.State.{Value, valueIn};
 ghost use Rattle.language.specs.Identifiers.{isName};
@@ -69,9 +68,9 @@ pub fn with_shared(l: Layout, len: usize, count: usize, asserted: usize, weight:
 // A new shared variable, with what its maker is granted.
 fn make(
     people: &[u8],
-    people_marks: &[u64],
+    people_marks: &[u32],
     vars: &mut [u8],
-    var_marks: &mut [u64],
+    var_marks: &mut [u32],
     standing: &mut [u64],
     l: Layout,
     name: &[u8],
@@ -114,17 +113,16 @@ fn make(
 // A shared variable, old or new.
 fn assign_shared(
     people: &[u8],
-    people_marks: &[u64],
+    people_marks: &[u32],
     vars: &mut [u8],
-    var_marks: &mut [u64],
+    var_marks: &mut [u32],
     standing: &mut [u64],
-    spare: &mut [u8],
     l: Layout,
     name: &[u8],
     value: &[u8],
     weight: usize,
 ) -> Assigned
-    requires { ⌜ SomeShared l (now people) (now «people_marks») (now vars) (now «var_marks») (now standing) × T (isName (now name)) × SomeWeighed (now value) weight × (length (now spare) ≡ 45056) ⌝ }
+    requires { ⌜ SomeShared l (now people) (now «people_marks») (now vars) (now «var_marks») (now standing) × T (isName (now name)) × SomeWeighed (now value) weight ⌝ }
     ensures { λ r. ⌜ ((s : Session) (lo : Text) (lm : List ℕ) (v : Value)
         → Running s l (slices (now (people .entry)) (now («people_marks» .entry)) (now (vars .entry)) (now («var_marks» .entry)) lo lm (now (standing .entry)))
         → valueIn (s .locals) (now (name .entry)) ≡ none → Weighs v (now (value .entry)) weight
@@ -151,17 +149,7 @@ fn assign_shared(
             weight,
         );
     };
-    let put = replace(
-        vars,
-        spare,
-        len,
-        var_marks,
-        count,
-        number,
-        value,
-        weight,
-        l.weight,
-    );
+    let put = replace(vars, len, var_marks, count, number, value, weight, l.weight);
     let Put::Done { len: n, weight: w } = put else {
         return Assigned::Full;
     };
@@ -171,20 +159,19 @@ fn assign_shared(
 // The variable of that name gets the value whose text is `value`, and which has the weight `weight`.
 pub fn assign(
     people: &[u8],
-    people_marks: &[u64],
+    people_marks: &[u32],
     vars: &mut [u8],
-    var_marks: &mut [u64],
+    var_marks: &mut [u32],
     locals: &mut [u8],
-    local_marks: &mut [u64],
+    local_marks: &mut [u32],
     standing: &mut [u64],
-    spare: &mut [u8],
     l: Layout,
     name: &[u8],
     value: &[u8],
     weight: usize,
 ) -> Assigned
     requires { ⌜ SomeRunning l (slices (now people) (now «people_marks») (now vars) (now «var_marks») (now locals) (now «local_marks») (now standing)) ⌝ }
-    requires { ⌜ T (isName (now name)) × SomeWeighed (now value) weight × (length (now spare) ≡ 45056) ⌝ }
+    requires { ⌜ T (isName (now name)) × SomeWeighed (now value) weight ⌝ }
     ensures { λ r. ⌜ ((s : Session) (v : Value)
         → Running s l (slices (now (people .entry)) (now («people_marks» .entry)) (now (vars .entry)) (now («var_marks» .entry)) (now (locals .entry)) (now («local_marks» .entry)) (now (standing .entry)))
         → Weighs v (now (value .entry)) weight
@@ -205,7 +192,6 @@ pub fn assign(
             vars,
             var_marks,
             standing,
-            spare,
             l,
             name,
             value,
@@ -214,7 +200,6 @@ pub fn assign(
     };
     let put = replace(
         locals,
-        spare,
         len,
         local_marks,
         count,

@@ -13,7 +13,6 @@ ghost use mathlib.Core.List.{List, _++_};
 ghost use mathlib.Core.Option.{none, some};
 ghost use Prim.Native.Nat.{ℕ, _≤_};
 ghost use lib.Dec.{T};
-ghost use lib.ListN.{length};
 ghost use Rattle.language.specs.Text.{Text};
 ghost use Rattle.language.specs.State.{Element, Value, list, valueIn};
 ghost use Rattle.language.specs.Identifiers.{isName};
@@ -52,17 +51,16 @@ fn elements_of(value: &[u8], weight: usize) -> Elements
 // A shared list.
 fn join_shared(
     people: &[u8],
-    people_marks: &[u64],
+    people_marks: &[u32],
     vars: &mut [u8],
-    var_marks: &mut [u64],
+    var_marks: &mut [u32],
     standing: &[u64],
-    spare: &mut [u8],
     l: Layout,
     name: &[u8],
     more: &[u8],
     weight: usize,
 ) -> Assigned
-    requires { ⌜ SomeSharedList l (now people) (now «people_marks») (now vars) (now «var_marks») (now standing) (now name) (now more) weight × T (isName (now name)) × (weight ≤ 65536) × (length (now spare) ≡ 45056) ⌝ }
+    requires { ⌜ SomeSharedList l (now people) (now «people_marks») (now vars) (now «var_marks») (now standing) (now name) (now more) weight × T (isName (now name)) × (weight ≤ 65536) ⌝ }
     ensures { λ r. ⌜ ((s : Session) (lo : Text) (lm : List ℕ) (es fs : List Element)
         → Running s l (slices (now (people .entry)) (now («people_marks» .entry)) (now (vars .entry)) (now («var_marks» .entry)) lo lm (now (standing .entry)))
         → valueIn (s .locals) (now (name .entry)) ≡ none → valueIn (s .store .variables) (now (name .entry)) ≡ some (list es) → Extra fs (now (more .entry)) weight
@@ -79,17 +77,7 @@ fn join_shared(
     else {
         return Assigned::Full;
     };
-    let put = extend(
-        vars,
-        spare,
-        len,
-        var_marks,
-        count,
-        number,
-        more,
-        weight,
-        l.weight,
-    );
+    let put = extend(vars, len, var_marks, count, number, more, weight, l.weight);
     let Put::Done { len: n, weight: w } = put else {
         return Assigned::Full;
     };
@@ -99,20 +87,19 @@ fn join_shared(
 // The list of that name gets what the value adds, whose text is `value` and which has the weight `weight`.
 pub fn join(
     people: &[u8],
-    people_marks: &[u64],
+    people_marks: &[u32],
     vars: &mut [u8],
-    var_marks: &mut [u64],
+    var_marks: &mut [u32],
     locals: &mut [u8],
-    local_marks: &mut [u64],
+    local_marks: &mut [u32],
     standing: &[u64],
-    spare: &mut [u8],
     l: Layout,
     name: &[u8],
     value: &[u8],
     weight: usize,
 ) -> Assigned
     requires { ⌜ SomeList l (slices (now people) (now «people_marks») (now vars) (now «var_marks») (now locals) (now «local_marks») (now standing)) (now name) ⌝ }
-    requires { ⌜ T (isName (now name)) × SomeWeighed (now value) weight × (length (now spare) ≡ 45056) ⌝ }
+    requires { ⌜ T (isName (now name)) × SomeWeighed (now value) weight ⌝ }
     ensures { λ r. ⌜ ((s : Session) (v : Value) (es : List Element)
         → Running s l (slices (now (people .entry)) (now («people_marks» .entry)) (now (vars .entry)) (now («var_marks» .entry)) (now (locals .entry)) (now («local_marks» .entry)) (now (standing .entry)))
         → lookup s (now (name .entry)) ≡ some (list es) → Weighs v (now (value .entry)) weight
@@ -136,7 +123,6 @@ pub fn join(
             vars,
             var_marks,
             standing,
-            spare,
             l,
             name,
             &value[from..to],
@@ -145,7 +131,6 @@ pub fn join(
     };
     let put = extend(
         locals,
-        spare,
         len,
         local_marks,
         count,

@@ -1,5 +1,5 @@
 // What the maker of a shared variable is granted: admin delegates all four rights on it to the sender.
-use store::mark::nth;
+use store::name::principal_weight;
 ghost use mathlib.Core.Path.{_≡_};
 ghost use mathlib.Core.List.{List, _++_};
 ghost use Prim.Native.Nat.{_+_, _≤_, _<_};
@@ -7,7 +7,6 @@ ghost use lib.Dec.{T};
 ghost use lib.ListN.{length, take};
 ghost use Rattle.language.specs.Syntax.{Name};
 ghost use Rattle.language.specs.State.{Principal};
-ghost use Rattle.language.specs.Weight.{nameWeight};
 ghost use Rattle.language.specs.Valid.{validOrder};
 ghost use Rattle.store.specs.Held.{Principals};
 ghost use Rattle.store.specs.Rows.{SomeRows, position};
@@ -15,22 +14,8 @@ ghost use Rattle.edits.specs.Changes.{principalNames};
 ghost use Rattle.rights.specs.Packed.{pack};
 ghost use Rattle.variables.specs.Grants.{grantWeight, grantNumbers};
 
-// What a principal's name weighs: admin and anyone, who come first, count 1.
-fn name_weight(people: &[u8], marks: &[u64], count: usize, number: usize) -> usize
-    requires { ⌜ SomeRows (now people) count (now marks) × (number < count) ⌝ }
-    ensures small { λ r. ⌜ r ≤ 255 ⌝ }
-    ensures weighs { λ r. ⌜ ((ks : List Principal) (p : Name) → Principals ks (now (people .entry)) count (now (marks .entry)) → T (validOrder ks)
-        → number ≡ position (principalNames ks) p → r ≡ nameWeight p) ⌝ }
-{
-    if number < 2 {
-        return 1;
-    }
-    let place = nth(people, marks, count, number);
-    place.mid - place.start - 2
-}
-
 // What the assertions weigh that the sender is granted on a new variable, whose name has `len` bytes. Admin needs none.
-pub fn grant_weight(people: &[u8], marks: &[u64], count: usize, sender: usize, len: usize) -> usize
+pub fn grant_weight(people: &[u8], marks: &[u32], count: usize, sender: usize, len: usize) -> usize
     requires { ⌜ SomeRows (now people) count (now marks) × (sender < count) × (len ≤ 255) ⌝ }
     ensures small { λ r. ⌜ r ≤ 2048 ⌝ }
     ensures weighs { λ r. ⌜ ((ks : List Principal) (p : Name) → Principals ks (now (people .entry)) count (now (marks .entry)) → T (validOrder ks)
@@ -39,7 +24,7 @@ pub fn grant_weight(people: &[u8], marks: &[u64], count: usize, sender: usize, l
     if sender == 0 {
         return 0;
     }
-    4 * (len + 2 + name_weight(people, marks, count, sender))
+    4 * (len + 2 + principal_weight(people, marks, count, sender))
 }
 
 // Admin's assertion to a principal, as a number.

@@ -49,22 +49,21 @@ fn verdict(a: Assigned) -> Verdict
 // set x = e
 pub fn set(
     people: &[u8],
-    people_marks: &[u64],
+    people_marks: &[u32],
     vars: &mut [u8],
-    var_marks: &mut [u64],
+    var_marks: &mut [u32],
     locals: &mut [u8],
-    local_marks: &mut [u64],
+    local_marks: &mut [u32],
     standing: &mut [u64],
     value: &mut [u8],
-    spare: &mut [u8],
-    labels: &mut [u64],
+    labels: &mut [u32],
     l: Layout,
     text: &[u8],
     x: Span,
     e: Expr,
 ) -> Verdict
     requires { ⌜ SomeRunning l (slices (now people) (now «people_marks») (now vars) (now «var_marks») (now locals) (now «local_marks») (now standing)) ⌝ }
-    requires { ⌜ Names (now text) x e × Scratch (now value) (now spare) (now labels) ⌝ }
+    requires { ⌜ Names (now text) x e × Scratch (now value) (now labels) ⌝ }
     ensures { λ r. ⌜ ((s : Session) (y : Syntax.Expr)
         → Running s l (slices (now (people .entry)) (now («people_marks» .entry)) (now (vars .entry)) (now («var_marks» .entry)) (now (locals .entry)) (now («local_marks» .entry)) (now (standing .entry)))
         → exprMeant (now (text .entry)) e ≡ some y
@@ -97,7 +96,6 @@ pub fn set(
                 locals,
                 local_marks,
                 standing,
-                spare,
                 l,
                 &text[a..b],
                 &value[..len],
@@ -113,22 +111,21 @@ pub fn set(
 // append to x with e
 pub fn append(
     people: &[u8],
-    people_marks: &[u64],
+    people_marks: &[u32],
     vars: &mut [u8],
-    var_marks: &mut [u64],
+    var_marks: &mut [u32],
     locals: &mut [u8],
-    local_marks: &mut [u64],
+    local_marks: &mut [u32],
     standing: &[u64],
     value: &mut [u8],
-    spare: &mut [u8],
-    labels: &mut [u64],
+    labels: &mut [u32],
     l: Layout,
     text: &[u8],
     x: Span,
     e: Expr,
 ) -> Verdict
     requires { ⌜ SomeRunning l (slices (now people) (now «people_marks») (now vars) (now «var_marks») (now locals) (now «local_marks») (now standing)) ⌝ }
-    requires { ⌜ Names (now text) x e × Scratch (now value) (now spare) (now labels) ⌝ }
+    requires { ⌜ Names (now text) x e × Scratch (now value) (now labels) ⌝ }
     ensures { λ r. ⌜ ((s : Session) (y : Syntax.Expr)
         → Running s l (slices (now (people .entry)) (now («people_marks» .entry)) (now (vars .entry)) (now («var_marks» .entry)) (now (locals .entry)) (now («local_marks» .entry)) (now (standing .entry)))
         → exprMeant (now (text .entry)) e ≡ some y
@@ -164,7 +161,6 @@ pub fn append(
                 locals,
                 local_marks,
                 standing,
-                spare,
                 l,
                 &text[a..b],
                 &value[..len],
@@ -180,7 +176,7 @@ pub fn append(
 // A new local.
 fn declare(
     locals: &mut [u8],
-    local_marks: &mut [u64],
+    local_marks: &mut [u32],
     l: Layout,
     name: &[u8],
     value: &[u8],
@@ -212,14 +208,14 @@ fn declare(
 // local x = e
 pub fn local(
     people: &[u8],
-    people_marks: &[u64],
+    people_marks: &[u32],
     vars: &[u8],
-    var_marks: &[u64],
+    var_marks: &[u32],
     locals: &mut [u8],
-    local_marks: &mut [u64],
+    local_marks: &mut [u32],
     standing: &[u64],
     value: &mut [u8],
-    labels: &mut [u64],
+    labels: &mut [u32],
     l: Layout,
     text: &[u8],
     x: Span,

@@ -28,14 +28,14 @@ ghost use Rattle.variables.specs.Looks.{elementsIn, Scoped, SomeScoped, 
 // The value of an expression, written from the start of `value` on.
 pub fn worth<'a>(
     vars: &'a [u8],
-    var_marks: &[u64],
+    var_marks: &[u32],
     locals: &'a [u8],
-    local_marks: &[u64],
+    local_marks: &[u32],
     l: Layout,
     text: &[u8],
     e: Expr,
     value: &mut [u8],
-    labels: &mut [u64],
+    labels: &mut [u32],
 ) -> Evaluated
     requires { ⌜ SomeScoped l (now vars) (now «var_marks») (now locals) (now «local_marks») × Said (now text) e × Lent (now value) (now labels) ⌝ }
     ensures { λ r. ⌜ ((s : Session) (y : Syntax.Expr) → Scoped s l (now (vars .entry)) (now («var_marks» .entry)) (now (locals .entry)) (now («local_marks» .entry))
@@ -76,9 +76,9 @@ fn list_read(value: &[u8]) -> bool
 // Whether the value of a name is a list.
 pub fn is_list<'a>(
     vars: &'a [u8],
-    var_marks: &[u64],
+    var_marks: &[u32],
     locals: &'a [u8],
-    local_marks: &[u64],
+    local_marks: &[u32],
     l: Layout,
     name: &[u8],
 ) -> bool
@@ -103,9 +103,9 @@ pub fn is_list<'a>(
 // Whether a name has a value.
 pub fn is_defined<'a>(
     vars: &'a [u8],
-    var_marks: &[u64],
+    var_marks: &[u32],
     locals: &'a [u8],
-    local_marks: &[u64],
+    local_marks: &[u32],
     l: Layout,
     name: &[u8],
 ) -> bool
@@ -130,7 +130,7 @@ pub fn is_defined<'a>(
 // Whether the sender may read all that an expression evaluates.
 pub fn may_read(
     vars: &[u8],
-    var_marks: &[u64],
+    var_marks: &[u32],
     standing: &[u64],
     l: Layout,
     text: &[u8],
@@ -157,7 +157,7 @@ pub fn may_read(
 // Whether the sender may do to the name at x what the right allows, and may read all that an expression evaluates.
 pub fn may_use(
     vars: &[u8],
-    var_marks: &[u64],
+    var_marks: &[u32],
     standing: &[u64],
     l: Layout,
     text: &[u8],
@@ -191,7 +191,7 @@ pub fn may_use(
 // Whether the sender may append to the name at x: write or append will do.
 pub fn may_append(
     vars: &[u8],
-    var_marks: &[u64],
+    var_marks: &[u32],
     standing: &[u64],
     l: Layout,
     text: &[u8],

@@ -8,7 +8,6 @@ ghost use mathlib.Core.List.{List, _++_};
 ghost use mathlib.Core.Option.{none, some};
 ghost use Prim.Native.Nat.{_+_, _≤_, _<_};
 ghost use lib.Dec.{T};
-ghost use lib.ListN.{length};
 ghost use Rattle.language.specs.Text.{all};
 ghost use Rattle.language.specs.Syntax.{Name};
 ghost use Rattle.language.specs.State.{Element, Value, list, Variable, valueIn, put};
@@ -28,7 +27,7 @@ pub enum Put {
 }
 
 // What the value of a variable weighs.
-fn weight_of(text: &[u8], marks: &[u64], count: usize, number: usize) -> usize
+fn weight_of(text: &[u8], marks: &[u32], count: usize, number: usize) -> usize
     requires { ⌜ SomeValid (now text) count (now marks) × (number < count) ⌝ }
     ensures { λ r. ⌜ ((vs : List Variable) → Variables vs (now (text .entry)) count (now (marks .entry)) → T (all validVariable vs) → r ≡ valueWeight (variableAt vs number .value)) ⌝ }
 {
@@ -41,16 +40,15 @@ fn weight_of(text: &[u8], marks: &[u64], count: usize, number: usize) -> usize
 // A variable gets another value, of the weight `weight`; the session weighs `total` before.
 pub fn replace(
     buf: &mut [u8],
-    spare: &mut [u8],
     len: usize,
-    marks: &mut [u64],
+    marks: &mut [u32],
     count: usize,
     number: usize,
     value: &[u8],
     weight: usize,
     total: usize,
 ) -> Put
-    requires { ⌜ SomeNamed (now buf) len count (now marks) total number × SomeWeighed (now value) weight × (total ≤ limit) × (length (now spare) ≡ 45056) ⌝ }
+    requires { ⌜ SomeNamed (now buf) len count (now marks) total number × SomeWeighed (now value) weight × (total ≤ limit) ⌝ }
     ensures { λ r. ⌜ ((vs : List Variable) (x : Name) (v : Value) → Lies vs (now (buf .entry)) len count (now (marks .entry)) total
         → number ≡ position (variableNames vs) x → Weighs v (now (value .entry)) weight
         → Becomes vs (put x v vs) total r (now (buf .exit)) count (now (marks .exit))) ⌝ }
@@ -60,7 +58,7 @@ pub fn replace(
     if 8192 < after {
         return Put::Full;
     }
-    let n = set_value(buf, spare, len, marks, count, number, value);
+    let n = set_value(buf, len, marks, count, number, value);
     Put::Done {
         len: n,
         weight: after,
@@ -71,7 +69,7 @@ pub fn replace(
 pub fn add(
     buf: &mut [u8],
     len: usize,
-    marks: &mut [u64],
+    marks: &mut [u32],
     count: usize,
     name: &[u8],
     value: &[u8],
@@ -97,16 +95,15 @@ pub fn add(
 // A list gets more elements at its end: their text, and what they weigh.
 pub fn extend(
     buf: &mut [u8],
-    spare: &mut [u8],
     len: usize,
-    marks: &mut [u64],
+    marks: &mut [u32],
     count: usize,
     number: usize,
     more: &[u8],
     weight: usize,
     total: usize,
 ) -> Put
-    requires { ⌜ SomeListed (now buf) len count (now marks) total number (now more) weight × (total ≤ limit) × (weight ≤ 65536) × (length (now spare) ≡ 45056) ⌝ }
+    requires { ⌜ SomeListed (now buf) len count (now marks) total number (now more) weight × (total ≤ limit) × (weight ≤ 65536) ⌝ }
     ensures { λ r. ⌜ ((vs : List Variable) (x : Name) (es fs : List Element) → Lies vs (now (buf .entry)) len count (now (marks .entry)) total
         → number ≡ position (variableNames vs) x → valueIn vs x ≡ some (list es) → Extra fs (now (more .entry)) weight
         → Becomes vs (put x (list (es ++ fs)) vs) total r (now (buf .exit)) count (now (marks .exit))) ⌝ }
@@ -115,7 +112,7 @@ pub fn extend(
     if 8192 < after {
         return Put::Full;
     }
-    let n = append_value(buf, spare, len, marks, count, number, more);
+    let n = append_value(buf, len, marks, count, number, more);
     Put::Done {
         len: n,
         weight: after,

@@ -47,6 +47,9 @@ loop-holds c = (refl, omega arith, omega arith, λ s name C N. refl)
 may-requires : tie.Need-may-requires Inv-loop μ-loop
 may-requires c κs = let p = c .before .before .before .before .pre in (p .0, p .1, p .2, omega arith)
 
+cast-targets : tie.Need-cast-targets Inv-loop μ-loop
+cast-targets c = omega (arith, c .before .before .before .before .before .before .pre .3)
+
 mul-targets : tie.Need-mul-targets Inv-loop μ-loop
 mul-targets c = omega (arith, c .before .before .before .before .before .before .pre .3, c .before .before .before .loop .inv .1)
 
@@ -83,6 +86,7 @@ collect-spec =
     μ-loop
     loop-holds
     may-requires
+    cast-targets
     mul-targets
     slice-write-targets
     add-n

@@ -82,6 +82,9 @@ mul-x c = let w = c .before .before .before .before .before .before .before .bef
 shared-slice-read-x : tie.Need-shared-slice-read-x Inv-loop μ-loop
 shared-slice-read-x c = let w = c .before .before .before .before .before .before .before .before .before .before .before .before .pre .delegates .within in omega (arith, w)
 
+cast-x : tie.Need-cast-x Inv-loop μ-loop
+cast-x c = omega (arith, c .shared-slice-known8 .given (c .before .before .loop .i))
+
 variable-requires : tie.Need-variable-requires Inv-loop μ-loop
 variable-requires c κs =
     let st = c .before .before .before .before .before .before .before .before .before .before .before .before in
@@ -165,6 +168,7 @@ enter-all-spec =
     loop-holds
     mul-x
     shared-slice-read-x
+    cast-x
     variable-requires
     add-weight
     add-weight-2

@@ -8,7 +8,7 @@ use Rattle.language.specs.Syntax.{Name, Right, Target, Command, set-delegation}
 use Rattle.language.specs.Values.{Session}
 use Rattle.language.specs.Commands.{targets, assertionsOn, denied}
 use Rattle.text.specs.Meaning.{part}
-use Rattle.syntax.specs.Forms.{rightMeant, targetMeant}
+use Rattle.commands.specs.Forms.{rightMeant, targetMeant}
 use Rattle.store.proofs.Holders.{some-principals, some-variables}
 use Rattle.running.specs.Sessions.{Slices, slices, Running}
 use Rattle.running.proofs.Steps.{is-denied}
@@ -17,6 +17,9 @@ use Rattle.delegations.specs.Entering.{Ends, Delegates, entered}
 use Rattle.delegations.specs.Asking.{Names}
 use Rattle.delegations.proofs.Existing.{complete}
 use Rattle.delegations.proofs.Ending.{ends-full, ends-done, set-fails, setting, set-goes, giver-there, delegates}
+use Rattle.numbers.specs.Numbers.{variables}
+use Rattle.delegations.proofs.Denials.{aim-few}
+use Rattle.delegations.proofs.Fitting.{few-variables}
 use borrow.Author.Needs.{needs}
 use Rattle.delegations.proofs.set_delegation.Statement.{statement}
 use Rattle.delegations.proofs.set_delegation.Tie as tie
@@ -99,7 +102,7 @@ returns-2 c s R =
     (not-true _ (sym (c .before .missing .ensures s (lent (c .before .before .before .before .before .before .before .before .before .before .before .before .before .before .before)) (target-of (c .before .before .before .before .before .before .before .before .before .before .before .before .before .before .before)) (from-of (c .before .before .before .before .before .before .before .before .before .before .before .before .before .before .before)) (to-of (c .before .before .before .before .before .before .before .before .before .before .before .before .before .before .before)) R (named (c .before .before .before .before .before) s R)) ∙ c .if2 .taken))
 
 choose-requires : tie.Need-choose-requires
-choose-requires c κs = let P = c .before .before .before .before .before .before .before .before .before .before .before .before .before .before .before .before .before .pre .0 in (record { session = P .session; buffers = lent (c .before .before .before .before .before .before .before .before .before .before .before .before .before .before .before .before .before); runs = record { running = P .running; stood = refl } }, c .before .before .before .before .before .before .before .before .before .before .before .before .before .before .before .before .before .pre .1 .3)
+choose-requires c κs = let P = c .before .before .before .before .before .before .before .before .before .before .before .before .before .before .before .before .before .pre .0 in (record { session = P .session; buffers = lent (c .before .before .before .before .before .before .before .before .before .before .before .before .before .before .before .before .before); runs = record { running = P .running; stood = refl } }, c .before .before .before .before .before .before .before .before .before .before .before .before .before .before .before .before .before .pre .1 .3, aim-few (variables (P .session .store)) (target-of (c .before .before .before .before .before .before .before .before .before .before .before .before .before .before .before .before .before)) _ (few-variables (P .session) _ _ (P .running)) (named (c .before .before .before .before .before .before .before) (P .session) (P .running) .aim-is))
 
 right-code-requires : tie.Need-right-code-requires
 right-code-requires c κs = search needs

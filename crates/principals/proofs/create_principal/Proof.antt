@@ -12,16 +12,17 @@ use Rattle.running.specs.Sessions.{slices, Running}
 use Rattle.delegations.specs.declared.Entered.{Entered}
 use Rattle.delegations.specs.Entering.{Ends}
 use Rattle.principals.specs.Creating.{New, Gives}
-use Rattle.principals.proofs.Finding.{number-below, part-length}
+use Rattle.store.proofs.Holders.{some-principals}
+use Rattle.principals.proofs.Finding.{row-number, number-below, part-length}
 use Rattle.principals.proofs.Creating.{create-denied, create-failed, create-new, create-full, create-over, create-done, create-gives}
 use borrow.Author.Needs.{needs}
 use Rattle.principals.proofs.create_principal.Statement.{statement}
 use Rattle.principals.proofs.create_principal.Tie as tie
 
-number-is : (c : tie.After-of) (s : Session) → let a = c .before .before .before .before .before .before .before .before .before .before .before .before .before .before .args in
+number-is : (c : tie.After-number-of) (s : Session) → let a = c .before .before .before .before .before .before .before .before .before .before .before .before .before .before .args in
     Running s (a .l) (slices (a .people .now) (a .people-marks .now) (a .vars .now) (a .var-marks .now) (a .locals .now) (a .local-marks .now) (a .standing .now))
-    → c .of .result ≡ position (people (s .store)) (part (a .text .now) (a .p))
-number-is c s R = c .of .ensures (s .store .principals) (R .principals)
+    → c .number-of .result ≡ position (people (s .store)) (part (a .text .now) (a .p))
+number-is c s R = row-number s (c .before .before .before .before .before .before .before .before .before .before .before .before .before .before .args .l) _ R _ (c .number-of .result) (c .number-of .ensures)
 
 is-new : (c : tie.Else2) (s : Session) → let a = c .before .before .before .before .before .before .before .before .before .before .before .before .before .before .before .args in
     Running s (a .l) (slices (a .people .now) (a .people-marks .now) (a .vars .now) (a .var-marks .now) (a .locals .now) (a .local-marks .now) (a .standing .now))
@@ -29,7 +30,7 @@ is-new : (c : tie.Else2) (s : Session) → let a = c .before .before .before .be
     (part (a .text .now) (a .p)) (part (a .text .now) (a .password))
 is-new c s R =
     let a = c .before .before .before .before .before .before .before .before .before .before .before .before .before .before .before .args in
-    create-new s (a .l) _ R (part (a .text .now) (a .p)) (part (a .text .now) (a .password)) (c .before .of .result) (number-is (c .before) s R) (c .before .before .before .before .before .if1 .left) (c .if2 .left) (c .before .before .before .before .before .before .before .before .before .before .before .before .before .before .before .pre .1 .0 .2)
+    create-new s (a .l) _ R (part (a .text .now) (a .p)) (part (a .text .now) (a .password)) (c .before .number-of .result) (number-is (c .before) s R) (c .before .before .before .before .before .if1 .left) (c .if2 .left) (c .before .before .before .before .before .before .before .before .before .before .before .before .before .before .before .pre .1 .0 .2)
 
 added-ends : (c : tie.After-add) (s : Session) → let a = c .before .before .before .before .before .before .before .before .before .before .before .before .before .before .before .before .before .before .before .before .args in
     Running s (a .l) (slices (a .people .now) (a .people-marks .now) (a .vars .now) (a .var-marks .now) (a .locals .now) (a .local-marks .now) (a .standing .now))
@@ -48,7 +49,7 @@ now-gives : (c : tie.After-added) (s : Session) → let a = c .before .before .b
     (k .delegator) (a .l .people) (s .store .delegator) (part (a .text .now) (a .p))
 now-gives c s R =
     let a = c .before .before .before .before .before .before .before .before .before .before .before .before .before .before .before .before .before .before .before .before .before .before .before .before .before .before .args in
-    create-gives s (a .l) _ R (part (a .text .now) (a .p)) (part (a .text .now) (a .password)) (c .before .before .before .before .before .before .before .before .before .before .before .before .of .result) (number-is (c .before .before .before .before .before .before .before .before .before .before .before .before) s R) (c .before .before .before .before .before .before .before .before .before .before .before .before .before .before .before .before .if1 .left) (c .before .before .before .before .before .before .before .before .before .before .before .if2 .left)
+    create-gives s (a .l) _ R (part (a .text .now) (a .p)) (part (a .text .now) (a .password)) (c .before .before .before .before .before .before .before .before .before .before .before .before .number-of .result) (number-is (c .before .before .before .before .before .before .before .before .before .before .before .before) s R) (c .before .before .before .before .before .before .before .before .before .before .before .before .before .before .before .before .if1 .left) (c .before .before .before .before .before .before .before .before .before .before .before .if2 .left)
     (c .added .given .0 .0) _ (added-ends (c .before .before .before .before .before .before) s R _ (c .added .given .1))
 
 given-ends : (c : tie.After-delegate-rights) (s : Session) → let a = c .before .before .before .before .before .before .before .before .before .before .before .before .before .before .before .before .before .before .before .before .before .before .before .before .before .before .before .before .before .before .before .before .args in
@@ -64,17 +65,17 @@ given-ends c s R r e =
 returns : tie.Need-returns
 returns c s R = create-denied s (c .before .before .before .before .before .before .before .before .before .before .args .l) _ R _ _ (c .if1 .taken)
 
-sub-of : tie.Need-sub-of
-sub-of c = search needs
+sub-number-of : tie.Need-sub-number-of
+sub-number-of c = search needs
 
-part-of-start : tie.Need-part-of-start
-part-of-start c = search needs
+part-number-of-start : tie.Need-part-number-of-start
+part-number-of-start c = search needs
 
-part-of-end : tie.Need-part-of-end
-part-of-end c = search needs
+part-number-of-end : tie.Need-part-number-of-end
+part-number-of-end c = search needs
 
-of-requires : tie.Need-of-requires
-of-requires c κs = search needs
+number-of-requires : tie.Need-number-of-requires
+number-of-requires c κs = let P = c .before .before .before .before .before .before .before .before .before .before .before .before .before .pre .0 in (P .running .people-within, some-principals (P .session .store .principals) _ _ _ (P .running .principals))
 
 same-length : tie.Need-same-length
 same-length c = search needs
@@ -85,9 +86,9 @@ same-length-2 c = search needs
 returns-2 : tie.Need-returns-2
 returns-2 c s R =
     let a = c .before .before .before .before .before .before .before .before .before .before .before .before .before .before .before .args in
-    let n : c .before .of .result ≡ position (people (s .store)) (part (a .text .now) (a .p)) = number-is (c .before) s R in
-    create-failed s (a .l) _ R (part (a .text .now) (a .p)) (part (a .text .now) (a .password)) (c .before .of .result) n (c .before .before .before .before .before .if1 .left)
-    (number-below s (a .l) _ R (part (a .text .now) (a .p)) (c .before .of .result) n (c .if2 .taken))
+    let n : c .before .number-of .result ≡ position (people (s .store)) (part (a .text .now) (a .p)) = number-is (c .before) s R in
+    create-failed s (a .l) _ R (part (a .text .now) (a .p)) (part (a .text .now) (a .password)) (c .before .number-of .result) n (c .before .before .before .before .before .if1 .left)
+    (number-below s (a .l) _ R (part (a .text .now) (a .p)) (c .before .number-of .result) n (c .if2 .taken))
 
 sub-add : tie.Need-sub-add
 sub-add c = search needs
@@ -132,7 +133,7 @@ same-length-4 c = search needs
 returns-3 : tie.Need-returns-3
 returns-3 c s R =
     let a = c .before .before .before .before .before .before .before .before .before .before .before .before .before .before .before .before .before .before .before .before .before .before .before .before .before .before .args in
-    create-over s (a .l) _ R (part (a .text .now) (a .p)) (part (a .text .now) (a .password)) (c .before .before .before .before .before .before .before .before .before .before .before .before .of .result) (number-is (c .before .before .before .before .before .before .before .before .before .before .before .before) s R) (c .before .before .before .before .before .before .before .before .before .before .before .before .before .before .before .before .if1 .left) (c .before .before .before .before .before .before .before .before .before .before .before .if2 .left)
+    create-over s (a .l) _ R (part (a .text .now) (a .p)) (part (a .text .now) (a .password)) (c .before .before .before .before .before .before .before .before .before .before .before .before .number-of .result) (number-is (c .before .before .before .before .before .before .before .before .before .before .before .before) s R) (c .before .before .before .before .before .before .before .before .before .before .before .before .before .before .before .before .if1 .left) (c .before .before .before .before .before .before .before .before .before .before .before .if2 .left)
     (added-ends (c .before .before .before .before .before .before) s R _ (c .enum-told .given .1))
 
 delegate-rights-requires : tie.Need-delegate-rights-requires
@@ -170,7 +171,7 @@ same-length-8 c = search needs
 returns-4 : tie.Need-returns-4
 returns-4 c s R =
     let a = c .before .before .before .before .before .before .before .before .before .before .before .before .before .before .before .before .before .before .before .before .before .before .before .before .before .before .before .before .before .before .before .before .before .before .before .before .before .before .args in
-    create-full s (a .l) _ R (part (a .text .now) (a .p)) (part (a .text .now) (a .password)) (c .before .before .before .before .before .before .before .before .before .before .before .before .before .before .before .before .before .before .before .before .before .before .before .before .of .result) (number-is (c .before .before .before .before .before .before .before .before .before .before .before .before .before .before .before .before .before .before .before .before .before .before .before .before) s R) (c .before .before .before .before .before .before .before .before .before .before .before .before .before .before .before .before .before .before .before .before .before .before .before .before .before .before .before .before .if1 .left) (c .before .before .before .before .before .before .before .before .before .before .before .before .before .before .before .before .before .before .before .before .before .before .before .if2 .left)
+    create-full s (a .l) _ R (part (a .text .now) (a .p)) (part (a .text .now) (a .password)) (c .before .before .before .before .before .before .before .before .before .before .before .before .before .before .before .before .before .before .before .before .before .before .before .before .number-of .result) (number-is (c .before .before .before .before .before .before .before .before .before .before .before .before .before .before .before .before .before .before .before .before .before .before .before .before) s R) (c .before .before .before .before .before .before .before .before .before .before .before .before .before .before .before .before .before .before .before .before .before .before .before .before .before .before .before .before .if1 .left) (c .before .before .before .before .before .before .before .before .before .before .before .before .before .before .before .before .before .before .before .before .before .before .before .if2 .left)
     (given-ends (c .before .before .before .before .before .before) s R _ (c .enum-told2 .given .1))
 
 same-length-9 : tie.Need-same-length-9
@@ -188,7 +189,7 @@ same-length-12 c = search needs
 returns-5 : tie.Need-returns-5
 returns-5 c s R =
     let a = c .before .before .before .before .before .before .before .before .before .before .before .before .before .before .before .before .before .before .before .before .before .before .before .before .before .before .before .before .before .before .before .before .before .before .before .before .before .before .before .args in
-    create-done s (a .l) _ R (part (a .text .now) (a .p)) (part (a .text .now) (a .password)) (c .before .before .before .before .before .before .before .before .before .before .before .before .before .before .before .before .before .before .before .before .before .before .before .before .before .of .result) (number-is (c .before .before .before .before .before .before .before .before .before .before .before .before .before .before .before .before .before .before .before .before .before .before .before .before .before) s R) (c .before .before .before .before .before .before .before .before .before .before .before .before .before .before .before .before .before .before .before .before .before .before .before .before .before .before .before .before .before .if1 .left) (c .before .before .before .before .before .before .before .before .before .before .before .before .before .before .before .before .before .before .before .before .before .before .before .before .if2 .left) _ _
+    create-done s (a .l) _ R (part (a .text .now) (a .p)) (part (a .text .now) (a .password)) (c .before .before .before .before .before .before .before .before .before .before .before .before .before .before .before .before .before .before .before .before .before .before .before .before .before .number-of .result) (number-is (c .before .before .before .before .before .before .before .before .before .before .before .before .before .before .before .before .before .before .before .before .before .before .before .before .before) s R) (c .before .before .before .before .before .before .before .before .before .before .before .before .before .before .before .before .before .before .before .before .before .before .before .before .before .before .before .before .before .if1 .left) (c .before .before .before .before .before .before .before .before .before .before .before .before .before .before .before .before .before .before .before .before .before .before .before .before .if2 .left) _ _
     (given-ends (c .before .before .before .before .before .before .before) s R _ (c .before .given .given .1))
 
 pub create-principal-spec : {M : Type 1} → statement M
@@ -196,10 +197,10 @@ create-principal-spec =
     tie.close
     (tie.spec
     returns
-    sub-of
-    part-of-start
-    part-of-end
-    of-requires
+    sub-number-of
+    part-number-of-start
+    part-number-of-end
+    number-of-requires
     same-length
     same-length-2
     returns-2

@@ -2,7 +2,9 @@
 -- Assumes nothing.
 use mathlib.Core.Path.{_≡_, subst}
 use mathlib.Core.Option.{some}
+use Prim.Native.Nat.{ℕ}
 use native.Mathlib.Omega.{arith}
+use lib.ListN.{length-replicate}
 use borrow.Author.Needs.{needs}
 use Rattle.language.specs.Text.{Text}
 use Rattle.language.specs.Syntax.{Expr, foreach}
@@ -17,6 +19,9 @@ use Rattle.replacing.proofs.Effects.{ends-without}
 use Rattle.replacing.proofs.foreach.Statement.{statement}
 use Rattle.replacing.proofs.foreach.Tie as tie
 
+slice-aggregate-prepare : tie.Need-slice-aggregate-prepare
+slice-aggregate-prepare c = search needs
+
 -- what was lent, as the running session names it
 abbrev lent : tie.Start → Slices
 lent c = let a = c .args in slices (a .people .now) (a .people-marks .now) (a .vars .now) (a .var-marks .now) (a .locals .now) (a .local-marks .now) (a .standing .now)
@@ -27,12 +32,12 @@ y-of c = part (c .args .text .now) (c .args .y)
 abbrev x-of : tie.Start → Text
 x-of c = part (c .args .text .now) (c .args .x)
 
-prepared : (c : tie.After-prepare) (s : Session) (u : Expr) → Running s (c .before .before .before .before .before .before .before .before .before .before .before .before .before .before .before .before .before .before .before .args .l) (lent (c .before .before .before .before .before .before .before .before .before .before .before .before .before .before .before .before .before .before .before)) → exprMeant (c .before .before .before .before .before .before .before .before .before .before .before .before .before .before .before .before .before .before .before .args .text .now) (c .before .before .before .before .before .before .before .before .before .before .before .before .before .before .before .before .before .before .before .args .e) ≡ some u
-    → (r : Prepared) → c .prepare .result ≡ r → Prepares r s (y-of (c .before .before .before .before .before .before .before .before .before .before .before .before .before .before .before .before .before .before .before)) (x-of (c .before .before .before .before .before .before .before .before .before .before .before .before .before .before .before .before .before .before .before)) u (c .prepare .last .1 .1 .1 .1 .1 .1 .1 .0)
-prepared c s u R m r e = subst (λ (p : Prepared). Prepares p s (y-of (c .before .before .before .before .before .before .before .before .before .before .before .before .before .before .before .before .before .before .before)) (x-of (c .before .before .before .before .before .before .before .before .before .before .before .before .before .before .before .before .before .before .before)) u (c .prepare .last .1 .1 .1 .1 .1 .1 .1 .0)) e (c .prepare .ensures s u R m)
+prepared : (c : tie.After-prepare) (s : Session) (u : Expr) → Running s (c .before .before .before .before .before .before .before .before .before .before .before .before .before .before .before .before .before .args .l) (lent (c .before .before .before .before .before .before .before .before .before .before .before .before .before .before .before .before .before)) → exprMeant (c .before .before .before .before .before .before .before .before .before .before .before .before .before .before .before .before .before .args .text .now) (c .before .before .before .before .before .before .before .before .before .before .before .before .before .before .before .before .before .args .e) ≡ some u
+    → (r : Prepared) → c .prepare .result ≡ r → Prepares r s (y-of (c .before .before .before .before .before .before .before .before .before .before .before .before .before .before .before .before .before)) (x-of (c .before .before .before .before .before .before .before .before .before .before .before .before .before .before .before .before .before)) u (c .prepare .last .1 .1 .1 .1 .1 .1 .1 .0)
+prepared c s u R m r e = subst (λ (p : Prepared). Prepares p s (y-of (c .before .before .before .before .before .before .before .before .before .before .before .before .before .before .before .before .before)) (x-of (c .before .before .before .before .before .before .before .before .before .before .before .before .before .before .before .before .before)) u (c .prepare .last .1 .1 .1 .1 .1 .1 .1 .0)) e (c .prepare .ensures s u R m)
 
 prepare-requires : tie.Need-prepare-requires
-prepare-requires c κs = let P = c .before .before .before .before .before .before .before .before .before .before .before .before .before .before .before .before .before .before .pre in (P .0, (P .1 .0 .y-within, P .1 .0 .x-within, P .1 .0 .says, P .1 .1 .elements-size))
+prepare-requires c κs = let P = c .before .before .before .before .before .before .before .before .before .before .before .before .before .before .before .before .pre in (P .0, (P .1 .0 .y-within, P .1 .0 .x-within, P .1 .0 .says, omega (arith, length-replicate {A = ℕ} 32768 0)))
 
 enum-told : tie.Need-enum-told
 enum-told c = search needs
@@ -43,12 +48,15 @@ enum-told-2 c = search needs
 enum-known-p : tie.Need-enum-known-p
 enum-known-p c = search needs
 
+slice-aggregate-replace : tie.Need-slice-aggregate-replace
+slice-aggregate-replace c = search needs
+
 replace-requires : tie.Need-replace-requires
 replace-requires c κs =
-    let P = c .before .before .before .before .before .before .before .before .before .before .before .before .before .before .before .before .before .before .before .before .before .before .before .before .before .before .before .before .before .before .before .before .before .pre in
+    let P = c .before .before .before .before .before .before .before .before .before .before .before .before .before .before .before .before .before .before .before .before .before .before .before .before .before .before .before .before .before .pre in
     let W = P .1 .1 in (
-      record { session = P .0 .session; running = P .0 .running; copied = prepared (c .before .before .before .before .before .before .before .before .before .before .before .before .before .before) (P .0 .session) (P .1 .0 .says .expression) (P .0 .running) (P .1 .0 .says .meant) _ (c .before .before .before .before .before .before .before .before .before .before .p .given .1) .1 },
-      (P .1 .0, record { value-size = W .value-size; spare-size = W .spare-size; elements-size = omega (arith, W .elements-size, c .before .before .before .before .before .before .before .before .before .before .before .before .before .before .prepare .kept .1 .1 .1 .1 .1 .1 .1 .0); labels-size = W .labels-size }),
+      record { session = P .0 .session; running = P .0 .running; copied = prepared (c .before .before .before .before .before .before .before .before .before .before .before .before) (P .0 .session) (P .1 .0 .says .expression) (P .0 .running) (P .1 .0 .says .meant) _ (c .before .before .before .before .before .before .before .before .before .p .given .1) .1 },
+      (P .1 .0, W),
     )
 
 same-length : tie.Need-same-length
@@ -66,11 +74,11 @@ same-length-4 c = search needs
 same-length-5 : tie.Need-same-length-5
 same-length-5 c = search needs
 
+returns : tie.Need-returns
+returns c s u R m = is-denied s (foreach (y-of (c .before .before .before .before .before .before .before .before .before .before .before .before .before .before .before .before .before .before .before .before)) (x-of (c .before .before .before .before .before .before .before .before .before .before .before .before .before .before .before .before .before .before .before .before)) u) (prepared (c .before .before .before) s u R m _ (c .enum-told .given .1))
+
 same-length-6 : tie.Need-same-length-6
 same-length-6 c = search needs
-
-returns : tie.Need-returns
-returns c s u R m = is-denied s (foreach (y-of (c .before .before .before .before .before .before .before .before .before .before .before .before .before .before .before .before .before .before .before .before .before .before .before)) (x-of (c .before .before .before .before .before .before .before .before .before .before .before .before .before .before .before .before .before .before .before .before .before .before .before)) u) (prepared (c .before .before .before .before) s u R m _ (c .enum-told .given .1))
 
 same-length-7 : tie.Need-same-length-7
 same-length-7 c = search needs
@@ -84,14 +92,14 @@ same-length-9 c = search needs
 same-length-10 : tie.Need-same-length-10
 same-length-10 c = search needs
 
+returns-2 : tie.Need-returns-2
+returns-2 c s u R m = let p = prepared (c .before .before .before) s u R m _ (c .enum-told2 .given .1) in ends-without s (y-of (c .before .before .before .before .before .before .before .before .before .before .before .before .before .before .before .before .before .before .before .before)) (x-of (c .before .before .before .before .before .before .before .before .before .before .before .before .before .before .before .before .before .before .before .before)) u (p .0) (p .1)
+
 same-length-11 : tie.Need-same-length-11
 same-length-11 c = search needs
 
 same-length-12 : tie.Need-same-length-12
 same-length-12 c = search needs
-
-returns-2 : tie.Need-returns-2
-returns-2 c s u R m = let p = prepared (c .before .before .before .before) s u R m _ (c .enum-told2 .given .1) in ends-without s (y-of (c .before .before .before .before .before .before .before .before .before .before .before .before .before .before .before .before .before .before .before .before .before .before .before)) (x-of (c .before .before .before .before .before .before .before .before .before .before .before .before .before .before .before .before .before .before .before .before .before .before .before)) u (p .0) (p .1)
 
 same-length-13 : tie.Need-same-length-13
 same-length-13 c = search needs
@@ -108,51 +116,37 @@ same-length-16 c = search needs
 same-length-17 : tie.Need-same-length-17
 same-length-17 c = search needs
 
-same-length-18 : tie.Need-same-length-18
-same-length-18 c = search needs
-
-same-length-19 : tie.Need-same-length-19
-same-length-19 c = search needs
-
-same-length-20 : tie.Need-same-length-20
-same-length-20 c = search needs
-
-same-length-21 : tie.Need-same-length-21
-same-length-21 c = search needs
-
 returns-3 : tie.Need-returns-3
-returns-3 c s u R m = let p = prepared (c .before .before .before .before .before .before .before .before .before .before .before .before .before .before .before .before .before .before .before .before .before .before .before .before .before .before .before .before .before .before .before) s u R m _ (c .before .before .before .before .before .before .before .before .before .before .before .before .before .before .before .before .before .before .before .before .before .before .before .before .before .before .before .p .given .1) in c .before .before .before .before .before .before .before .before .before .before .before .before .before .before .before .before .replace .ensures s u R m (p .0) (p .1)
+returns-3 c s u R m = let p = prepared (c .before .before .before .before .before .before .before .before .before .before .before .before .before .before .before .before .before .before .before .before .before .before .before .before .before .before .before) s u R m _ (c .before .before .before .before .before .before .before .before .before .before .before .before .before .before .before .before .before .before .before .before .before .before .before .before .p .given .1) in c .before .before .before .before .before .before .before .before .before .before .before .before .before .before .replace .ensures s u R m (p .0) (p .1)
 
 pub foreach-spec : {M : Type 1} → statement M
 foreach-spec =
     tie.close
     (tie.spec
+    slice-aggregate-prepare
     prepare-requires
     enum-told
     enum-told-2
     enum-known-p
+    slice-aggregate-replace
     replace-requires
     same-length
     same-length-2
     same-length-3
     same-length-4
     same-length-5
-    same-length-6
     returns
+    same-length-6
     same-length-7
     same-length-8
     same-length-9
     same-length-10
+    returns-2
     same-length-11
     same-length-12
-    returns-2
     same-length-13
     same-length-14
     same-length-15
     same-length-16
     same-length-17
-    same-length-18
-    same-length-19
-    same-length-20
-    same-length-21
     returns-3)

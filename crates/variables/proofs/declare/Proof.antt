@@ -57,7 +57,7 @@ returns-2 c s pe pm sv sm st v R u W =
     let b = slices pe pm sv sm (a .locals .now) (a .local-marks .now) st in
     let n = neither (valueIn (s .locals) (a .name .now)) (valueIn (s .store .variables) (a .name .now)) u in
     subst (λ (k : Layout). Running (withLocals s (put (a .name .now) v (s .locals))) k (slices pe pm sv sm (E .last .0) (E .last .1 .1 .0) st)) (sym (c .with-locals .ensures))
-    (local-put s (a .l) b R (a .name .now) v (W .held .is-valid) (E .last .0) (E .last .1 .1 .0) (P .0 .0) _ (P .0 .1 .0)
+    (local-put s (a .l) b R (a .name .now) v (W .held .is-valid) (E .last .0) (E .last .1 .1 .0) (P .0 .0) _ (P .0 .1 .0) (E .kept .0)
     (put-done (s .locals) (put (a .name .now) v (s .locals)) (a .l .weight) (E .result) (E .last .0) _ (E .last .1 .1 .0) (E .ensures (s .locals) v (locals-lie s (a .l) b R) n W) (P .0 .0) (P .0 .1 .0) (P .1)))
 
 pub declare-spec : {M : Type 1} → statement M

@@ -29,29 +29,29 @@ session-runs c s R = let a = c .args in scoped s (a .l) (slices (a .people .now)
 session-sends : (c : tie.Start) (s : Session) → let a = c .args in Running s (a .l) (slices (a .people .now) (a .people-marks .now) (a .vars .now) (a .var-marks .now) (a .locals .now) (a .local-marks .now) (a .standing .now)) → Sending s (a .l) (a .vars .now) (a .var-marks .now) (a .standing .now)
 session-sends c s R = let a = c .args in sending s (a .l) (slices (a .people .now) (a .people-marks .now) (a .vars .now) (a .var-marks .now) (a .locals .now) (a .local-marks .now) (a .standing .now)) R
 
-judged : (c : tie.After-may-use) (s : Session) (y : Syntax.Expr) → let a = c .before .before .before .before .before .before .before .before .before .before .before .before .before .before .before .args in Running s (a .l) (slices (a .people .now) (a .people-marks .now) (a .vars .now) (a .var-marks .now) (a .locals .now) (a .local-marks .now) (a .standing .now)) → exprMeant (a .text .now) (a .e) ≡ some y
+judged : (c : tie.After-may-use) (s : Session) (y : Syntax.Expr) → let a = c .before .before .before .before .before .before .before .before .before .before .before .before .before .before .args in Running s (a .l) (slices (a .people .now) (a .people-marks .now) (a .vars .now) (a .var-marks .now) (a .locals .now) (a .local-marks .now) (a .standing .now)) → exprMeant (a .text .now) (a .e) ≡ some y
     → denied s (Syntax.set (part (a .text .now) (a .x)) y) ≡ not (c .may-use .result)
-judged c s y R m = let a = c .before .before .before .before .before .before .before .before .before .before .before .before .before .before .before .args in denied-set s (part (a .text .now) (a .x)) y (c .may-use .result) (c .may-use .ensures s y write (session-sends (c .before .before .before .before .before .before .before .before .before .before .before .before .before .before .before) s R) m refl)
+judged c s y R m = let a = c .before .before .before .before .before .before .before .before .before .before .before .before .before .before .args in denied-set s (part (a .text .now) (a .x)) y (c .may-use .result) (c .may-use .ensures s y write (session-sends (c .before .before .before .before .before .before .before .before .before .before .before .before .before .before) s R) m refl)
 
-permitted : (c : tie.Else1) (s : Session) (y : Syntax.Expr) → let a = c .before .before .before .before .before .before .before .before .before .before .before .before .before .before .before .before .args in Running s (a .l) (slices (a .people .now) (a .people-marks .now) (a .vars .now) (a .var-marks .now) (a .locals .now) (a .local-marks .now) (a .standing .now)) → exprMeant (a .text .now) (a .e) ≡ some y
+permitted : (c : tie.Else1) (s : Session) (y : Syntax.Expr) → let a = c .before .before .before .before .before .before .before .before .before .before .before .before .before .before .before .args in Running s (a .l) (slices (a .people .now) (a .people-marks .now) (a .vars .now) (a .var-marks .now) (a .locals .now) (a .local-marks .now) (a .standing .now)) → exprMeant (a .text .now) (a .e) ≡ some y
     → denied s (Syntax.set (part (a .text .now) (a .x)) y) ≡ false
 permitted c s y R m = judged (c .before) s y R m ∙ c .if1 .left
 
-valued : (c : tie.After-worth) (s : Session) (y : Syntax.Expr) → let a = c .before .before .before .before .before .before .before .before .before .before .before .before .before .before .before .before .before .before .before .before .before .before .before .args in Running s (a .l) (slices (a .people .now) (a .people-marks .now) (a .vars .now) (a .var-marks .now) (a .locals .now) (a .local-marks .now) (a .standing .now)) → exprMeant (a .text .now) (a .e) ≡ some y
+valued : (c : tie.After-worth) (s : Session) (y : Syntax.Expr) → let a = c .before .before .before .before .before .before .before .before .before .before .before .before .before .before .before .before .before .before .before .before .before .before .args in Running s (a .l) (slices (a .people .now) (a .people-marks .now) (a .vars .now) (a .var-marks .now) (a .locals .now) (a .local-marks .now) (a .standing .now)) → exprMeant (a .text .now) (a .e) ≡ some y
     → Valued (c .worth .result) (value s y) (c .worth .last .1 .1 .1 .1 .1 .1 .1 .0)
-valued c s y R m = c .worth .ensures s y (session-runs (c .before .before .before .before .before .before .before .before .before .before .before .before .before .before .before .before .before .before .before .before .before .before .before) s R) m
+valued c s y R m = c .worth .ensures s y (session-runs (c .before .before .before .before .before .before .before .before .before .before .before .before .before .before .before .before .before .before .before .before .before .before) s R) m
 
-of-value : (c : tie.After-v) (s : Session) (y : Syntax.Expr) → let a = c .before .before .before .before .before .before .before .before .before .before .before .before .before .before .before .before .before .before .before .before .before .before .before .before .before .before .before .before .before .args in Running s (a .l) (slices (a .people .now) (a .people-marks .now) (a .vars .now) (a .var-marks .now) (a .locals .now) (a .local-marks .now) (a .standing .now)) → exprMeant (a .text .now) (a .e) ≡ some y
+of-value : (c : tie.After-v) (s : Session) (y : Syntax.Expr) → let a = c .before .before .before .before .before .before .before .before .before .before .before .before .before .before .before .before .before .before .before .before .before .before .before .before .before .before .before .before .args in Running s (a .l) (slices (a .people .now) (a .people-marks .now) (a .vars .now) (a .var-marks .now) (a .locals .now) (a .local-marks .now) (a .standing .now)) → exprMeant (a .text .now) (a .e) ≡ some y
     → Written (value s y) (c .before .before .before .before .before .before .worth .last .1 .1 .1 .1 .1 .1 .1 .0) (c .v .given .0 .0) (c .v .given .0 .1 .0)
 of-value c s y R m = written (value s y) (c .before .before .before .before .before .before .worth .last .1 .1 .1 .1 .1 .1 .1 .0) (c .before .before .before .before .before .before .worth .result) (valued (c .before .before .before .before .before .before) s y R m) (c .v .given .0 .0) (c .v .given .0 .1 .0) (c .v .given .1)
 
-its-value : (c : tie.After-v) → let S = c .before .before .before .before .before .before .before .before .before .before .before .before .before .before .before .before .before .before .before .before .before .before .before .before .before .before .before .before .before .pre .0 in let X = c .before .before .before .before .before .before .before .before .before .before .before .before .before .before .before .before .before .before .before .before .before .before .before .before .before .before .before .before .before .pre .1 .0 .said .expression in Written (value (S .session) (X .expression)) (c .before .before .before .before .before .before .worth .last .1 .1 .1 .1 .1 .1 .1 .0) (c .v .given .0 .0) (c .v .given .0 .1 .0)
-its-value c = of-value c (c .before .before .before .before .before .before .before .before .before .before .before .before .before .before .before .before .before .before .before .before .before .before .before .before .before .before .before .before .before .pre .0 .session) (c .before .before .before .before .before .before .before .before .before .before .before .before .before .before .before .before .before .before .before .before .before .before .before .before .before .before .before .before .before .pre .1 .0 .said .expression .expression) (c .before .before .before .before .before .before .before .before .before .before .before .before .before .before .before .before .before .before .before .before .before .before .before .before .before .before .before .before .before .pre .0 .running) (c .before .before .before .before .before .before .before .before .before .before .before .before .before .before .before .before .before .before .before .before .before .before .before .before .before .before .before .before .before .pre .1 .0 .said .expression .meant)
+its-value : (c : tie.After-v) → let S = c .before .before .before .before .before .before .before .before .before .before .before .before .before .before .before .before .before .before .before .before .before .before .before .before .before .before .before .before .pre .0 in let X = c .before .before .before .before .before .before .before .before .before .before .before .before .before .before .before .before .before .before .before .before .before .before .before .before .before .before .before .before .pre .1 .0 .said .expression in Written (value (S .session) (X .expression)) (c .before .before .before .before .before .before .worth .last .1 .1 .1 .1 .1 .1 .1 .0) (c .v .given .0 .0) (c .v .given .0 .1 .0)
+its-value c = of-value c (c .before .before .before .before .before .before .before .before .before .before .before .before .before .before .before .before .before .before .before .before .before .before .before .before .before .before .before .before .pre .0 .session) (c .before .before .before .before .before .before .before .before .before .before .before .before .before .before .before .before .before .before .before .before .before .before .before .before .before .before .before .before .pre .1 .0 .said .expression .expression) (c .before .before .before .before .before .before .before .before .before .before .before .before .before .before .before .before .before .before .before .before .before .before .before .before .before .before .before .before .pre .0 .running) (c .before .before .before .before .before .before .before .before .before .before .before .before .before .before .before .before .before .before .before .before .before .before .before .before .before .before .before .before .pre .1 .0 .said .expression .meant)
 
 may-use-requires : tie.Need-may-use-requires
 may-use-requires c κs =
-    let S = c .before .before .before .before .before .before .before .before .before .before .before .before .before .before .pre .0 in
-    (record { session = S .session; sending = session-sends (c .before .before .before .before .before .before .before .before .before .before .before .before .before .before) (S .session) (S .running) }, c .before .before .before .before .before .before .before .before .before .before .before .before .before .before .pre .1 .0 .said, c .before .before .before .before .before .before .before .before .before .before .before .before .before .before .pre .1 .0 .within)
+    let S = c .before .before .before .before .before .before .before .before .before .before .before .before .before .pre .0 in
+    (record { session = S .session; sending = session-sends (c .before .before .before .before .before .before .before .before .before .before .before .before .before) (S .session) (S .running) }, c .before .before .before .before .before .before .before .before .before .before .before .before .before .pre .1 .0 .said, c .before .before .before .before .before .before .before .before .before .before .before .before .before .pre .1 .0 .within)
 
 same-length : tie.Need-same-length
 same-length c = search needs
@@ -63,37 +63,37 @@ same-length-3 : tie.Need-same-length-3
 same-length-3 c = search needs
 
 returns : tie.Need-returns
-returns c s y R m = let a = c .before .before .before .before .before .before .before .before .before .before .before .before .before .before .before .before .args in is-denied s (Syntax.set (part (a .text .now) (a .x)) y) (judged (c .before) s y R m ∙ c .if1 .taken)
+returns c s y R m = let a = c .before .before .before .before .before .before .before .before .before .before .before .before .before .before .before .args in is-denied s (Syntax.set (part (a .text .now) (a .x)) y) (judged (c .before) s y R m ∙ c .if1 .taken)
 
 worth-requires : tie.Need-worth-requires
 worth-requires c κs =
-    let a = c .before .before .before .before .before .before .before .before .before .before .before .before .before .before .before .before .before .before .before .before .before .before .args in
-    let S = c .before .before .before .before .before .before .before .before .before .before .before .before .before .before .before .before .before .before .before .before .before .before .pre .0 in
-    (record { session = S .session; scoped = session-runs (c .before .before .before .before .before .before .before .before .before .before .before .before .before .before .before .before .before .before .before .before .before .before) (S .session) (S .running) }, c .before .before .before .before .before .before .before .before .before .before .before .before .before .before .before .before .before .before .before .before .before .before .pre .1 .0 .said, lent (a .value .now) (a .labels .now) (c .before .before .before .before .before .before .before .before .before .before .before .before .before .before .before .before .before .before .before .before .before .before .pre .1 .1 .value-size) (c .before .before .before .before .before .before .before .before .before .before .before .before .before .before .before .before .before .before .before .before .before .before .pre .1 .1 .labels-size))
+    let a = c .before .before .before .before .before .before .before .before .before .before .before .before .before .before .before .before .before .before .before .before .before .args in
+    let S = c .before .before .before .before .before .before .before .before .before .before .before .before .before .before .before .before .before .before .before .before .before .pre .0 in
+    (record { session = S .session; scoped = session-runs (c .before .before .before .before .before .before .before .before .before .before .before .before .before .before .before .before .before .before .before .before .before) (S .session) (S .running) }, c .before .before .before .before .before .before .before .before .before .before .before .before .before .before .before .before .before .before .before .before .before .pre .1 .0 .said, lent (a .value .now) (a .labels .now) (c .before .before .before .before .before .before .before .before .before .before .before .before .before .before .before .before .before .before .before .before .before .pre .1 .1 .value-size) (c .before .before .before .before .before .before .before .before .before .before .before .before .before .before .before .before .before .before .before .before .before .pre .1 .1 .labels-size))
 
 enum-known-v : tie.Need-enum-known-v
 enum-known-v c = search needs
 
 sub-assign : tie.Need-sub-assign
-sub-assign c = let w = c .before .before .before .before .before .before .before .before .before .before .before .before .before .before .before .before .before .before .before .before .before .before .before .before .before .before .before .before .before .before .before .before .before .before .before .before .pre .1 .0 .within in omega (arith, w .0, w .1)
+sub-assign c = let w = c .before .before .before .before .before .before .before .before .before .before .before .before .before .before .before .before .before .before .before .before .before .before .before .before .before .before .before .before .before .before .before .before .before .before .pre .1 .0 .within in omega (arith, w .0, w .1)
 
 part-assign-start : tie.Need-part-assign-start
-part-assign-start c = let w = c .before .before .before .before .before .before .before .before .before .before .before .before .before .before .before .before .before .before .before .before .before .before .before .before .before .before .before .before .before .before .before .before .before .before .before .before .pre .1 .0 .within in omega (arith, w .0, w .1)
+part-assign-start c = let w = c .before .before .before .before .before .before .before .before .before .before .before .before .before .before .before .before .before .before .before .before .before .before .before .before .before .before .before .before .before .before .before .before .before .before .pre .1 .0 .within in omega (arith, w .0, w .1)
 
 part-assign-end : tie.Need-part-assign-end
-part-assign-end c = let w = c .before .before .before .before .before .before .before .before .before .before .before .before .before .before .before .before .before .before .before .before .before .before .before .before .before .before .before .before .before .before .before .before .before .before .before .before .pre .1 .0 .within in omega (arith, w .0, w .1)
+part-assign-end c = let w = c .before .before .before .before .before .before .before .before .before .before .before .before .before .before .before .before .before .before .before .before .before .before .before .before .before .before .before .before .before .before .before .before .before .before .pre .1 .0 .within in omega (arith, w .0, w .1)
 
 slice-reshare-prefix-assign : tie.Need-slice-reshare-prefix-assign
-slice-reshare-prefix-assign c = its-value (c .before .before .before .before .before .before .before .before) .within
+slice-reshare-prefix-assign c = its-value (c .before .before .before .before .before .before .before) .within
 
 slice-aggregate-assign : tie.Need-slice-aggregate-assign
-slice-aggregate-assign c = sym (length-take-le _ _ (its-value (c .before .before .before .before .before .before .before .before .before) .within))
+slice-aggregate-assign c = sym (length-take-le _ _ (its-value (c .before .before .before .before .before .before .before .before) .within))
 
 assign-requires : tie.Need-assign-requires
 assign-requires c κs =
-    let a = c .before .before .before .before .before .before .before .before .before .before .before .before .before .before .before .before .before .before .before .before .before .before .before .before .before .before .before .before .before .before .before .before .before .before .before .before .before .before .args in
-    let H = its-value (c .before .before .before .before .before .before .before .before .before) in
-    (c .before .before .before .before .before .before .before .before .before .before .before .before .before .before .before .before .before .before .before .before .before .before .before .before .before .before .before .before .before .before .before .before .before .before .before .before .before .before .pre .0, (identifier-name (part (a .text .now) (a .x)) (c .before .before .before .before .before .before .before .before .before .before .before .before .before .before .before .before .before .before .before .before .before .before .before .before .before .before .before .before .before .before .before .before .before .before .before .before .before .before .pre .1 .0 .is-name), record { value = H .value; is-value = weighed H }, c .before .before .before .before .before .before .before .before .before .before .before .before .before .before .before .before .before .before .before .before .before .before .before .before .before .before .before .before .before .before .before .before .before .before .before .before .before .before .pre .1 .1 .spare-size))
+    let a = c .before .before .before .before .before .before .before .before .before .before .before .before .before .before .before .before .before .before .before .before .before .before .before .before .before .before .before .before .before .before .before .before .before .before .before .before .args in
+    let H = its-value (c .before .before .before .before .before .before .before .before) in
+    (c .before .before .before .before .before .before .before .before .before .before .before .before .before .before .before .before .before .before .before .before .before .before .before .before .before .before .before .before .before .before .before .before .before .before .before .before .pre .0, (identifier-name (part (a .text .now) (a .x)) (c .before .before .before .before .before .before .before .before .before .before .before .before .before .before .before .before .before .before .before .before .before .before .before .before .before .before .before .before .before .before .before .before .before .before .before .before .pre .1 .0 .is-name), record { value = H .value; is-value = weighed H }))
 
 verdict-requires : tie.Need-verdict-requires
 verdict-requires c κs = search needs
@@ -125,17 +125,17 @@ same-length-9 c = search needs
 same-length-10 : tie.Need-same-length-10
 same-length-10 c = search needs
 
-same-length-11 : tie.Need-same-length-11
-same-length-11 c = search needs
-
 returns-2 : tie.Need-returns-2
 returns-2 c s y R m =
-    let a = c .before .before .before .before .before .before .before .before .before .before .before .before .before .before .before .before .before .before .before .before .before .before .before .before .before .before .before .before .before .before .before .before .before .before .before .before .before .before .before .before .before .before .before .before .before .before .before .before .before .before .before .before .args in
+    let a = c .before .before .before .before .before .before .before .before .before .before .before .before .before .before .before .before .before .before .before .before .before .before .before .before .before .before .before .before .before .before .before .before .before .before .before .before .before .before .before .before .before .before .before .before .before .before .before .before .args in
     let x = part (a .text .now) (a .x) in
-    let H = of-value (c .before .before .before .before .before .before .before .before .before .before .before .before .before .before .before .before .before .before .before .before .before .before .before) s y R m in
-    let A = c .before .before .before .before .before .before .before .before .before .before .before .before .before .assign in
-    ends s (Syntax.set x y) (setEffect s x y (H .value)) (H .value) (permitted (c .before .before .before .before .before .before .before .before .before .before .before .before .before .before .before .before .before .before .before .before .before .before .before .before .before .before .before .before .before .before .before .before .before .before .before .before) s y R m) (set-effect s x y (H .value) (H .is-value)) refl (A .result) (c .verdict .result) _
+    let H = of-value (c .before .before .before .before .before .before .before .before .before .before .before .before .before .before .before .before .before .before .before .before) s y R m in
+    let A = c .before .before .before .before .before .before .before .before .before .before .before .assign in
+    ends s (Syntax.set x y) (setEffect s x y (H .value)) (H .value) (permitted (c .before .before .before .before .before .before .before .before .before .before .before .before .before .before .before .before .before .before .before .before .before .before .before .before .before .before .before .before .before .before .before .before .before) s y R m) (set-effect s x y (H .value) (H .is-value)) refl (A .result) (c .verdict .result) _
     (c .verdict .ensures) (omega (arith, H .weighs, H .light)) (A .ensures s (H .value) R (weighed H))
+
+same-length-11 : tie.Need-same-length-11
+same-length-11 c = search needs
 
 same-length-12 : tie.Need-same-length-12
 same-length-12 c = search needs
@@ -155,15 +155,15 @@ same-length-16 c = search needs
 same-length-17 : tie.Need-same-length-17
 same-length-17 c = search needs
 
-same-length-18 : tie.Need-same-length-18
-same-length-18 c = search needs
-
 returns-3 : tie.Need-returns-3
 returns-3 c s y R m =
-    let a = c .before .before .before .before .before .before .before .before .before .before .before .before .before .before .before .before .before .before .before .before .before .before .before .before .before .before .before .before .before .args in
+    let a = c .before .before .before .before .before .before .before .before .before .before .before .before .before .before .before .before .before .before .before .before .before .before .before .before .before .before .before .before .args in
     let x = part (a .text .now) (a .x) in
     is-failed s (Syntax.set x y) (permitted (c .before .before .before .before .before .before .before .before .before .before .before .before .before) s y R m)
     (set-none s x y (not-written (value s y) _ (c .before .before .before .before .before .before .worth .result) (valued (c .before .before .before .before .before .before) s y R m) (c .enum-told .given .1)))
+
+same-length-18 : tie.Need-same-length-18
+same-length-18 c = search needs
 
 same-length-19 : tie.Need-same-length-19
 same-length-19 c = search needs
@@ -183,12 +183,9 @@ same-length-23 c = search needs
 same-length-24 : tie.Need-same-length-24
 same-length-24 c = search needs
 
-same-length-25 : tie.Need-same-length-25
-same-length-25 c = search needs
-
 returns-4 : tie.Need-returns-4
 returns-4 c s y R m =
-    let a = c .before .before .before .before .before .before .before .before .before .before .before .before .before .before .before .before .before .before .before .before .before .before .before .before .before .before .before .before .before .args in
+    let a = c .before .before .before .before .before .before .before .before .before .before .before .before .before .before .before .before .before .before .before .before .before .before .before .before .before .before .before .before .args in
     let x = part (a .text .now) (a .x) in
     let H = too-heavy (value s y) _ (c .before .before .before .before .before .before .worth .result) (valued (c .before .before .before .before .before .before) s y R m) (c .enum-told2 .given .1) in
     value-full s (Syntax.set x y) (setEffect s x y (H .value)) (H .value) (permitted (c .before .before .before .before .before .before .before .before .before .before .before .before .before) s y R m) (set-effect s x y (H .value) (H .is-value)) refl (H .heavy)
@@ -220,21 +217,20 @@ set-spec =
     same-length-8
     same-length-9
     same-length-10
-    same-length-11
     returns-2
+    same-length-11
     same-length-12
     same-length-13
     same-length-14
     same-length-15
     same-length-16
     same-length-17
-    same-length-18
     returns-3
+    same-length-18
     same-length-19
     same-length-20
     same-length-21
     same-length-22
     same-length-23
     same-length-24
-    same-length-25
     returns-4)

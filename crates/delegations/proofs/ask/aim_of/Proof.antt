@@ -1,8 +1,8 @@
 use mathlib.Core.Path.{sym, ap, subst, _∙_}
 use native.Mathlib.Omega.{arith}
 use Rattle.text.specs.Meaning.{Within}
-use Rattle.syntax.specs.declared.form.Target.{Target}
-use Rattle.syntax.specs.Forms.{targetMeant, TargetWithin}
+use Rattle.commands.specs.declared.form.Target.{Target}
+use Rattle.commands.specs.Forms.{targetMeant, TargetWithin}
 use Rattle.store.specs.Rows.{rowNames}
 use Rattle.delegations.specs.declared.ask.Aim.the-variants.{One}
 use Rattle.delegations.specs.Asking.{aimOf}

@@ -1,4 +1,4 @@
-use mathlib.Core.Path.{sym, ap, _∙_}
+use mathlib.Core.Path.{sym, ap, subst, _∙_}
 use mathlib.Core.List.{[], _∷_, map}
 use Prim.Native.Nat.{ℕ, _≤_}
 use native.Mathlib.Omega.{arith}
@@ -11,6 +11,8 @@ use Rattle.store.specs.Rows.{position}
 use Rattle.numbers.specs.Numbers.{variables}
 use Rattle.delegations.proofs.Fitting.{few, counted}
 use Rattle.delegations.proofs.Denials.{aim-every, aim-only}
+use Rattle.delegations.specs.declared.ask.Aim.the-variants.{One}
+use Rattle.delegations.specs.Asking.{Few}
 use borrow.Author.Needs.{needs}
 use Rattle.delegations.proofs.ask.choose.Statement.{statement}
 use Rattle.delegations.proofs.ask.choose.Tie as tie
@@ -27,6 +29,11 @@ collect-requires c κs =
 
 enum-known-aim : tie.Need-enum-known-aim
 enum-known-aim c = search needs
+
+cast-chosen : tie.Need-cast-chosen
+cast-chosen c =
+    let h : Few (One (c .before .aim .given .0 .0)) = subst Few (c .before .aim .given .1) (c .before .before .before .before .before .pre .2) in
+    omega (arith, h)
 
 slice-write-chosen : tie.Need-slice-write-chosen
 slice-write-chosen c = omega (arith, c .before .before .before .before .before .pre .1)
@@ -67,6 +74,7 @@ choose-spec =
     enum-told
     collect-requires
     enum-known-aim
+    cast-chosen
     slice-write-chosen
     same-length
     returns

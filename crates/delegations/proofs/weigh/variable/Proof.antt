@@ -1,6 +1,6 @@
 use native.Mathlib.Omega.{arith}
 use Rattle.store.proofs.Passwords.{lies}
-use Rattle.delegations.proofs.Weighing.{rows-from-start, some-from-start}
+use Rattle.delegations.proofs.FromStart.{rows-from-start, some-from-start}
 use borrow.Author.Needs.{needs}
 use Rattle.delegations.proofs.weigh.variable.Statement.{statement}
 use Rattle.delegations.proofs.weigh.variable.Tie as tie

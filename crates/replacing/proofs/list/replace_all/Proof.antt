@@ -1,6 +1,6 @@
 -- `replacing::list::replace_all` meets its contract. The invariant: the elements before `at` are replaced, and the others stand from there on. The measure is what is left of the list's text.
 -- Assumes nothing.
-use mathlib.Core.Path.{_≡_, refl, subst}
+use mathlib.Core.Path.{_≡_, refl, subst, _∙_}
 use Prim.Native.Nat.{_-_, _≤_}
 use native.Mathlib.Omega.{arith}
 use borrow.Author.Needs.{needs}
@@ -135,11 +135,12 @@ turn-requires c κs =
     let P = c .before .before .before .before .before .before .before .before .before .before .before .before .before .before .before .before .before .before .before .before .before .before .before .before .pre in
     let L = c .before .before .before .before .before .before .before .before .before .loop in
     let N = first (c .before .before .before .before .before .before) in (
-      still (P .0) (L .locals) (L .lmarks) (L .inv .2 (P .0 .session) (P .0 .says .expression) (P .0 .turning)) (L .inv .4) (L .inv .5),
+      still (P .0) (L .locals) (L .lmarks) (L .inv .2 (P .0 .session) (P .0 .says .expression) (P .0 .turning)) (L .inv .5),
       (
         (
           record { element = N .element; held = N .taken .held },
           part-length (c .before .before .before .before .before .before .before .before .before .before .before .before .before .before .before .before .before .before .before .before .before .before .before .before .args .elements .now) (c .before .before .before .before .before .before .next .given .0 .0) (P .1 .0 .1),
+          L .inv .4 ∙ P .1 .0 .2,
         ),
         L .inv .0,
       ),

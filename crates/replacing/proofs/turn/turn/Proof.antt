@@ -32,7 +32,7 @@ held : (c : tie.After-add-variable) (s : Session) (x : Expr) (a : Element) → T
 held c s x a I h = c .add-variable .ensures .1 .1 (s .locals) (single a) (I .scope .locals-held) (c .before .before .before .before .before .before .before .before .before .before .before .before .pre .0 .y-named) (h .is-text)
 
 short : (c : tie.After-add-variable) → c .before .before .before .before .before .before .before .before .before .before .before .before .args .len ≤ length (c .before .before .before .before .before .before .before .before .before .before .before .before .args .locals .now)
-short c = omega (arith, c .before .before .before .before .before .before .before .before .before .before .before .before .pre .0 .locals-size, c .before .before .before .before .before .before .before .before .before .before .before .before .pre .0 .locals-short)
+short c = omega (arith, c .before .before .before .before .before .before .before .before .before .before .before .before .pre .1 .0 .2, c .before .before .before .before .before .before .before .before .before .before .before .before .pre .0 .locals-short)
 
 longer : (c : tie.After-add-variable) → c .before .before .before .before .before .before .before .before .before .before .before .before .args .len ≤ c .add-variable .result
 longer c = omega (arith, c .add-variable .ensures .0)
@@ -57,7 +57,7 @@ add-variable-requires : tie.Need-add-variable-requires
 add-variable-requires c κs =
     let P = c .before .before .before .before .before .before .before .before .before .before .before .pre in
     let n = name-length (part (c .before .before .before .before .before .before .before .before .before .before .before .args .text .now) (c .before .before .before .before .before .before .before .before .before .before .before .args .y)) (P .0 .y-named) in
-    (omega (arith, P .0 .locals-size), omega (arith, P .0 .locals-size, P .0 .locals-short, P .1 .0 .1, n .1), P .0 .marks-room)
+    (omega (arith, P .1 .0 .2), omega (arith, P .1 .0 .2, P .0 .locals-short, P .1 .0 .1, n .1), P .0 .marks-room)
 
 slice-reshare-prefix-value : tie.Need-slice-reshare-prefix-value
 slice-reshare-prefix-value c = search needs

@@ -1,8 +1,10 @@
 -- `saving::number::name_of` meets its contract. The name stands after the letter and a tab.
 -- Assumes nothing.
+use mathlib.Core.Path.{refl}
+use Prim.Native.Nat.{_+_}
 use native.Mathlib.Omega.{arith}
 use Rattle.store.proofs.Passwords.{Lies, lies}
-use Rattle.saving.proofs.Meant.{name-there}
+use Rattle.store.proofs.NameWeights.{name-is}
 use borrow.Author.Needs.{needs}
 use Rattle.saving.proofs.number.name_of.Statement.{statement}
 use Rattle.saving.proofs.number.name_of.Tie as tie
@@ -32,7 +34,8 @@ returns : tie.Need-returns
 returns c rows H =
     let s = c .before .before .before .before .before in
     let a = s .args in
-    name-there rows (a .text .now) (a .count) (a .marks .now) H (a .number) (s .pre .1) (c .before .before .nth .result) (c .before .before .nth .ensures rows H)
+    let n = c .before .before .nth in
+    name-is rows (a .text .now) (a .count) (a .marks .now) H (a .number) (s .pre .1) (n .result) (n .ensures rows H) (n .result .start + 2) refl
 
 pub name-of-spec : {M : Type 1} → statement M
 name-of-spec =

@@ -17,23 +17,23 @@ use borrow.Author.Needs.{needs}
 use Rattle.variables.proofs.assignment.assign.Statement.{statement}
 use Rattle.variables.proofs.assignment.assign.Tie as tie
 
-looked-up : (c : tie.After-find) → let a = c .before .before .before .before .before .before .before .before .before .before .before .before .before .args in (s : Session)
+looked-up : (c : tie.After-find) → let a = c .before .before .before .before .before .before .before .before .before .before .before .before .args in (s : Session)
     → Running s (a .l) (slices (a .people .now) (a .people-marks .now) (a .vars .now) (a .var-marks .now) (a .locals .now) (a .local-marks .now) (a .standing .now))
     → c .find .result ≡ place (map variableRow (s .locals)) (a .name .now)
 looked-up c s R =
-    let a = c .before .before .before .before .before .before .before .before .before .before .before .before .before .args in
+    let a = c .before .before .before .before .before .before .before .before .before .before .before .before .args in
     c .find .ensures (map variableRow (s .locals)) (variables-rows (s .locals) (take (a .l .«locals_len») (a .locals .now)) (a .l .locals) (a .local-marks .now) (R .local-variables))
 
 slice-reshare-prefix-find : tie.Need-slice-reshare-prefix-find
 slice-reshare-prefix-find c = search needs
 
 slice-aggregate-find : tie.Need-slice-aggregate-find
-slice-aggregate-find c = sym (length-take-le _ _ (c .before .before .before .before .before .before .before .before .before .before .before .pre .0 .running .locals-within))
+slice-aggregate-find c = sym (length-take-le _ _ (c .before .before .before .before .before .before .before .before .before .before .pre .0 .running .locals-within))
 
 find-requires : tie.Need-find-requires
 find-requires c κs =
-    let a = c .before .before .before .before .before .before .before .before .before .before .before .before .args in
-    let S = c .before .before .before .before .before .before .before .before .before .before .before .before .pre .0 in
+    let a = c .before .before .before .before .before .before .before .before .before .before .before .args in
+    let S = c .before .before .before .before .before .before .before .before .before .before .before .pre .0 in
     some-variables (S .session .locals) (take (a .l .«locals_len») (a .locals .now)) (a .l .locals) (a .local-marks .now) (S .running .local-variables)
 
 enum-known-found : tie.Need-enum-known-found
@@ -44,9 +44,9 @@ enum-told c = search needs
 
 assign-shared-requires : tie.Need-assign-shared-requires
 assign-shared-requires c κs =
-    let a = c .before .before .before .before .before .before .before .before .before .before .before .before .before .before .before .before .before .before .before .args in
-    let S = c .before .before .before .before .before .before .before .before .before .before .before .before .before .before .before .before .before .before .before .pre .0 in
-    (record { session = S .session; locals = a .locals .now; local-marks = a .local-marks .now; running = S .running }, c .before .before .before .before .before .before .before .before .before .before .before .before .before .before .before .before .before .before .before .pre .1 .0, c .before .before .before .before .before .before .before .before .before .before .before .before .before .before .before .before .before .before .before .pre .1 .1, c .before .before .before .before .before .before .before .before .before .before .before .before .before .before .before .before .before .before .before .pre .1 .2)
+    let a = c .before .before .before .before .before .before .before .before .before .before .before .before .before .before .before .before .before .args in
+    let S = c .before .before .before .before .before .before .before .before .before .before .before .before .before .before .before .before .before .pre .0 in
+    (record { session = S .session; locals = a .locals .now; local-marks = a .local-marks .now; running = S .running }, c .before .before .before .before .before .before .before .before .before .before .before .before .before .before .before .before .before .pre .1 .0, c .before .before .before .before .before .before .before .before .before .before .before .before .before .before .before .before .before .pre .1 .1)
 
 same-length : tie.Need-same-length
 same-length c = search needs
@@ -63,34 +63,30 @@ same-length-4 c = search needs
 same-length-5 : tie.Need-same-length-5
 same-length-5 c = search needs
 
-same-length-6 : tie.Need-same-length-6
-same-length-6 c = search needs
-
 returns : tie.Need-returns
 returns c s v R W =
-    let a = c .before .before .before .before .before .before .before .before .before .before .before .before .before .before .before .before .before .before .before .before .before .before .before .before .before .before .before .before .args in
-    c .before .before .before .before .before .before .before .before .assign-shared .ensures s (a .locals .now) (a .local-marks .now) v R
-    (not-there (s .locals) (take (a .l .«locals_len») (a .locals .now)) (a .l .locals) (a .local-marks .now) (R .local-variables) (a .name .now) (c .before .before .before .before .before .before .before .before .before .before .before .before .before .before .before .find .result) (looked-up (c .before .before .before .before .before .before .before .before .before .before .before .before .before .before .before) s R)
-    (c .before .before .before .before .before .before .before .before .before .before .before .before .before .enum-told .given .1)) W
+    let a = c .before .before .before .before .before .before .before .before .before .before .before .before .before .before .before .before .before .before .before .before .before .before .before .before .args in
+    c .before .before .before .before .before .before .assign-shared .ensures s (a .locals .now) (a .local-marks .now) v R
+    (not-there (s .locals) (take (a .l .«locals_len») (a .locals .now)) (a .l .locals) (a .local-marks .now) (R .local-variables) (a .name .now) (c .before .before .before .before .before .before .before .before .before .before .before .before .find .result) (looked-up (c .before .before .before .before .before .before .before .before .before .before .before .before) s R)
+    (c .before .before .before .before .before .before .before .before .before .before .enum-told .given .1)) W
 
 replace-requires : tie.Need-replace-requires
 replace-requires c κs =
-    let a = c .before .before .before .before .before .before .before .before .before .before .before .before .before .before .before .before .before .before .before .args in
-    let S = c .before .before .before .before .before .before .before .before .before .before .before .before .before .before .before .before .before .before .before .pre .0 in
+    let a = c .before .before .before .before .before .before .before .before .before .before .before .before .before .before .before .before .before .args in
+    let S = c .before .before .before .before .before .before .before .before .before .before .before .before .before .before .before .before .before .pre .0 in
     let b = slices (a .people .now) (a .people-marks .now) (a .vars .now) (a .var-marks .now) (a .locals .now) (a .local-marks .now) (a .standing .now) in
-    let f = c .before .before .before .before .found .given in
-    let q = looked-up (c .before .before .before .before .before .before) (S .session) (S .running) in
+    let f = c .before .before .before .found .given in
+    let q = looked-up (c .before .before .before .before .before) (S .session) (S .running) in
     let t = take (a .l .«locals_len») (a .locals .now) in (
       record {
         variables = S .session .locals;
         name = a .name .now;
         lies = locals-lie (S .session) (a .l) b (S .running);
-        below = there-below (S .session .locals) t (a .l .locals) (a .local-marks .now) (S .running .local-variables) (a .name .now) (c .before .before .before .before .before .before .find .result) q (f .0 .0) (f .0 .1 .0) (f .0 .1 .1 .0) (f .1);
-        is-number = there (S .session .locals) t (a .l .locals) (a .local-marks .now) (S .running .local-variables) (a .name .now) (c .before .before .before .before .before .before .find .result) q (f .0 .0) (f .0 .1 .0) (f .0 .1 .1 .0) (f .1) .number;
+        below = there-below (S .session .locals) t (a .l .locals) (a .local-marks .now) (S .running .local-variables) (a .name .now) (c .before .before .before .before .before .find .result) q (f .0 .0) (f .0 .1 .0) (f .0 .1 .1 .0) (f .1);
+        is-number = there (S .session .locals) t (a .l .locals) (a .local-marks .now) (S .running .local-variables) (a .name .now) (c .before .before .before .before .before .find .result) q (f .0 .0) (f .0 .1 .0) (f .0 .1 .1 .0) (f .1) .number;
       },
-      c .before .before .before .before .before .before .before .before .before .before .before .before .before .before .before .before .before .before .before .pre .1 .1,
+      c .before .before .before .before .before .before .before .before .before .before .before .before .before .before .before .before .before .pre .1 .1,
       S .running .light,
-      c .before .before .before .before .before .before .before .before .before .before .before .before .before .before .before .before .before .before .before .pre .1 .2,
     )
 
 enum-known-put : tie.Need-enum-known-put
@@ -99,8 +95,25 @@ enum-known-put c = search needs
 enum-told-2 : tie.Need-enum-told-2
 enum-told-2 c = search needs
 
+same-length-6 : tie.Need-same-length-6
+same-length-6 c = search needs
+
 same-length-7 : tie.Need-same-length-7
 same-length-7 c = search needs
+
+returns-2 : tie.Need-returns-2
+returns-2 c s v R W =
+    let a = c .before .before .before .before .before .before .before .before .before .before .before .before .before .before .before .before .before .before .before .before .before .before .before .before .args in
+    let b = slices (a .people .now) (a .people-marks .now) (a .vars .now) (a .var-marks .now) (a .locals .now) (a .local-marks .now) (a .standing .now) in
+    let f = c .before .before .before .before .before .before .before .before .before .before .found .given in
+    let E = c .before .before .before .before .before .before .replace in
+    let F = there (s .locals) (take (a .l .«locals_len») (a .locals .now)) (a .l .locals) (a .local-marks .now) (R .local-variables) (a .name .now) (c .before .before .before .before .before .before .before .before .before .before .before .before .find .result) (looked-up (c .before .before .before .before .before .before .before .before .before .before .before .before) s R) (f .0 .0) (f .0 .1 .0) (f .0 .1 .1 .0) (f .1) in
+    local-full s (a .l) b R (a .name .now) v (W .held .is-valid) _ (F .is-value)
+    (put-full (s .locals) (put (a .name .now) v (s .locals)) (a .l .weight) (E .result) (E .last .0) (a .l .locals) (E .last .1 .1 .0)
+    (E .ensures (s .locals) (a .name .now) v (locals-lie s (a .l) b R) (F .number) W) (c .enum-told2 .given .1))
+
+with-locals-requires : tie.Need-with-locals-requires
+with-locals-requires c κs = search needs
 
 same-length-8 : tie.Need-same-length-8
 same-length-8 c = search needs
@@ -108,40 +121,17 @@ same-length-8 c = search needs
 same-length-9 : tie.Need-same-length-9
 same-length-9 c = search needs
 
-returns-2 : tie.Need-returns-2
-returns-2 c s v R W =
-    let a = c .before .before .before .before .before .before .before .before .before .before .before .before .before .before .before .before .before .before .before .before .before .before .before .before .before .before .before .before .args in
-    let b = slices (a .people .now) (a .people-marks .now) (a .vars .now) (a .var-marks .now) (a .locals .now) (a .local-marks .now) (a .standing .now) in
-    let f = c .before .before .before .before .before .before .before .before .before .before .before .before .before .found .given in
-    let E = c .before .before .before .before .before .before .before .before .replace in
-    let F = there (s .locals) (take (a .l .«locals_len») (a .locals .now)) (a .l .locals) (a .local-marks .now) (R .local-variables) (a .name .now) (c .before .before .before .before .before .before .before .before .before .before .before .before .before .before .before .find .result) (looked-up (c .before .before .before .before .before .before .before .before .before .before .before .before .before .before .before) s R) (f .0 .0) (f .0 .1 .0) (f .0 .1 .1 .0) (f .1) in
-    local-full s (a .l) b R (a .name .now) v (W .held .is-valid) _ (F .is-value)
-    (put-full (s .locals) (put (a .name .now) v (s .locals)) (a .l .weight) (E .result) (E .last .0) (a .l .locals) (E .last .1 .1 .1 .0)
-    (E .ensures (s .locals) (a .name .now) v (locals-lie s (a .l) b R) (F .number) W) (c .enum-told2 .given .1))
-
-with-locals-requires : tie.Need-with-locals-requires
-with-locals-requires c κs = search needs
-
-same-length-10 : tie.Need-same-length-10
-same-length-10 c = search needs
-
-same-length-11 : tie.Need-same-length-11
-same-length-11 c = search needs
-
-same-length-12 : tie.Need-same-length-12
-same-length-12 c = search needs
-
 returns-3 : tie.Need-returns-3
 returns-3 c s v R W =
-    let a = c .before .before .before .before .before .before .before .before .before .before .before .before .before .before .before .before .before .before .before .before .before .before .before .before .before .before .before .before .before .before .args in
+    let a = c .before .before .before .before .before .before .before .before .before .before .before .before .before .before .before .before .before .before .before .before .before .before .before .before .before .before .args in
     let b = slices (a .people .now) (a .people-marks .now) (a .vars .now) (a .var-marks .now) (a .locals .now) (a .local-marks .now) (a .standing .now) in
-    let f = c .before .before .before .before .before .before .before .before .before .before .before .before .before .before .before .found .given in
-    let E = c .before .before .before .before .before .before .before .before .before .before .replace in
+    let f = c .before .before .before .before .before .before .before .before .before .before .before .before .found .given in
+    let E = c .before .before .before .before .before .before .before .before .replace in
     let P = c .before .before .put .given in
-    let F = there (s .locals) (take (a .l .«locals_len») (a .locals .now)) (a .l .locals) (a .local-marks .now) (R .local-variables) (a .name .now) (c .before .before .before .before .before .before .before .before .before .before .before .before .before .before .before .before .before .find .result) (looked-up (c .before .before .before .before .before .before .before .before .before .before .before .before .before .before .before .before .before) s R) (f .0 .0) (f .0 .1 .0) (f .0 .1 .1 .0) (f .1) in
-    subst (λ (k : Layout). Running (assign s (a .name .now) v) k (slices (a .people .now) (a .people-marks .now) (a .vars .now) (a .var-marks .now) (E .last .0) (E .last .1 .1 .1 .0) (a .standing .now))) (sym (c .with-locals .ensures))
-    (local-done s (a .l) b R (a .name .now) v (W .held .is-valid) _ (F .is-value) (E .last .0) (E .last .1 .1 .1 .0) (P .0 .0) (P .0 .1 .0)
-    (put-done (s .locals) (put (a .name .now) v (s .locals)) (a .l .weight) (E .result) (E .last .0) (a .l .locals) (E .last .1 .1 .1 .0)
+    let F = there (s .locals) (take (a .l .«locals_len») (a .locals .now)) (a .l .locals) (a .local-marks .now) (R .local-variables) (a .name .now) (c .before .before .before .before .before .before .before .before .before .before .before .before .before .before .find .result) (looked-up (c .before .before .before .before .before .before .before .before .before .before .before .before .before .before) s R) (f .0 .0) (f .0 .1 .0) (f .0 .1 .1 .0) (f .1) in
+    subst (λ (k : Layout). Running (assign s (a .name .now) v) k (slices (a .people .now) (a .people-marks .now) (a .vars .now) (a .var-marks .now) (E .last .0) (E .last .1 .1 .0) (a .standing .now))) (sym (c .with-locals .ensures))
+    (local-done s (a .l) b R (a .name .now) v (W .held .is-valid) _ (F .is-value) (E .last .0) (E .last .1 .1 .0) (P .0 .0) (P .0 .1 .0) (E .kept .0)
+    (put-done (s .locals) (put (a .name .now) v (s .locals)) (a .l .weight) (E .result) (E .last .0) (a .l .locals) (E .last .1 .1 .0)
     (E .ensures (s .locals) (a .name .now) v (locals-lie s (a .l) b R) (F .number) W) (P .0 .0) (P .0 .1 .0) (P .1)))
 
 pub assign-spec : {M : Type 1} → statement M
@@ -159,17 +149,14 @@ assign-spec =
     same-length-3
     same-length-4
     same-length-5
-    same-length-6
     returns
     replace-requires
     enum-known-put
     enum-told-2
+    same-length-6
     same-length-7
-    same-length-8
-    same-length-9
     returns-2
     with-locals-requires
-    same-length-10
-    same-length-11
-    same-length-12
+    same-length-8
+    same-length-9
     returns-3)

@@ -20,23 +20,23 @@ use borrow.Author.Needs.{needs}
 use Rattle.variables.proofs.assignment.assign_shared.Statement.{statement}
 use Rattle.variables.proofs.assignment.assign_shared.Tie as tie
 
-looked-up : (c : tie.After-find) → let a = c .before .before .before .before .before .before .before .before .before .before .before .args in (s : Session) (lo : Text) (lm : List ℕ)
+looked-up : (c : tie.After-find) → let a = c .before .before .before .before .before .before .before .before .before .before .args in (s : Session) (lo : Text) (lm : List ℕ)
     → Running s (a .l) (slices (a .people .now) (a .people-marks .now) (a .vars .now) (a .var-marks .now) lo lm (a .standing .now))
     → c .find .result ≡ place (map variableRow (s .store .variables)) (a .name .now)
 looked-up c s lo lm R =
-    let a = c .before .before .before .before .before .before .before .before .before .before .before .args in
+    let a = c .before .before .before .before .before .before .before .before .before .before .args in
     c .find .ensures (map variableRow (s .store .variables)) (variables-rows (s .store .variables) (take (a .l .«vars_len») (a .vars .now)) (a .l .vars) (a .var-marks .now) (R .variables))
 
 slice-reshare-prefix-find : tie.Need-slice-reshare-prefix-find
 slice-reshare-prefix-find c = search needs
 
 slice-aggregate-find : tie.Need-slice-aggregate-find
-slice-aggregate-find c = sym (length-take-le _ _ (c .before .before .before .before .before .before .before .before .before .pre .0 .running .vars-within))
+slice-aggregate-find c = sym (length-take-le _ _ (c .before .before .before .before .before .before .before .before .pre .0 .running .vars-within))
 
 find-requires : tie.Need-find-requires
 find-requires c κs =
-    let a = c .before .before .before .before .before .before .before .before .before .before .args in
-    let S = c .before .before .before .before .before .before .before .before .before .before .pre .0 in
+    let a = c .before .before .before .before .before .before .before .before .before .args in
+    let S = c .before .before .before .before .before .before .before .before .before .pre .0 in
     some-variables (S .session .store .variables) (take (a .l .«vars_len») (a .vars .now)) (a .l .vars) (a .var-marks .now) (S .running .variables)
 
 enum-known-found : tie.Need-enum-known-found
@@ -47,15 +47,15 @@ enum-told c = search needs
 
 make-requires : tie.Need-make-requires
 make-requires c κs =
-    let a = c .before .before .before .before .before .before .before .before .before .before .before .before .before .before .before .before .args in
-    let S = c .before .before .before .before .before .before .before .before .before .before .before .before .before .before .before .before .pre .0 in (
+    let a = c .before .before .before .before .before .before .before .before .before .before .before .before .before .before .before .args in
+    let S = c .before .before .before .before .before .before .before .before .before .before .before .before .before .before .before .pre .0 in (
       record {
         some = S;
         is-new = not-there (S .session .store .variables) (take (a .l .«vars_len») (a .vars .now)) (a .l .vars) (a .var-marks .now) (S .running .variables) (a .name .now) (c .before .before .before .before .before .find .result)
             (looked-up (c .before .before .before .before .before) (S .session) (S .locals) (S .local-marks) (S .running)) (c .before .before .before .enum-told .given .1);
       },
-      c .before .before .before .before .before .before .before .before .before .before .before .before .before .before .before .before .pre .1,
-      c .before .before .before .before .before .before .before .before .before .before .before .before .before .before .before .before .pre .2,
+      c .before .before .before .before .before .before .before .before .before .before .before .before .before .before .before .pre .1,
+      c .before .before .before .before .before .before .before .before .before .before .before .before .before .before .before .pre .2,
     )
 
 same-length : tie.Need-same-length
@@ -69,29 +69,28 @@ same-length-3 c = search needs
 
 returns : tie.Need-returns
 returns c s lo lm v R el W =
-    let a = c .before .before .before .before .before .before .before .before .before .before .before .before .before .before .before .before .before .before .before .before .before .before .before .args in
+    let a = c .before .before .before .before .before .before .before .before .before .before .before .before .before .before .before .before .before .before .before .before .before .before .args in
     c .before .before .before .before .before .before .make .ensures s lo lm v R el
     (not-there (s .store .variables) (take (a .l .«vars_len») (a .vars .now)) (a .l .vars) (a .var-marks .now) (R .variables) (a .name .now) (c .before .before .before .before .before .before .before .before .before .before .before .before .find .result) (looked-up (c .before .before .before .before .before .before .before .before .before .before .before .before) s lo lm R)
     (c .before .before .before .before .before .before .before .before .before .before .enum-told .given .1)) W
 
 replace-requires : tie.Need-replace-requires
 replace-requires c κs =
-    let a = c .before .before .before .before .before .before .before .before .before .before .before .before .before .before .before .before .before .args in
-    let S = c .before .before .before .before .before .before .before .before .before .before .before .before .before .before .before .before .before .pre .0 in
+    let a = c .before .before .before .before .before .before .before .before .before .before .before .before .before .before .before .args in
+    let S = c .before .before .before .before .before .before .before .before .before .before .before .before .before .before .before .pre .0 in
     let b = slices (a .people .now) (a .people-marks .now) (a .vars .now) (a .var-marks .now) (S .locals) (S .local-marks) (a .standing .now) in
-    let f = c .before .before .before .before .found .given in
-    let q = looked-up (c .before .before .before .before .before .before) (S .session) (S .locals) (S .local-marks) (S .running) in
+    let f = c .before .before .before .found .given in
+    let q = looked-up (c .before .before .before .before .before) (S .session) (S .locals) (S .local-marks) (S .running) in
     let t = take (a .l .«vars_len») (a .vars .now) in (
       record {
         variables = S .session .store .variables;
         name = a .name .now;
         lies = shared-lie (S .session) (a .l) b (S .running) (a .l .weight) (omega arith);
-        below = there-below (S .session .store .variables) t (a .l .vars) (a .var-marks .now) (S .running .variables) (a .name .now) (c .before .before .before .before .before .before .find .result) q (f .0 .0) (f .0 .1 .0) (f .0 .1 .1 .0) (f .1);
-        is-number = there (S .session .store .variables) t (a .l .vars) (a .var-marks .now) (S .running .variables) (a .name .now) (c .before .before .before .before .before .before .find .result) q (f .0 .0) (f .0 .1 .0) (f .0 .1 .1 .0) (f .1) .number;
+        below = there-below (S .session .store .variables) t (a .l .vars) (a .var-marks .now) (S .running .variables) (a .name .now) (c .before .before .before .before .before .find .result) q (f .0 .0) (f .0 .1 .0) (f .0 .1 .1 .0) (f .1);
+        is-number = there (S .session .store .variables) t (a .l .vars) (a .var-marks .now) (S .running .variables) (a .name .now) (c .before .before .before .before .before .find .result) q (f .0 .0) (f .0 .1 .0) (f .0 .1 .1 .0) (f .1) .number;
       },
-      c .before .before .before .before .before .before .before .before .before .before .before .before .before .before .before .before .before .pre .2,
+      c .before .before .before .before .before .before .before .before .before .before .before .before .before .before .before .pre .2,
       S .running .light,
-      c .before .before .before .before .before .before .before .before .before .before .before .before .before .before .before .before .before .pre .3,
     )
 
 enum-known-put : tie.Need-enum-known-put
@@ -106,43 +105,37 @@ same-length-4 c = search needs
 same-length-5 : tie.Need-same-length-5
 same-length-5 c = search needs
 
-same-length-6 : tie.Need-same-length-6
-same-length-6 c = search needs
-
 returns-2 : tie.Need-returns-2
 returns-2 c s lo lm v R el W =
-    let a = c .before .before .before .before .before .before .before .before .before .before .before .before .before .before .before .before .before .before .before .before .before .before .before .before .before .before .args in
+    let a = c .before .before .before .before .before .before .before .before .before .before .before .before .before .before .before .before .before .before .before .before .before .before .args in
     let b = slices (a .people .now) (a .people-marks .now) (a .vars .now) (a .var-marks .now) lo lm (a .standing .now) in
-    let f = c .before .before .before .before .before .before .before .before .before .before .before .before .before .found .given in
-    let E = c .before .before .before .before .before .before .before .before .replace in
-    let F = there (s .store .variables) (take (a .l .«vars_len») (a .vars .now)) (a .l .vars) (a .var-marks .now) (R .variables) (a .name .now) (c .before .before .before .before .before .before .before .before .before .before .before .before .before .before .before .find .result) (looked-up (c .before .before .before .before .before .before .before .before .before .before .before .before .before .before .before) s lo lm R) (f .0 .0) (f .0 .1 .0) (f .0 .1 .1 .0) (f .1) in
-    shared-full s (a .l) b R (a .name .now) v (W .held .is-valid) (c .before .before .before .before .before .before .before .before .before .before .before .before .before .before .before .before .before .before .before .before .before .before .before .before .before .before .pre .1) el _ (F .is-value)
-    (put-full (s .store .variables) (put (a .name .now) v (s .store .variables)) (a .l .weight) (E .result) (E .last .0) (a .l .vars) (E .last .1 .1 .1 .0)
+    let f = c .before .before .before .before .before .before .before .before .before .before .found .given in
+    let E = c .before .before .before .before .before .before .replace in
+    let F = there (s .store .variables) (take (a .l .«vars_len») (a .vars .now)) (a .l .vars) (a .var-marks .now) (R .variables) (a .name .now) (c .before .before .before .before .before .before .before .before .before .before .before .before .find .result) (looked-up (c .before .before .before .before .before .before .before .before .before .before .before .before) s lo lm R) (f .0 .0) (f .0 .1 .0) (f .0 .1 .1 .0) (f .1) in
+    shared-full s (a .l) b R (a .name .now) v (W .held .is-valid) (c .before .before .before .before .before .before .before .before .before .before .before .before .before .before .before .before .before .before .before .before .before .before .pre .1) el _ (F .is-value)
+    (put-full (s .store .variables) (put (a .name .now) v (s .store .variables)) (a .l .weight) (E .result) (E .last .0) (a .l .vars) (E .last .1 .1 .0)
     (E .ensures (s .store .variables) (a .name .now) v (shared-lie s (a .l) b R (a .l .weight) (omega arith)) (F .number) W) (c .enum-told2 .given .1))
 
 with-shared-requires : tie.Need-with-shared-requires
 with-shared-requires c κs = search needs
 
+same-length-6 : tie.Need-same-length-6
+same-length-6 c = search needs
+
 same-length-7 : tie.Need-same-length-7
 same-length-7 c = search needs
 
-same-length-8 : tie.Need-same-length-8
-same-length-8 c = search needs
-
-same-length-9 : tie.Need-same-length-9
-same-length-9 c = search needs
-
 returns-3 : tie.Need-returns-3
 returns-3 c s lo lm v R el W =
-    let a = c .before .before .before .before .before .before .before .before .before .before .before .before .before .before .before .before .before .before .before .before .before .before .before .before .before .before .before .before .args in
+    let a = c .before .before .before .before .before .before .before .before .before .before .before .before .before .before .before .before .before .before .before .before .before .before .before .before .args in
     let b = slices (a .people .now) (a .people-marks .now) (a .vars .now) (a .var-marks .now) lo lm (a .standing .now) in
-    let f = c .before .before .before .before .before .before .before .before .before .before .before .before .before .before .before .found .given in
-    let E = c .before .before .before .before .before .before .before .before .before .before .replace in
+    let f = c .before .before .before .before .before .before .before .before .before .before .before .before .found .given in
+    let E = c .before .before .before .before .before .before .before .before .replace in
     let P = c .before .before .put .given in
-    let F = there (s .store .variables) (take (a .l .«vars_len») (a .vars .now)) (a .l .vars) (a .var-marks .now) (R .variables) (a .name .now) (c .before .before .before .before .before .before .before .before .before .before .before .before .before .before .before .before .before .find .result) (looked-up (c .before .before .before .before .before .before .before .before .before .before .before .before .before .before .before .before .before) s lo lm R) (f .0 .0) (f .0 .1 .0) (f .0 .1 .1 .0) (f .1) in
-    subst (λ (k : Layout). Running (assign s (a .name .now) v) k (slices (a .people .now) (a .people-marks .now) (E .last .0) (E .last .1 .1 .1 .0) lo lm (a .standing .now))) (sym (c .with-shared .ensures))
-    (shared-done s (a .l) b R (a .name .now) v (W .held .is-valid) (c .before .before .before .before .before .before .before .before .before .before .before .before .before .before .before .before .before .before .before .before .before .before .before .before .before .before .before .before .pre .1) el _ (F .is-value) (E .last .0) (E .last .1 .1 .1 .0) (P .0 .0) (P .0 .1 .0)
-    (put-done (s .store .variables) (put (a .name .now) v (s .store .variables)) (a .l .weight) (E .result) (E .last .0) (a .l .vars) (E .last .1 .1 .1 .0)
+    let F = there (s .store .variables) (take (a .l .«vars_len») (a .vars .now)) (a .l .vars) (a .var-marks .now) (R .variables) (a .name .now) (c .before .before .before .before .before .before .before .before .before .before .before .before .before .before .find .result) (looked-up (c .before .before .before .before .before .before .before .before .before .before .before .before .before .before) s lo lm R) (f .0 .0) (f .0 .1 .0) (f .0 .1 .1 .0) (f .1) in
+    subst (λ (k : Layout). Running (assign s (a .name .now) v) k (slices (a .people .now) (a .people-marks .now) (E .last .0) (E .last .1 .1 .0) lo lm (a .standing .now))) (sym (c .with-shared .ensures))
+    (shared-done s (a .l) b R (a .name .now) v (W .held .is-valid) (c .before .before .before .before .before .before .before .before .before .before .before .before .before .before .before .before .before .before .before .before .before .before .before .before .pre .1) el _ (F .is-value) (E .last .0) (E .last .1 .1 .0) (P .0 .0) (P .0 .1 .0) (E .kept .0)
+    (put-done (s .store .variables) (put (a .name .now) v (s .store .variables)) (a .l .weight) (E .result) (E .last .0) (a .l .vars) (E .last .1 .1 .0)
     (E .ensures (s .store .variables) (a .name .now) v (shared-lie s (a .l) b R (a .l .weight) (omega arith)) (F .number) W) (P .0 .0) (P .0 .1 .0) (P .1)))
 
 pub assign-shared-spec : {M : Type 1} → statement M
@@ -164,10 +157,8 @@ assign-shared-spec =
     enum-told-2
     same-length-4
     same-length-5
-    same-length-6
     returns-2
     with-shared-requires
+    same-length-6
     same-length-7
-    same-length-8
-    same-length-9
     returns-3)

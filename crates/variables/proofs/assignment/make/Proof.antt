@@ -128,7 +128,7 @@ returns-2 c s lo lm v R el en W =
     let b = slices (a .people .now) (a .people-marks .now) (a .vars .now) (a .var-marks .now) lo lm (a .standing .now) in
     subst (λ (k : Layout). Running (assign s (a .name .now) v) k (slices (a .people .now) (a .people-marks .now) (E .last .0) (E .last .1 .1 .0) lo lm (G .last .0))) (sym (c .with-shared .ensures))
     (new-done s (a .l) b R (a .name .now) v (W .held .is-valid) (c .before .before .before .before .before .before .before .before .before .before .before .before .before .before .before .before .before .before .before .before .before .before .before .before .before .pre .1) en (c .before .before .before .before .before .before .before .before .before .before .before .before .before .before .before .before .grant-weight .result) (extra-is (c .before .before .before .before .before .before .before .before .before .before .before .before .before .before .before .before) s lo lm R) el (E .last .0) (E .last .1 .1 .0)
-    (G .last .0) (c .before .before .before .before .before .before .put .given .0 .0) (c .before .before .before .before .before .before .put .given .0 .1 .0) (G .result) (became (c .before .before .before .before .before .before) s lo lm v R en W) (G .kept .0 ∙ R .sized .standing-size) (omega (arith, G .kept .0, G .ensures .0)) (G .ensures .1))
+    (G .last .0) (c .before .before .before .before .before .before .put .given .0 .0) (c .before .before .before .before .before .before .put .given .0 .1 .0) (G .result) (E .kept .0) (became (c .before .before .before .before .before .before) s lo lm v R en W) (G .kept .0 ∙ R .sized .standing-size) (omega (arith, G .kept .0, G .ensures .0)) (G .ensures .1))
 
 pub make-spec : {M : Type 1} → statement M
 make-spec =

@@ -23,29 +23,29 @@ use borrow.Author.Needs.{needs}
 use Rattle.variables.proofs.extension.join.Statement.{statement}
 use Rattle.variables.proofs.extension.join.Tie as tie
 
-looked-up : (c : tie.After-find) → let a = c .before .before .before .before .before .before .before .before .before .before .before .before .before .before .args in (s : Session)
+looked-up : (c : tie.After-find) → let a = c .before .before .before .before .before .before .before .before .before .before .before .before .before .args in (s : Session)
     → Running s (a .l) (slices (a .people .now) (a .people-marks .now) (a .vars .now) (a .var-marks .now) (a .locals .now) (a .local-marks .now) (a .standing .now))
     → c .find .result ≡ place (map variableRow (s .locals)) (a .name .now)
 looked-up c s R =
-    let a = c .before .before .before .before .before .before .before .before .before .before .before .before .before .before .args in
+    let a = c .before .before .before .before .before .before .before .before .before .before .before .before .before .args in
     c .find .ensures (map variableRow (s .locals)) (variables-rows (s .locals) (take (a .l .«locals_len») (a .locals .now)) (a .l .locals) (a .local-marks .now) (R .local-variables))
 
-its-own : (c : tie.After-elements-of) → Adds (c .before .before .before .before .before .before .before .before .before .before .before .pre .1 .1 .value) (c .before .before .before .before .before .before .before .before .before .before .before .args .value .now) (c .elements-of .result .from) (c .elements-of .result .weight)
-its-own c = c .elements-of .ensures (c .before .before .before .before .before .before .before .before .before .before .before .pre .1 .1 .value) (c .before .before .before .before .before .before .before .before .before .before .before .pre .1 .1 .is-value)
+its-own : (c : tie.After-elements-of) → Adds (c .before .before .before .before .before .before .before .before .before .before .pre .1 .1 .value) (c .before .before .before .before .before .before .before .before .before .before .args .value .now) (c .elements-of .result .from) (c .elements-of .result .weight)
+its-own c = c .elements-of .ensures (c .before .before .before .before .before .before .before .before .before .before .pre .1 .1 .value) (c .before .before .before .before .before .before .before .before .before .before .pre .1 .1 .is-value)
 
 elements-of-requires : tie.Need-elements-of-requires
-elements-of-requires c κs = c .before .before .before .before .before .before .before .before .before .before .pre .1 .1
+elements-of-requires c κs = c .before .before .before .before .before .before .before .before .before .pre .1 .1
 
 slice-reshare-prefix-find : tie.Need-slice-reshare-prefix-find
 slice-reshare-prefix-find c = search needs
 
 slice-aggregate-find : tie.Need-slice-aggregate-find
-slice-aggregate-find c = sym (length-take-le _ _ (c .before .before .before .before .before .before .before .before .before .before .before .before .pre .0 .running .locals-within))
+slice-aggregate-find c = sym (length-take-le _ _ (c .before .before .before .before .before .before .before .before .before .before .before .pre .0 .running .locals-within))
 
 find-requires : tie.Need-find-requires
 find-requires c κs =
-    let a = c .before .before .before .before .before .before .before .before .before .before .before .before .before .args in
-    let S = c .before .before .before .before .before .before .before .before .before .before .before .before .before .pre .0 in
+    let a = c .before .before .before .before .before .before .before .before .before .before .before .before .args in
+    let S = c .before .before .before .before .before .before .before .before .before .before .before .before .pre .0 in
     some-variables (S .session .locals) (take (a .l .«locals_len») (a .locals .now)) (a .l .locals) (a .local-marks .now) (S .running .local-variables)
 
 enum-known-found : tie.Need-enum-known-found
@@ -55,31 +55,30 @@ enum-told : tie.Need-enum-told
 enum-told c = search needs
 
 sub-join-shared : tie.Need-sub-join-shared
-sub-join-shared c = omega (arith, its-own (c .before .before .before .before .before .before .before .before) .within)
+sub-join-shared c = omega (arith, its-own (c .before .before .before .before .before .before .before) .within)
 
 part-join-shared-start : tie.Need-part-join-shared-start
-part-join-shared-start c = omega (arith, its-own (c .before .before .before .before .before .before .before .before) .within)
+part-join-shared-start c = omega (arith, its-own (c .before .before .before .before .before .before .before) .within)
 
 part-join-shared-end : tie.Need-part-join-shared-end
-part-join-shared-end c = omega (arith, its-own (c .before .before .before .before .before .before .before .before) .within)
+part-join-shared-end c = omega (arith, its-own (c .before .before .before .before .before .before .before) .within)
 
 join-shared-requires : tie.Need-join-shared-requires
 join-shared-requires c κs =
-    let a = c .before .before .before .before .before .before .before .before .before .before .before .before .before .before .before .before .before .before .before .before .args in
-    let S = c .before .before .before .before .before .before .before .before .before .before .before .before .before .before .before .before .before .before .before .before .pre .0 in
-    let A = its-own (c .before .before .before .before .before .before .before .before .before) in
-    let n = not-there (S .session .locals) (take (a .l .«locals_len») (a .locals .now)) (a .l .locals) (a .local-marks .now) (S .running .local-variables) (a .name .now) (c .before .before .before .before .before .before .find .result) (looked-up (c .before .before .before .before .before .before) (S .session) (S .running))
-    (c .before .before .before .before .enum-told .given .1) in (
+    let a = c .before .before .before .before .before .before .before .before .before .before .before .before .before .before .before .before .before .before .args in
+    let S = c .before .before .before .before .before .before .before .before .before .before .before .before .before .before .before .before .before .before .pre .0 in
+    let A = its-own (c .before .before .before .before .before .before .before .before) in
+    let n = not-there (S .session .locals) (take (a .l .«locals_len») (a .locals .now)) (a .l .locals) (a .local-marks .now) (S .running .local-variables) (a .name .now) (c .before .before .before .before .before .find .result) (looked-up (c .before .before .before .before .before) (S .session) (S .running))
+    (c .before .before .before .enum-told .given .1) in (
       record {
         some-shared = record { session = S .session; locals = a .locals .now; local-marks = a .local-marks .now; running = S .running };
         elements = S .elements;
-        more = addedBy (c .before .before .before .before .before .before .before .before .before .before .before .before .before .before .before .before .before .before .before .before .pre .1 .1 .value);
+        more = addedBy (c .before .before .before .before .before .before .before .before .before .before .before .before .before .before .before .before .before .before .pre .1 .1 .value);
         is-list = in-second (valueIn (S .session .locals) (a .name .now)) (valueIn (S .session .store .variables) (a .name .now)) n (S .is-list);
         extra = A .extra;
       },
-      c .before .before .before .before .before .before .before .before .before .before .before .before .before .before .before .before .before .before .before .before .pre .1 .0,
+      c .before .before .before .before .before .before .before .before .before .before .before .before .before .before .before .before .before .before .pre .1 .0,
       A .small,
-      c .before .before .before .before .before .before .before .before .before .before .before .before .before .before .before .before .before .before .before .before .pre .1 .2,
     )
 
 same-length : tie.Need-same-length
@@ -94,50 +93,46 @@ same-length-3 c = search needs
 same-length-4 : tie.Need-same-length-4
 same-length-4 c = search needs
 
-same-length-5 : tie.Need-same-length-5
-same-length-5 c = search needs
-
 returns : tie.Need-returns
 returns c s v es R i W =
-    let a = c .before .before .before .before .before .before .before .before .before .before .before .before .before .before .before .before .before .before .before .before .before .before .before .before .before .before .before .args in
-    let J = c .before .before .before .before .before .before .join-shared in
-    let n = not-there (s .locals) (take (a .l .«locals_len») (a .locals .now)) (a .l .locals) (a .local-marks .now) (R .local-variables) (a .name .now) (c .before .before .before .before .before .before .before .before .before .before .before .before .before .find .result) (looked-up (c .before .before .before .before .before .before .before .before .before .before .before .before .before) s R) (c .before .before .before .before .before .before .before .before .before .before .before .enum-told .given .1) in
+    let a = c .before .before .before .before .before .before .before .before .before .before .before .before .before .before .before .before .before .before .before .before .before .before .before .args in
+    let J = c .before .before .before .before .join-shared in
+    let n = not-there (s .locals) (take (a .l .«locals_len») (a .locals .now)) (a .l .locals) (a .local-marks .now) (R .local-variables) (a .name .now) (c .before .before .before .before .before .before .before .before .before .before .find .result) (looked-up (c .before .before .before .before .before .before .before .before .before .before) s R) (c .before .before .before .before .before .before .before .before .enum-told .given .1) in
     subst (λ (z : List Element). Assigns (J .result) (assign s (a .name .now) (list z)) (slices (a .people .now) (a .people-marks .now) (J .last .1 .1 .0) (J .last .1 .1 .1 .0) (a .locals .now) (a .local-marks .now) (a .standing .now)))
-    (extend-adds es v) (J .ensures s (a .locals .now) (a .local-marks .now) es (addedBy v) R n (in-second (valueIn (s .locals) (a .name .now)) (valueIn (s .store .variables) (a .name .now)) n i) (c .before .before .before .before .before .before .before .before .before .before .before .before .before .before .before .before .elements-of .ensures v W .extra))
+    (extend-adds es v) (J .ensures s (a .locals .now) (a .local-marks .now) es (addedBy v) R n (in-second (valueIn (s .locals) (a .name .now)) (valueIn (s .store .variables) (a .name .now)) n i) (c .before .before .before .before .before .before .before .before .before .before .before .before .before .elements-of .ensures v W .extra))
 
 sub-extend : tie.Need-sub-extend
-sub-extend c = omega (arith, its-own (c .before .before .before .before .before .before .before .before .before) .within)
+sub-extend c = omega (arith, its-own (c .before .before .before .before .before .before .before .before) .within)
 
 part-extend-start : tie.Need-part-extend-start
-part-extend-start c = omega (arith, its-own (c .before .before .before .before .before .before .before .before .before) .within)
+part-extend-start c = omega (arith, its-own (c .before .before .before .before .before .before .before .before) .within)
 
 part-extend-end : tie.Need-part-extend-end
-part-extend-end c = omega (arith, its-own (c .before .before .before .before .before .before .before .before .before) .within)
+part-extend-end c = omega (arith, its-own (c .before .before .before .before .before .before .before .before) .within)
 
 extend-requires : tie.Need-extend-requires
 extend-requires c κs =
-    let a = c .before .before .before .before .before .before .before .before .before .before .before .before .before .before .before .before .before .before .before .before .before .args in
-    let S = c .before .before .before .before .before .before .before .before .before .before .before .before .before .before .before .before .before .before .before .before .before .pre .0 in
-    let A = its-own (c .before .before .before .before .before .before .before .before .before .before) in
+    let a = c .before .before .before .before .before .before .before .before .before .before .before .before .before .before .before .before .before .before .before .args in
+    let S = c .before .before .before .before .before .before .before .before .before .before .before .before .before .before .before .before .before .before .before .pre .0 in
+    let A = its-own (c .before .before .before .before .before .before .before .before .before) in
     let b = slices (a .people .now) (a .people-marks .now) (a .vars .now) (a .var-marks .now) (a .locals .now) (a .local-marks .now) (a .standing .now) in
-    let f = c .before .before .before .before .before .found .given in
-    let q = looked-up (c .before .before .before .before .before .before .before) (S .session) (S .running) in
+    let f = c .before .before .before .before .found .given in
+    let q = looked-up (c .before .before .before .before .before .before) (S .session) (S .running) in
     let t = take (a .l .«locals_len») (a .locals .now) in
-    let F = there (S .session .locals) t (a .l .locals) (a .local-marks .now) (S .running .local-variables) (a .name .now) (c .before .before .before .before .before .before .before .find .result) q (f .0 .0) (f .0 .1 .0) (f .0 .1 .1 .0) (f .1) in (
+    let F = there (S .session .locals) t (a .l .locals) (a .local-marks .now) (S .running .local-variables) (a .name .now) (c .before .before .before .before .before .before .find .result) q (f .0 .0) (f .0 .1 .0) (f .0 .1 .1 .0) (f .1) in (
       record {
         variables = S .session .locals;
         name = a .name .now;
         elements = S .elements;
-        more = addedBy (c .before .before .before .before .before .before .before .before .before .before .before .before .before .before .before .before .before .before .before .before .before .pre .1 .1 .value);
+        more = addedBy (c .before .before .before .before .before .before .before .before .before .before .before .before .before .before .before .before .before .before .before .pre .1 .1 .value);
         lies = locals-lie (S .session) (a .l) b (S .running);
-        below = there-below (S .session .locals) t (a .l .locals) (a .local-marks .now) (S .running .local-variables) (a .name .now) (c .before .before .before .before .before .before .before .find .result) q (f .0 .0) (f .0 .1 .0) (f .0 .1 .1 .0) (f .1);
+        below = there-below (S .session .locals) t (a .l .locals) (a .local-marks .now) (S .running .local-variables) (a .name .now) (c .before .before .before .before .before .before .find .result) q (f .0 .0) (f .0 .1 .0) (f .0 .1 .1 .0) (f .1);
         is-number = F .number;
         is-list = in-first (valueIn (S .session .locals) (a .name .now)) (valueIn (S .session .store .variables) (a .name .now)) (F .is-value) (S .is-list);
         extra = A .extra;
       },
       S .running .light,
       A .small,
-      c .before .before .before .before .before .before .before .before .before .before .before .before .before .before .before .before .before .before .before .before .before .pre .1 .2,
     )
 
 enum-known-put : tie.Need-enum-known-put
@@ -146,8 +141,34 @@ enum-known-put c = search needs
 enum-told-2 : tie.Need-enum-told-2
 enum-told-2 c = search needs
 
+same-length-5 : tie.Need-same-length-5
+same-length-5 c = search needs
+
 same-length-6 : tie.Need-same-length-6
 same-length-6 c = search needs
+
+returns-2 : tie.Need-returns-2
+returns-2 c s v es R i W =
+    let a = c .before .before .before .before .before .before .before .before .before .before .before .before .before .before .before .before .before .before .before .before .before .before .before .before .before .before .args in
+    let b = slices (a .people .now) (a .people-marks .now) (a .vars .now) (a .var-marks .now) (a .locals .now) (a .local-marks .now) (a .standing .now) in
+    let f = c .before .before .before .before .before .before .before .before .before .before .before .found .given in
+    let E = c .before .before .before .before .before .before .extend in
+    let t = take (a .l .«locals_len») (a .locals .now) in
+    let q = looked-up (c .before .before .before .before .before .before .before .before .before .before .before .before .before) s R in
+    let fs = addedBy v in
+    let X = c .before .before .before .before .before .before .before .before .before .before .before .before .before .before .before .before .elements-of .ensures v W .extra in
+    let k = there-below (s .locals) t (a .l .locals) (a .local-marks .now) (R .local-variables) (a .name .now) (c .before .before .before .before .before .before .before .before .before .before .before .before .before .find .result) q (f .0 .0) (f .0 .1 .0) (f .0 .1 .1 .0) (f .1) in
+    let F = there (s .locals) t (a .l .locals) (a .local-marks .now) (R .local-variables) (a .name .now) (c .before .before .before .before .before .before .before .before .before .before .before .before .before .find .result) q (f .0 .0) (f .0 .1 .0) (f .0 .1 .1 .0) (f .1) in
+    let j = in-first (valueIn (s .locals) (a .name .now)) (valueIn (s .store .variables) (a .name .now)) (F .is-value) i in
+    let L = locals-lie s (a .l) b R in
+    let h = both-valid L (a .name .now) (f .0 .0) k (F .number) es fs j _ _ X in
+    subst (λ (z : List Element). limit < sessionWeight (assign s (a .name .now) (list z))) (extend-adds es v)
+    (local-full s (a .l) b R (a .name .now) (list (es ++ fs)) h (list es) j
+    (put-full (s .locals) (put (a .name .now) (list (es ++ fs)) (s .locals)) (a .l .weight) (E .result) (E .last .0) (a .l .locals) (E .last .1 .1 .0)
+    (E .ensures (s .locals) (a .name .now) es fs L (F .number) j X) (c .enum-told2 .given .1)))
+
+with-locals-requires : tie.Need-with-locals-requires
+with-locals-requires c κs = search needs
 
 same-length-7 : tie.Need-same-length-7
 same-length-7 c = search needs
@@ -155,58 +176,26 @@ same-length-7 c = search needs
 same-length-8 : tie.Need-same-length-8
 same-length-8 c = search needs
 
-returns-2 : tie.Need-returns-2
-returns-2 c s v es R i W =
-    let a = c .before .before .before .before .before .before .before .before .before .before .before .before .before .before .before .before .before .before .before .before .before .before .before .before .before .before .before .before .before .before .args in
-    let b = slices (a .people .now) (a .people-marks .now) (a .vars .now) (a .var-marks .now) (a .locals .now) (a .local-marks .now) (a .standing .now) in
-    let f = c .before .before .before .before .before .before .before .before .before .before .before .before .before .before .found .given in
-    let E = c .before .before .before .before .before .before .before .before .extend in
-    let t = take (a .l .«locals_len») (a .locals .now) in
-    let q = looked-up (c .before .before .before .before .before .before .before .before .before .before .before .before .before .before .before .before) s R in
-    let fs = addedBy v in
-    let X = c .before .before .before .before .before .before .before .before .before .before .before .before .before .before .before .before .before .before .before .elements-of .ensures v W .extra in
-    let k = there-below (s .locals) t (a .l .locals) (a .local-marks .now) (R .local-variables) (a .name .now) (c .before .before .before .before .before .before .before .before .before .before .before .before .before .before .before .before .find .result) q (f .0 .0) (f .0 .1 .0) (f .0 .1 .1 .0) (f .1) in
-    let F = there (s .locals) t (a .l .locals) (a .local-marks .now) (R .local-variables) (a .name .now) (c .before .before .before .before .before .before .before .before .before .before .before .before .before .before .before .before .find .result) q (f .0 .0) (f .0 .1 .0) (f .0 .1 .1 .0) (f .1) in
-    let j = in-first (valueIn (s .locals) (a .name .now)) (valueIn (s .store .variables) (a .name .now)) (F .is-value) i in
-    let L = locals-lie s (a .l) b R in
-    let h = both-valid L (a .name .now) (f .0 .0) k (F .number) es fs j _ _ X in
-    subst (λ (z : List Element). limit < sessionWeight (assign s (a .name .now) (list z))) (extend-adds es v)
-    (local-full s (a .l) b R (a .name .now) (list (es ++ fs)) h (list es) j
-    (put-full (s .locals) (put (a .name .now) (list (es ++ fs)) (s .locals)) (a .l .weight) (E .result) (E .last .0) (a .l .locals) (E .last .1 .1 .1 .0)
-    (E .ensures (s .locals) (a .name .now) es fs L (F .number) j X) (c .enum-told2 .given .1)))
-
-with-locals-requires : tie.Need-with-locals-requires
-with-locals-requires c κs = search needs
-
-same-length-9 : tie.Need-same-length-9
-same-length-9 c = search needs
-
-same-length-10 : tie.Need-same-length-10
-same-length-10 c = search needs
-
-same-length-11 : tie.Need-same-length-11
-same-length-11 c = search needs
-
 returns-3 : tie.Need-returns-3
 returns-3 c s v es R i W =
-    let a = c .before .before .before .before .before .before .before .before .before .before .before .before .before .before .before .before .before .before .before .before .before .before .before .before .before .before .before .before .before .before .before .before .args in
+    let a = c .before .before .before .before .before .before .before .before .before .before .before .before .before .before .before .before .before .before .before .before .before .before .before .before .before .before .before .before .args in
     let b = slices (a .people .now) (a .people-marks .now) (a .vars .now) (a .var-marks .now) (a .locals .now) (a .local-marks .now) (a .standing .now) in
-    let f = c .before .before .before .before .before .before .before .before .before .before .before .before .before .before .before .before .found .given in
-    let E = c .before .before .before .before .before .before .before .before .before .before .extend in
+    let f = c .before .before .before .before .before .before .before .before .before .before .before .before .before .found .given in
+    let E = c .before .before .before .before .before .before .before .before .extend in
     let t = take (a .l .«locals_len») (a .locals .now) in
-    let q = looked-up (c .before .before .before .before .before .before .before .before .before .before .before .before .before .before .before .before .before .before) s R in
+    let q = looked-up (c .before .before .before .before .before .before .before .before .before .before .before .before .before .before .before) s R in
     let fs = addedBy v in
-    let X = c .before .before .before .before .before .before .before .before .before .before .before .before .before .before .before .before .before .before .before .before .before .elements-of .ensures v W .extra in
-    let k = there-below (s .locals) t (a .l .locals) (a .local-marks .now) (R .local-variables) (a .name .now) (c .before .before .before .before .before .before .before .before .before .before .before .before .before .before .before .before .before .before .find .result) q (f .0 .0) (f .0 .1 .0) (f .0 .1 .1 .0) (f .1) in
-    let F = there (s .locals) t (a .l .locals) (a .local-marks .now) (R .local-variables) (a .name .now) (c .before .before .before .before .before .before .before .before .before .before .before .before .before .before .before .before .before .before .find .result) q (f .0 .0) (f .0 .1 .0) (f .0 .1 .1 .0) (f .1) in
+    let X = c .before .before .before .before .before .before .before .before .before .before .before .before .before .before .before .before .before .before .elements-of .ensures v W .extra in
+    let k = there-below (s .locals) t (a .l .locals) (a .local-marks .now) (R .local-variables) (a .name .now) (c .before .before .before .before .before .before .before .before .before .before .before .before .before .before .before .find .result) q (f .0 .0) (f .0 .1 .0) (f .0 .1 .1 .0) (f .1) in
+    let F = there (s .locals) t (a .l .locals) (a .local-marks .now) (R .local-variables) (a .name .now) (c .before .before .before .before .before .before .before .before .before .before .before .before .before .before .before .find .result) q (f .0 .0) (f .0 .1 .0) (f .0 .1 .1 .0) (f .1) in
     let j = in-first (valueIn (s .locals) (a .name .now)) (valueIn (s .store .variables) (a .name .now)) (F .is-value) i in
     let L = locals-lie s (a .l) b R in
     let h = both-valid L (a .name .now) (f .0 .0) k (F .number) es fs j _ _ X in
     let P = c .before .before .put .given in
-    subst (λ (z : List Element). Running (assign s (a .name .now) (list z)) (c .with-locals .result) (slices (a .people .now) (a .people-marks .now) (a .vars .now) (a .var-marks .now) (E .last .0) (E .last .1 .1 .1 .0) (a .standing .now))) (extend-adds es v)
-    (subst (λ (k : Layout). Running (assign s (a .name .now) (list (es ++ fs))) k (slices (a .people .now) (a .people-marks .now) (a .vars .now) (a .var-marks .now) (E .last .0) (E .last .1 .1 .1 .0) (a .standing .now))) (sym (c .with-locals .ensures))
-    (local-done s (a .l) b R (a .name .now) (list (es ++ fs)) h (list es) j (E .last .0) (E .last .1 .1 .1 .0) (P .0 .0) (P .0 .1 .0)
-    (put-done (s .locals) (put (a .name .now) (list (es ++ fs)) (s .locals)) (a .l .weight) (E .result) (E .last .0) (a .l .locals) (E .last .1 .1 .1 .0)
+    subst (λ (z : List Element). Running (assign s (a .name .now) (list z)) (c .with-locals .result) (slices (a .people .now) (a .people-marks .now) (a .vars .now) (a .var-marks .now) (E .last .0) (E .last .1 .1 .0) (a .standing .now))) (extend-adds es v)
+    (subst (λ (k : Layout). Running (assign s (a .name .now) (list (es ++ fs))) k (slices (a .people .now) (a .people-marks .now) (a .vars .now) (a .var-marks .now) (E .last .0) (E .last .1 .1 .0) (a .standing .now))) (sym (c .with-locals .ensures))
+    (local-done s (a .l) b R (a .name .now) (list (es ++ fs)) h (list es) j (E .last .0) (E .last .1 .1 .0) (P .0 .0) (P .0 .1 .0) (E .kept .0)
+    (put-done (s .locals) (put (a .name .now) (list (es ++ fs)) (s .locals)) (a .l .weight) (E .result) (E .last .0) (a .l .locals) (E .last .1 .1 .0)
     (E .ensures (s .locals) (a .name .now) es fs L (F .number) j X) (P .0 .0) (P .0 .1 .0) (P .1))))
 
 pub join-spec : {M : Type 1} → statement M
@@ -227,7 +216,6 @@ join-spec =
     same-length-2
     same-length-3
     same-length-4
-    same-length-5
     returns
     sub-extend
     part-extend-start
@@ -235,12 +223,10 @@ join-spec =
     extend-requires
     enum-known-put
     enum-told-2
+    same-length-5
     same-length-6
-    same-length-7
-    same-length-8
     returns-2
     with-locals-requires
-    same-length-9
-    same-length-10
-    same-length-11
+    same-length-7
+    same-length-8
     returns-3)

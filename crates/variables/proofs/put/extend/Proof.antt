@@ -1,7 +1,7 @@
 -- `variables::put::extend` meets its contract. The weight after is the elements' weight more; where that is not too much there is room.
 -- Assumes nothing.
 use native.Mathlib.Omega.{arith}
-use Rattle.variables.proofs.Weighing.{short, extended-full, extended-fits, extended}
+use Rattle.variables.proofs.Weighing.{extended-full, extended-fits, extended}
 use borrow.Author.Needs.{needs}
 use Rattle.variables.proofs.put.extend.Statement.{statement}
 use Rattle.variables.proofs.put.extend.Tie as tie
@@ -11,16 +11,15 @@ add-after c = search needs
 
 returns : tie.Need-returns
 returns c vs x es fs L n i E =
-    extended-full L x (c .before .before .before .before .before .args .number) (c .before .before .before .before .before .pre .0 .below) n es fs i (c .before .before .before .before .before .args .more .now) (c .before .before .before .before .before .args .weight) E (c .if1 .taken)
+    extended-full L x (c .before .before .before .before .args .number) (c .before .before .before .before .pre .0 .below) n es fs i (c .before .before .before .before .args .more .now) (c .before .before .before .before .args .weight) E (c .if1 .taken)
 
 append-value-requires : tie.Need-append-value-requires
 append-value-requires c κs =
-    let a = c .before .before .before .before .before .before .before .before .args in
-    let P = c .before .before .before .before .before .before .before .before .pre in
+    let a = c .before .before .before .before .before .before .args in
+    let P = c .before .before .before .before .before .before .pre in
     let S = P .0 in (
-      omega (arith, S .lies .size),
+      S .lies .small,
       S .lies .within,
-      omega (arith, short (S .lies), P .1, P .3),
       record {
         variables = S .variables;
         name = S .name;
@@ -31,7 +30,7 @@ append-value-requires c κs =
         number = S .is-number;
         is-list = S .is-list;
         is-text = S .extra .is-text;
-        fits = omega (arith, S .lies .size, extended-fits (S .lies) (S .name) (a .number) (S .below) (S .is-number) (S .elements) (S .more) (S .is-list) (a .more .now) (a .weight) (S .extra) (c .before .before .before .if1 .left));
+        fits = omega (arith, S .lies .room, extended-fits (S .lies) (S .name) (a .number) (S .below) (S .is-number) (S .elements) (S .more) (S .is-list) (a .more .now) (a .weight) (S .extra) (c .before .before .if1 .left));
       },
     )
 
@@ -41,14 +40,11 @@ same-length c = search needs
 same-length-2 : tie.Need-same-length-2
 same-length-2 c = search needs
 
-same-length-3 : tie.Need-same-length-3
-same-length-3 c = search needs
-
 returns-2 : tie.Need-returns-2
 returns-2 c vs x es fs L n i X =
-    let a = c .before .before .before .before .before .before .before .before .before .before .before .before .before .before .before .args in
-    let E = c .before .before .before .before .before .before .append-value in
-    extended L x (a .number) (c .before .before .before .before .before .before .before .before .before .before .before .before .before .before .before .pre .0 .below) n es fs i (a .more .now) (a .weight) X (E .last .0) (E .result) (E .last .1 .1 .1 .0) (c .before .before .before .before .before .before .before .before .before .before .if1 .left) (E .kept .0) (E .kept .1 .1 .1 .0)
+    let a = c .before .before .before .before .before .before .before .before .before .before .before .args in
+    let E = c .before .before .before .before .append-value in
+    extended L x (a .number) (c .before .before .before .before .before .before .before .before .before .before .before .pre .0 .below) n es fs i (a .more .now) (a .weight) X (E .last .0) (E .result) (E .last .1 .1 .0) (c .before .before .before .before .before .before .before .if1 .left) (E .kept .0) (E .kept .1 .1 .0)
     (E .ensures .0 .within) (E .ensures .1 vs x es fs (L .held) n i (X .is-text))
 
 pub extend-spec : {M : Type 1} → statement M
@@ -60,5 +56,4 @@ extend-spec =
     append-value-requires
     same-length
     same-length-2
-    same-length-3
     returns-2)

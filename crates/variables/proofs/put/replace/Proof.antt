@@ -3,7 +3,7 @@
 use mathlib.Core.Path.{sym}
 use native.Mathlib.Omega.{arith}
 use lib.Seq.{length-take-le}
-use Rattle.variables.proofs.Weighing.{short, old-within, replaced-full, replaced-fits, replaced}
+use Rattle.variables.proofs.Weighing.{old-within, replaced-full, replaced-fits, replaced}
 use borrow.Author.Needs.{needs}
 use Rattle.variables.proofs.put.replace.Statement.{statement}
 use Rattle.variables.proofs.put.replace.Tie as tie
@@ -12,17 +12,17 @@ slice-reshare-prefix-weight-of : tie.Need-slice-reshare-prefix-weight-of
 slice-reshare-prefix-weight-of c = search needs
 
 slice-aggregate-weight-of : tie.Need-slice-aggregate-weight-of
-slice-aggregate-weight-of c = sym (length-take-le _ _ (c .before .before .before .before .before .pre .0 .lies .within))
+slice-aggregate-weight-of c = sym (length-take-le _ _ (c .before .before .before .before .pre .0 .lies .within))
 
 weight-of-requires : tie.Need-weight-of-requires
 weight-of-requires c κs =
-    let S = c .before .before .before .before .before .before .pre .0 in
+    let S = c .before .before .before .before .before .pre .0 in
     (record { variables = S .variables; held = S .lies .held; are-valid = S .lies .are-valid }, S .below)
 
 sub-after : tie.Need-sub-after
 sub-after c =
-    let S = c .before .before .before .before .before .before .before .pre .0 in
-    omega (arith, old-within (S .lies) (S .name) (c .before .before .before .before .before .before .before .args .number) (S .below) (S .is-number), c .weight-of .ensures (S .variables) (S .lies .held) (S .lies .are-valid))
+    let S = c .before .before .before .before .before .before .pre .0 in
+    omega (arith, old-within (S .lies) (S .name) (c .before .before .before .before .before .before .args .number) (S .below) (S .is-number), c .weight-of .ensures (S .variables) (S .lies .held) (S .lies .are-valid))
 
 add-after : tie.Need-add-after
 add-after c = search needs
@@ -35,19 +35,18 @@ same-length-2 c = search needs
 
 returns : tie.Need-returns
 returns c vs x v L n W =
-    replaced-full L x (c .before .before .before .before .before .before .before .before .args .number) (c .before .before .before .before .before .before .before .before .pre .0 .below) n v (c .before .before .before .before .before .before .before .before .args .value .now) (c .before .before .before .before .before .before .before .before .args .weight) W (c .before .weight-of .result)
+    replaced-full L x (c .before .before .before .before .before .before .before .args .number) (c .before .before .before .before .before .before .before .pre .0 .below) n v (c .before .before .before .before .before .before .before .args .value .now) (c .before .before .before .before .before .before .before .args .weight) W (c .before .weight-of .result)
     (c .before .weight-of .ensures vs (L .held) (L .are-valid)) (c .if1 .taken)
 
 set-value-requires : tie.Need-set-value-requires
 set-value-requires c κs =
-    let a = c .before .before .before .before .before .before .before .before .before .before .before .args in
-    let P = c .before .before .before .before .before .before .before .before .before .before .before .pre in
+    let a = c .before .before .before .before .before .before .before .before .before .args in
+    let P = c .before .before .before .before .before .before .before .before .before .pre in
     let S = P .0 in
     let U = P .1 in
-    let q = c .before .before .before .before .weight-of .ensures (S .variables) (S .lies .held) (S .lies .are-valid) in (
-      omega (arith, S .lies .size),
+    let q = c .before .before .before .weight-of .ensures (S .variables) (S .lies .held) (S .lies .are-valid) in (
+      S .lies .small,
       S .lies .within,
-      omega (arith, short (S .lies), P .2, P .3),
       record {
         variables = S .variables;
         name = S .name;
@@ -56,7 +55,7 @@ set-value-requires c κs =
         below = S .below;
         number = S .is-number;
         is-text = U .is-value .held .is-text;
-        fits = omega (arith, S .lies .size, replaced-fits (S .lies) (S .name) (a .number) (S .below) (S .is-number) (U .value) (a .value .now) (a .weight) (U .is-value) (c .before .before .before .before .weight-of .result) q (c .before .before .before .if1 .left));
+        fits = omega (arith, S .lies .room, replaced-fits (S .lies) (S .name) (a .number) (S .below) (S .is-number) (U .value) (a .value .now) (a .weight) (U .is-value) (c .before .before .before .weight-of .result) q (c .before .before .if1 .left));
       },
     )
 
@@ -66,15 +65,12 @@ same-length-3 c = search needs
 same-length-4 : tie.Need-same-length-4
 same-length-4 c = search needs
 
-same-length-5 : tie.Need-same-length-5
-same-length-5 c = search needs
-
 returns-2 : tie.Need-returns-2
 returns-2 c vs x v L n W =
-    let a = c .before .before .before .before .before .before .before .before .before .before .before .before .before .before .before .before .before .before .args in
-    let E = c .before .before .before .before .before .before .set-value in
-    replaced L x (a .number) (c .before .before .before .before .before .before .before .before .before .before .before .before .before .before .before .before .before .before .pre .0 .below) n v (a .value .now) (a .weight) W (c .before .before .before .before .before .before .before .before .before .before .before .weight-of .result)
-    (c .before .before .before .before .before .before .before .before .before .before .before .weight-of .ensures vs (L .held) (L .are-valid)) (E .last .0) (E .result) (E .last .1 .1 .1 .0) (c .before .before .before .before .before .before .before .before .before .before .if1 .left) (E .kept .0) (E .kept .1 .1 .1 .0)
+    let a = c .before .before .before .before .before .before .before .before .before .before .before .before .before .before .args in
+    let E = c .before .before .before .before .set-value in
+    replaced L x (a .number) (c .before .before .before .before .before .before .before .before .before .before .before .before .before .before .pre .0 .below) n v (a .value .now) (a .weight) W (c .before .before .before .before .before .before .before .before .weight-of .result)
+    (c .before .before .before .before .before .before .before .before .weight-of .ensures vs (L .held) (L .are-valid)) (E .last .0) (E .result) (E .last .1 .1 .0) (c .before .before .before .before .before .before .before .if1 .left) (E .kept .0) (E .kept .1 .1 .0)
     (E .ensures .0 .within) (E .ensures .1 vs x v (L .held) n (W .held .is-text))
 
 pub replace-spec : {M : Type 1} → statement M
@@ -92,5 +88,4 @@ replace-spec =
     set-value-requires
     same-length-3
     same-length-4
-    same-length-5
     returns-2)
