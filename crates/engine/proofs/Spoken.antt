@@ -28,8 +28,8 @@ use Rattle.language.proofs.Meaning.Printed.{line-is, status-one, returning-one,
 use Rattle.text.specs.declared.Span.{Span}
 use Rattle.text.specs.Meaning.{part, Within}
 use Rattle.syntax.specs.declared.value.Expr as Read
-use Rattle.syntax.specs.declared.command.Command as ReadCommand
-use Rattle.syntax.specs.Commands.{commandMeant}
+use Rattle.commands.specs.declared.command.Command as ReadCommand
+use Rattle.commands.specs.Commands.{commandMeant}
 use Rattle.syntax.specs.Values.{exprMeant, ExprWithin}
 use Rattle.syntax.proofs.Reading.{no-some}
 use Rattle.evaluate.specs.Results.{SomeExpr}

@@ -1,163 +1,169 @@
--- A program under way: some of its commands are done, and the others are left.
+-- A program under way: some of its commands are done, and the others are not read yet.
 use mathlib.Core.Path.{_≡_, refl, sym, ap, subst, _∙_}
 use Prim.Native.Nat.{ℕ, _+_, _*_, _≤_}
 use native.Mathlib.Omega.{arith}
-use mathlib.Core.Bool.{not}
-use mathlib.Core.Option.{some, Option·some-inj}
+use mathlib.Core.Bool.{Bool, true, false, not}
+use mathlib.Core.Option.{Option, none, some}
 use mathlib.Core.List.{List, [], _∷_, _++_, append-assoc, append-nil}
 use lib.Dec.{T}
-use Rattle.language.specs.Text.{Text, all}
+use lib.ListN.{length}
+use Rattle.language.specs.Text.{Text, _>>=_, present, if_then_else_}
 use Rattle.language.specs.Syntax.{Command}
 use Rattle.language.specs.Encode.{bufferSize}
+use Rattle.language.specs.Programs.{longest}
 use Rattle.language.specs.Values.{Session}
-use Rattle.language.specs.Commands.{Effect, Step, Refusal, refused, step}
+use Rattle.language.specs.Commands.{Effect, Step, Refusal, refused, went, step}
 use Rattle.language.specs.Run as Run
 use Rattle.language.specs.Run.{End, refusal, completed, lineCount}
-use Rattle.language.proofs.Logic.Tests.{both}
-use Rattle.language.proofs.Parsing.ValidPrograms.{validCommand, isEnding, endsOnce}
-use Rattle.language.proofs.Parsing.Printing.{allowed, inner-short}
+use Rattle.language.proofs.Parsing.ValidPrograms.{isEnding}
+use Rattle.language.proofs.Parsing.Parsing.{commandRoom}
+use Rattle.language.proofs.Parsing.Printing.{inner-short}
 use Rattle.language.proofs.Meaning.Printed.{count-append}
-use Rattle.syntax.specs.declared.command.Command as Read
-use Rattle.syntax.specs.Commands.{commandMeant, CommandWithin}
-use Rattle.parser.specs.Walks.{commandsFrom, Stepped, Done}
+use Rattle.commands.specs.declared.command.Command as Read
+use Rattle.parser.specs.declared.Rest.{Rest}
+use Rattle.parser.specs.declared.Rest.the-variants as Follows
+use Rattle.parser.specs.Bodies.{bodyFrom, restFrom, First}
 use Rattle.values.specs.Writing.{Written}
 use Rattle.values.proofs.Pieces.{_▸_, written-none}
 use Rattle.running.specs.declared.Layout.{Layout}
 use Rattle.running.specs.Sessions.{Slices, Running}
+use Rattle.engine.specs.declared.Performed.{Performed}
 use Rattle.engine.specs.Commands.{SomeCommand, Advances}
-use Rattle.engine.specs.Ends.{Pending, SomeCommands, Completes}
+use Rattle.engine.specs.Ends.{RestWithin, unlessBroken, endOn, Completes, Ends}
 use Rattle.engine.proofs.Spoken.{one-line, lines-short}
 
 -- ---- lines in front of an end
 
-after-none : (e : End) → e ≡ Run.after [] e
-after-none (refusal r) = refl
-after-none (completed lines s) = refl
+abbrev printing : Text → Option End → Option End
+printing u none = none
+printing u (some e) = some (Run.after u e)
 
-after-after : (t u : Text) (e : End) → Run.after t (Run.after u e) ≡ Run.after (t ++ u) e
-after-after t u (refusal r) = refl
-after-after t u (completed lines s) = ap (λ l. completed l s) (sym (append-assoc t u lines))
+printing-none : (o : Option End) → o ≡ printing [] o
+printing-none none = refl
+printing-none (some (refusal r)) = refl
+printing-none (some (completed lines s)) = refl
+
+printing-more : (t u : Text) (o : Option End) → printing t (printing u o) ≡ printing (t ++ u) o
+printing-more t u none = refl
+printing-more t u (some (refusal r)) = refl
+printing-more t u (some (completed lines s)) = ap (λ l. some (completed l s)) (sym (append-assoc t u lines))
+
+-- the command k in front of those that o is
+after-refused : (s : Session) (k : Command) (r : Refusal) → step s k ≡ refused r → (o : Option (List Command))
+    → endOn s (o >>= λ cs. some (k ∷ cs)) ≡ (if present o then some (refusal r) else none)
+after-refused s k r e none = refl
+after-refused s k r e (some cs) = ap (λ (j : Step). some (Run.next j (λ u. Run.perform u cs))) e
+
+after-went : (s : Session) (k : Command) (f : Effect) → step s k ≡ went f → (o : Option (List Command))
+    → endOn s (o >>= λ cs. some (k ∷ cs)) ≡ printing (f .line) (endOn (f .after) o)
+after-went s k f e none = refl
+after-went s k f e (some cs) = ap (λ (j : Step). some (Run.next j (λ u. Run.perform u cs))) e
 
 -- ---- where a program stands
 
--- of the commands cs on the session s those in `left` are left, which stand from p on in the text: the session now is in the buffers, and what
--- was printed is in the first n bytes of the output
-pub record Stage (s : Session) (cs : List Command) (t : Text) (before : Text) (l : Layout) (b : Slices) (p n lines : ℕ) (output : Text) (left : List Command) : Type 0 where
+-- the program of the lines from `at` on, on the session s, has come to p: the session now is in the buffers, and what was printed is in the
+-- first n bytes of the output, no more than 17 bytes for 8 of the text
+pub record Stage (s : Session) (t : Text) (at : ℕ) (before : Text) (l : Layout) (b : Slices) (p n lines : ℕ) (output : Text) : Type 0 where
   pub session : Session
   pub running : Running session l b
-  pub walked : commandsFrom t p ≡ some left
-  pub are-valid : T (all validCommand left)
-  pub pending : Pending left n
   pub so-far : Text
-  pub same-end : Run.perform s cs ≡ Run.after so-far (Run.perform session left)
+  pub same-end : endOn s (bodyFrom t at) ≡ printing so-far (endOn session (bodyFrom t p))
   pub printed : Written before 0 so-far n output
   pub counted : lines ≡ lineCount so-far
+  pub short : 8 * n ≤ 17 * p
 
-pub record Reached (s : Session) (cs : List Command) (t : Text) (before : Text) (l : Layout) (b : Slices) (p n lines : ℕ) (output : Text) : Type 0 where
-  pub left : List Command
-  pub stage : Stage s cs t before l b p n lines output left
+-- at the start nothing is read
+pub starts : {s : Session} (t before : Text) {l : Layout} {b : Slices} (p : ℕ) → Running s l b → Stage s t p before l b p 0 0 before
+starts {s} t before p R = record {
+  session = s;
+  running = R;
+  so-far = [];
+  same-end = printing-none (endOn s (bodyFrom t p));
+  printed = written-none before 0 (omega arith);
+  counted = refl;
+  short = omega arith;
+}
 
--- the command k is the next one, and the others stand from `next` on
-pub record Turn (s : Session) (cs : List Command) (t : Text) (before : Text) (l : Layout) (b : Slices) (p n lines : ℕ) (output : Text) (k : Read.Command) (next : ℕ) : Type 0 where
-  pub command : Command
-  pub others : List Command
-  pub stage : Stage s cs t before l b p n lines output (command ∷ others)
-  pub meant : commandMeant t k ≡ some command
-  pub walked : commandsFrom t next ≡ some others
+module _ {s : Session} {t : Text} {at : ℕ} {before : Text} {l : Layout} {b : Slices} {p n lines : ℕ} {output : Text} (S : Stage s t at before l b p n lines output) where
+  -- what follows is not the rest of a program
+  pub breaks : bodyFrom t p ≡ none → endOn s (bodyFrom t at) ≡ none
+  breaks e = S .same-end ∙ ap (λ (o : Option (List Command)). printing (S .so-far) (endOn (S .session) o)) e
 
--- at the start all commands are left
-pub starts : {s : Session} {cs : List Command} {t : Text} (before : Text) {l : Layout} {b : Slices} {p : ℕ}
-    → SomeCommands t p → Running s l b → commandsFrom t p ≡ some cs → Reached s cs t before l b p 0 0 before
-starts {s} {cs} {t} before {l} {b} {p} C R e =
-    let same : C .commands ≡ cs = Option·some-inj .0 (sym (C .walked) ∙ e) in
-    record {
-      left = cs;
-      stage = record {
-        session = s;
-        running = R;
-        walked = e;
-        are-valid = subst (λ ds. T (all validCommand ds)) same (C .are-valid);
-        pending = subst (λ ds. Pending ds 0) same (C .pending);
-        so-far = [];
-        same-end = after-none (Run.perform s cs);
-        printed = written-none before 0 (omega arith);
-        counted = refl;
-      };
-    }
+  pub few-lines : lines ≤ n
+  few-lines = omega (arith, S .counted, lines-short (S .so-far), S .printed .ends)
 
-module _ {s : Session} {cs : List Command} {t : Text} {before : Text} {l : Layout} {b : Slices} {p n lines : ℕ} {output : Text} where
-  -- no command is left
-  pub ends : (R : Reached s cs t before l b p n lines output) → Done (R .left) → Completes (Run.perform s cs) l n lines b before output
-  ends R d = go (R .left) (R .stage) d
-    where
-      go : (left : List Command) → Stage s cs t before l b p n lines output left → Done left → Completes (Run.perform s cs) l n lines b before output
-      go [] S d = record {
-        session = S .session;
-        lines = S .so-far;
-        is-end = S .same-end ∙ ap (λ u. completed u (S .session .store)) (append-nil (S .so-far));
-        running = S .running;
-        printed = S .printed;
-        counted = S .counted;
-      }
-      go (c ∷ left) S d = absurd d
+  -- the longest line has room
+  pub has-room : p ≤ length t → length t ≤ longest → n + 28707 ≤ bufferSize
+  has-room h k = omega (arith, S .short)
 
-  pub turn : (k : Read.Command) (next : ℕ) (R : Reached s cs t before l b p n lines output)
-      → Stepped (R .left) (commandMeant t k) (commandsFrom t next) → Turn s cs t before l b p n lines output k next
-  turn k next R h = go (R .left) (R .stage) h
-    where
-      go : (left : List Command) → Stage s cs t before l b p n lines output left → Stepped left (commandMeant t k) (commandsFrom t next)
-          → Turn s cs t before l b p n lines output k next
-      go [] S h = absurd h
-      go (c ∷ left) S h = record { command = c; others = left; stage = S; meant = h .0; walked = h .1 }
-
-  module _ {k : Read.Command} {next : ℕ} (U : Turn s cs t before l b p n lines output k next) where
-    pub some-command : CommandWithin t k → SomeCommand t k
-    some-command w = record {
-      command = U .command;
-      meant = U .meant;
-      within = w;
-      is-valid = both (validCommand (U .command)) (all validCommand (U .others)) (U .stage .are-valid) .0;
-    }
-
-    -- the longest line has room
-    pub has-room : n + 28707 ≤ bufferSize
-    has-room = omega (arith, U .stage .pending .1)
-
-    pub few-lines : lines ≤ n
-    few-lines = omega (arith, U .stage .counted, lines-short (U .stage .so-far), U .stage .printed .ends)
-
+  module _ {c : Read.Command} {rest : Rest} (F : First t p c rest) where
     -- the command cannot be done
-    pub stops : (r : Refusal) → step (U .stage .session) (U .command) ≡ refused r → Run.perform s cs ≡ refusal r
-    stops r e = U .stage .same-end ∙ ap (λ (j : Step). Run.after (U .stage .so-far) (Run.next j (λ u. Run.perform u (U .others)))) e
+    pub stops : (r : Refusal) → step (S .session) (F .command) ≡ refused r
+        → endOn s (bodyFrom t at) ≡ (if present (restFrom t rest) then some (refusal r) else none)
+    stops r e =
+        S .same-end
+        ∙ ap (λ (o : Option (List Command)). printing (S .so-far) (endOn (S .session) o)) (F .all)
+        ∙ ap (printing (S .so-far)) (after-refused (S .session) (F .command) r e (restFrom t rest))
+        ∙ unprinted (present (restFrom t rest))
+      where
+        unprinted : (c : Bool) → printing (S .so-far) (if c then some (refusal r) else none) ≡ (if c then some (refusal r) else none)
+        unprinted true = refl
+        unprinted false = refl
 
     -- it is done
-    pub goes-on : {m : Layout} {d : Slices} {r : ℕ} {out : Text} → Advances (step (U .stage .session) (U .command)) m d output n r out
-        → Reached s cs t before m d next r (lines + 1) out
-    goes-on {m} {d} {r} {out} A =
-        let S = U .stage in
-        let f : Effect = A .effect in
-        let (h₁, h₂) = both (validCommand (U .command)) (all validCommand (U .others)) (S .are-valid) in
-        let one : lineCount (f .line) ≡ 1 = one-line (S .session) (S .running .ready) (U .command) h₁ f (A .is-step) in
-        record {
-          left = U .others;
-          stage = record {
-            session = f .after;
-            running = A .running;
-            walked = U .walked;
-            are-valid = h₂;
-            pending = rest (U .others) (S .pending .0) (S .pending .1);
-            so-far = S .so-far ++ f .line;
-            same-end =
-                S .same-end
-                ∙ ap (λ (j : Step). Run.after (S .so-far) (Run.next j (λ u. Run.perform u (U .others)))) (A .is-step)
-                ∙ after-after (S .so-far) (f .line) (Run.perform (f .after) (U .others));
-            printed = S .printed ▸ A .printed;
-            counted = omega (arith, S .counted, one, count-append (S .so-far) (f .line));
-          };
-        }
-      where
-        rest : (ds : List Command) → T (endsOnce (U .command ∷ ds)) → 8 * n + allowed (U .command ∷ ds) ≤ 8 * bufferSize → Pending ds r
-        rest [] e h = tt
-        rest (c ∷ ds) e h =
-            let (e₁, e₂) = both (not (isEnding (U .command))) (endsOnce (c ∷ ds)) e in
-            (e₂, omega (arith, h, inner-short (U .stage .session) (U .command) (A .effect) e₁ (A .is-step), A .printed .ends))
+    module _ {m : Layout} {d : Slices} {r : ℕ} {out : Text} (A : Advances (step (S .session) (F .command)) m d output n r out) where
+      pub goes-on-as : endOn s (bodyFrom t at) ≡ printing (S .so-far ++ A .effect .line) (endOn (A .effect .after) (restFrom t rest))
+      goes-on-as =
+          S .same-end
+          ∙ ap (λ (o : Option (List Command)). printing (S .so-far) (endOn (S .session) o)) (F .all)
+          ∙ ap (printing (S .so-far)) (after-went (S .session) (F .command) (A .effect) (A .is-step) (restFrom t rest))
+          ∙ printing-more (S .so-far) (A .effect .line) (endOn (A .effect .after) (restFrom t rest))
+
+      pub one-more : lines + 1 ≡ lineCount (S .so-far ++ A .effect .line)
+      one-more =
+          let one : lineCount (A .effect .line) ≡ 1 = one-line (S .session) (S .running .ready) (F .command) (F .is-valid) (A .effect) (A .is-step) in
+          omega (arith, S .counted, one, count-append (S .so-far) (A .effect .line))
+
+pub some-command : {t : Text} {p : ℕ} {c : Read.Command} {rest : Rest} → First t p c rest → SomeCommand t c
+some-command F = record { command = F .command; meant = F .meant; within = F .within; is-valid = F .is-valid }
+
+pub rest-within : {t : Text} {p : ℕ} {c : Read.Command} (rest : Rest) → First t p c rest → RestWithin t rest
+rest-within (Follows.At n) F = F .placed .1
+rest-within Follows.End F = tt
+
+-- a refusal, where the rest of the text is that of a program
+pub refuses : (r : Refusal) (how : Performed) (c : Bool) (e : Option End) (b : Slices) (before after : Text) → Ends how (some (refusal r)) b before after
+    → e ≡ (if c then some (refusal r) else none) → Ends (unlessBroken c how) e b before after
+refuses r how true e b before after h q = subst (λ (o : Option End). Ends how o b before after) (sym q) h
+refuses r how false e b before after h q = q
+
+module _ {s : Session} {t : Text} {at : ℕ} {before : Text} {l : Layout} {b : Slices} {p n lines : ℕ} {output : Text} (S : Stage s t at before l b p n lines output)
+    {c : Read.Command} {m : Layout} {d : Slices} {r : ℕ} {out : Text} where
+  pub goes-on : {next : ℕ} (F : First t p c (Follows.At next)) → Advances (step (S .session) (F .command)) m d output n r out
+      → Stage s t at before m d next r (lines + 1) out
+  goes-on {next} F A = record {
+    session = A .effect .after;
+    running = A .running;
+    so-far = S .so-far ++ A .effect .line;
+    same-end = goes-on-as S F A;
+    printed = S .printed ▸ A .printed;
+    counted = one-more S F A;
+    short =
+        let line : 8 * length (A .effect .line) ≤ 17 * commandRoom (F .command) = inner-short (S .session) (F .command) (A .effect) (not-last (isEnding (F .command)) (F .is-last)) (A .is-step) in
+        omega (arith, S .short, line, F .placed .0, A .printed .ends);
+  }
+    where
+      not-last : (e : Bool) → e ≡ false → T (not e)
+      not-last true h = let z : _≡_ {A = ℕ} 0 1 = cc in absurd (omega arith)
+      not-last false h = tt
+
+  pub ends : (F : First t p c Follows.End) → Advances (step (S .session) (F .command)) m d output n r out
+      → Completes (endOn s (bodyFrom t at)) m r (lines + 1) d before out
+  ends F A = record {
+    session = A .effect .after;
+    lines = S .so-far ++ A .effect .line;
+    is-end = goes-on-as S F A ∙ ap (λ u. some (completed u (A .effect .after .store))) (append-nil (S .so-far ++ A .effect .line));
+    running = A .running;
+    printed = S .printed ▸ A .printed;
+    counted = one-more S F A;
+  }

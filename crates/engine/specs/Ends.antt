@@ -1,47 +1,50 @@
 -- All the commands of a program in turn.
 use mathlib.Core.Path.{_≡_}
-use Prim.Native.Nat.{ℕ, _+_, _*_, _≤_}
-use mathlib.Core.Option.{some}
-use mathlib.Core.List.{List, [], _∷_}
-use lib.Dec.{T}
-use Rattle.language.specs.Text.{Text, all}
+use Prim.Native.Nat.{ℕ, _≤_}
+use mathlib.Core.Bool.{Bool, true, false}
+use mathlib.Core.Option.{Option, none, some}
+use mathlib.Core.List.{List}
+use lib.ListN.{length}
+use Rattle.language.specs.Text.{Text}
 use Rattle.language.specs.Syntax.{Command}
-use Rattle.language.specs.Encode.{bufferSize}
 use Rattle.language.specs.Values.{Session}
 use Rattle.language.specs.Commands.{DENIED, FAILED, FULL}
-use Rattle.language.specs.Run.{End, refusal, completed, lineCount}
-use Rattle.language.proofs.Parsing.ValidPrograms.{validCommand, endsOnce}
-use Rattle.language.proofs.Parsing.Printing.{allowed}
-use Rattle.parser.specs.Walks.{commandsFrom}
+use Rattle.language.specs.Run.{End, refusal, completed, perform, lineCount}
 use Rattle.values.specs.Writing.{Written}
+use Rattle.parser.specs.declared.Rest.{Rest}
+use Rattle.parser.specs.declared.Rest.the-variants as Follows
 use Rattle.running.specs.declared.Layout.{Layout}
 use Rattle.running.specs.Sessions.{Slices, Running}
 use Rattle.engine.specs.declared.Performed.{Performed}
-use Rattle.engine.specs.declared.Performed.the-variants.{Denied, Failed, Full, Completed}
+use Rattle.engine.specs.declared.Performed.the-variants.{Broken, Denied, Failed, Full, Completed}
 
--- where commands are left, the last one ends the program, and there is room for the lines of all
-abbrev pub Pending : List Command → ℕ → Type 0
-Pending [] n = Unit {0}
-Pending (c ∷ cs) n = T (endsOnce (c ∷ cs)) × (8 * n + allowed (c ∷ cs) ≤ 8 * bufferSize)
+-- the lines that follow start within the text
+abbrev pub RestWithin : Text → Rest → Type 0
+RestWithin t (Follows.At n) = n ≤ length t
+RestWithin t Follows.End = Unit
 
--- the text has valid commands from place `at` on, and their lines have room in the output
-pub record SomeCommands (t : Text) (at : ℕ) : Type 0 where
-  pub commands : List Command
-  pub walked : commandsFrom t at ≡ some commands
-  pub are-valid : T (all validCommand commands)
-  pub pending : Pending commands 0
+-- the answer where the text is a program, by whether its rest is that of one
+abbrev pub unlessBroken : Bool → Performed → Performed
+unlessBroken true how = how
+unlessBroken false how = Broken
+
+-- the end of a program's commands on the session s, where they are there
+abbrev pub endOn : Session → Option (List Command) → Option End
+endOn s none = none
+endOn s (some cs) = some (perform s cs)
 
 -- the program is completed: what it leaves is in the buffers, and its lines stand in the first n bytes of the output
-pub record Completes (e : End) (l : Layout) (n count : ℕ) (b : Slices) (before after : Text) : Type 0 where
+pub record Completes (e : Option End) (l : Layout) (n count : ℕ) (b : Slices) (before after : Text) : Type 0 where
   pub session : Session
   pub lines : Text
-  pub is-end : e ≡ completed lines (session .store)
+  pub is-end : e ≡ some (completed lines (session .store))
   pub running : Running session l b
   pub printed : Written before 0 lines n after
   pub counted : count ≡ lineCount lines
 
-abbrev pub Ends : Performed → End → Slices → Text → Text → Type 0
-Ends Denied e b before after = e ≡ refusal DENIED
-Ends Failed e b before after = e ≡ refusal FAILED
-Ends Full e b before after = e ≡ refusal FULL
+abbrev pub Ends : Performed → Option End → Slices → Text → Text → Type 0
+Ends Broken e b before after = e ≡ none
+Ends Denied e b before after = e ≡ some (refusal DENIED)
+Ends Failed e b before after = e ≡ some (refusal FAILED)
+Ends Full e b before after = e ≡ some (refusal FULL)
 Ends (Completed l n count) e b before after = Completes e l n count b before after

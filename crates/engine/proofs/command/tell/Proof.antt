@@ -1,0 +1,113 @@
+-- `engine::command::tell` meets its contract. A refusal is passed on; a status or a value is printed.
+-- Assumes nothing.
+use mathlib.Core.Path.{sym, subst}
+use borrow.Author.Needs.{needs}
+use Rattle.language.specs.Values.{Session}
+use Rattle.running.specs.Sessions.{Running}
+use Rattle.values.proofs.Pieces.{rewritten}
+use Rattle.syntax.proofs.Reading.{known}
+use Rattle.engine.specs.declared.command.Acted.{Acted}
+use Rattle.engine.specs.Commands.{Acts, Hands}
+use Rattle.engine.proofs.Spoken.{json-room, from-start}
+use Rattle.engine.proofs.command.tell.Statement.{statement}
+use Rattle.engine.proofs.command.tell.Tie as tie
+
+here : (c : tie.After-a2) → let S = c .before .before .before .before .pre .0 in
+    Hands (S .step) (S .session) (c .before .before .before .before .args .l) (S .buffers) (c .before .before .before .before .args .value .now) (c .a2 .given .0 .0)
+here c =
+    let S = c .before .before .before .before .pre .0 in
+    known (λ (a : Acted). Acts a (S .step) (S .session) (c .before .before .before .before .args .l) (S .buffers) (c .before .before .before .before .args .value .now)) (S .acts) (c .a2 .given .1)
+
+enum-told : tie.Need-enum-told
+enum-told c = search needs
+
+enum-told-2 : tie.Need-enum-told-2
+enum-told-2 c = search needs
+
+enum-told-3 : tie.Need-enum-told-3
+enum-told-3 c = search needs
+
+enum-known-a : tie.Need-enum-known-a
+enum-known-a c = search needs
+
+print-requires : tie.Need-print-requires
+print-requires c κs = search needs
+
+enum-known-a-2 : tie.Need-enum-known-a-2
+enum-known-a-2 c = search needs
+
+sub-returning : tie.Need-sub-returning
+sub-returning c = search needs
+
+part-returning-start : tie.Need-part-returning-start
+part-returning-start c = search needs
+
+part-returning-end : tie.Need-part-returning-end
+part-returning-end c = here (c .before) .returned .within
+
+returning-requires : tie.Need-returning-requires
+returning-requires c κs =
+    let W = here (c .before .before .before) .returned in
+    let g = c .before .before .before .before .before .before .before in
+    json-room (W .value) _ (g .args .output .now) _ (from-start (W .value) (g .args .value .now) (c .before .before .before .a2 .given .0 .0) (W .held)) (W .light) (g .pre .1)
+
+returns : tie.Need-returns
+returns c k s b A = known (λ (a : Acted). Acts a k s (c .before .before .before .before .args .l) b (c .before .before .before .before .args .value .now)) A (c .enum-told .given .1)
+
+returns-2 : tie.Need-returns-2
+returns-2 c k s b A = known (λ (a : Acted). Acts a k s (c .before .before .before .before .args .l) b (c .before .before .before .before .args .value .now)) A (c .enum-told2 .given .1)
+
+returns-3 : tie.Need-returns-3
+returns-3 c k s b A = known (λ (a : Acted). Acts a k s (c .before .before .before .before .args .l) b (c .before .before .before .before .args .value .now)) A (c .enum-told3 .given .1)
+
+same-length : tie.Need-same-length
+same-length c = search needs
+
+returns-4 : tie.Need-returns-4
+returns-4 c k s b A =
+    let g = c .before .before .before .before .before .before .before .before .before in
+    let S = known (λ (a : Acted). Acts a k s (g .args .l) b (g .args .value .now)) A (c .before .before .before .before .before .a .given .1) in
+    record {
+      effect = S .succeeds .effect;
+      is-step = S .succeeds .is-step;
+      running = S .succeeds .running;
+      printed = rewritten (sym (S .line)) (c .before .before .print .ensures);
+    }
+
+same-length-2 : tie.Need-same-length-2
+same-length-2 c = search needs
+
+returns-5 : tie.Need-returns-5
+returns-5 c k s b A =
+    let g = c .before .before .before .before .before .before .before .before .before .before in
+    let n = c .before .before .before .before .before .before .a2 .given in
+    let H = known (λ (a : Acted). Acts a k s (g .args .l) b (g .args .value .now)) A (n .1) in
+    let W = H .returned in
+    record {
+      effect = W .effect;
+      is-step = W .is-step;
+      running = subst (λ (z : Session). Running z (g .args .l) b) (sym (W .unchanged)) (H .running);
+      printed = rewritten (sym (W .printed)) (c .before .before .returning .ensures (W .value) (from-start (W .value) (g .args .value .now) (n .0 .0) (W .held)));
+    }
+
+pub tell-spec : {M : Type 1} → statement M
+tell-spec =
+    tie.close
+    (tie.spec
+    enum-told
+    enum-told-2
+    enum-told-3
+    enum-known-a
+    print-requires
+    enum-known-a-2
+    sub-returning
+    part-returning-start
+    part-returning-end
+    returning-requires
+    returns
+    returns-2
+    returns-3
+    same-length
+    returns-4
+    same-length-2
+    returns-5)
