@@ -2,12 +2,12 @@
 // `***` line, and prints their lines. It stops after EXITING or at the end of the input, where an unfinished program is dropped.
 mod reading; // programs, cut out of a stream of bytes
 
+use answers::Answer;
+use answers::Kind;
 use libc::SEEK_CUR;
 use libc::STDIN_FILENO;
 use libc::STDOUT_FILENO;
 use reading::Reading;
-use server::answer::Answer;
-use server::answer::Kind;
 
 // The reading after some of the input was taken, and whether to go on.
 struct Taken {

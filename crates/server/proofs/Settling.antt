@@ -27,7 +27,7 @@ use Rattle.numbers.proofs.Places.{code-lt}
 use Rattle.numbers.proofs.Few.{few-people, few-variables, few-assertions}
 use Rattle.validate.specs.Checked.{Understood}
 use Rattle.validate.specs.declared.Parts.{Parts}
-use Rattle.server.specs.Answers.{rightCode}
+use Rattle.answers.specs.Answers.{rightCode}
 
 -- ---- the right
 

@@ -1,16 +1,13 @@
 // The functions open to the host, each over lent buffers. They ask nothing of the caller: a wrong call is answered with its number, and
 // nothing lent is changed. Document 01, "Who gets which number".
-pub mod answer; // what every function answers
-mod ending; // the end of a run
 mod fresh; // the state of a server just made
-mod program; // a program on a state that was checked
 mod question; // whether a principal has a right
 
-use answer::Answer;
+use answers::Answer;
 use validate::Checked;
 ghost use mathlib.Core.Path.{_≡_};
 ghost use Rattle.language.specs.Calls.{makeCall, runCall, askCall};
-ghost use Rattle.server.specs.Answers.{replied};
+ghost use Rattle.answers.specs.Answers.{replied};
 
 // Makes a server: the first password is admin's.
 pub fn make(state: &mut [u8], password: &[u8]) -> Answer
@@ -43,8 +40,8 @@ pub fn run(state: &mut [u8], work: &mut [u8], output: &mut [u8], program: &[u8])
     if work.len() != 65536 {
         return Answer::Wrong(3);
     }
-    let mut people = [0u64; 4096];
-    let mut vars = [0u64; 4096];
+    let mut people = [0u32; 4096];
+    let mut vars = [0u32; 4096];
     let mut standing = [0u64; 2048];
     let checked = validate::check(state, &mut people, &mut vars, &mut standing);
     match checked {
@@ -53,7 +50,7 @@ pub fn run(state: &mut [u8], work: &mut [u8], output: &mut [u8], program: &[u8])
             if !parts.open {
                 return Answer::Wrong(5);
             }
-            program::start(
+            transaction::program::start(
                 state,
                 work,
                 output,
@@ -74,8 +71,8 @@ pub fn ask(state: &[u8], name: &[u8], variable: &[u8], right: u8) -> Answer
     if state.len() != 65536 {
         return Answer::Wrong(2);
     }
-    let mut people = [0u64; 4096];
-    let mut vars = [0u64; 4096];
+    let mut people = [0u32; 4096];
+    let mut vars = [0u32; 4096];
     let mut standing = [0u64; 2048];
     let checked = validate::check(state, &mut people, &mut vars, &mut standing);
     let Checked::Good(parts) = checked else {

@@ -1,12 +1,12 @@
 // The question whether a principal has a right on a shared variable, on a state that was checked.
-use crate::answer::Answer;
+use answers::Answer;
 use store::mark::Found;
 use store::mark::find;
 use validate::Parts;
 ghost use mathlib.Core.Path.{_≡_};
 ghost use Rattle.language.specs.Calls.{rightByte, question};
 ghost use Rattle.validate.specs.Checked.{Understood};
-ghost use Rattle.server.specs.Answers.{answerMeant, rightCode};
+ghost use Rattle.answers.specs.Answers.{answerMeant, rightCode};
 
 // A right's number by its letter, 4 for any other byte.
 fn right_code(b: u8) -> u16
@@ -24,8 +24,8 @@ fn right_code(b: u8) -> u16
 // First the principal is looked for, then the right and the variable, and then the shortest chain.
 pub fn decide(
     state: &[u8],
-    people: &[u64],
-    vars: &[u64],
+    people: &[u32],
+    vars: &[u32],
     standing: &[u64],
     parts: Parts,
     name: &[u8],

@@ -1,11 +1,11 @@
 // The functions open to the host for programs in other languages, each answer as one number (specs/Wire.antt). They ask nothing of their
 // caller but what the types say.
-use server::answer::Answer;
-use server::answer::Kind;
+use answers::Answer;
+use answers::Kind;
 ghost use mathlib.Core.Path.{_≡_};
 ghost use Prim.Native.Nat.{_<_};
 ghost use Rattle.language.specs.Calls.{makeCall, runCall, askCall};
-ghost use Rattle.server.specs.Answers.{kindMeant, answerMeant};
+ghost use Rattle.answers.specs.Answers.{kindMeant, answerMeant};
 ghost use Rattle.server_c.specs.Wire.{coded, endCode, wire, Fits};
 
 // A code in the upper bits, and two numbers of 24 bits.

@@ -3,7 +3,7 @@
 use mathlib.Core.Path.{subst}
 use Rattle.validate.specs.Checked.{Understood, CheckedMeant}
 use Rattle.validate.specs.declared.Checked.{Checked}
-use Rattle.server.specs.Answers.{answerMeant}
+use Rattle.answers.specs.Answers.{answerMeant}
 use Rattle.server.proofs.Refusals.{ask-size, ask-form, ask-done}
 use borrow.Author.Needs.{needs}
 use Rattle.server.proofs.ask.Statement.{statement}

@@ -2,7 +2,7 @@
 -- Assumes nothing.
 use mathlib.Core.Path.{_≡_, sym, ap, subst, _∙_}
 use Rattle.language.specs.Calls.{Reply, Buffers, runCall}
-use Rattle.server.specs.Answers.{answerMeant}
+use Rattle.answers.specs.Answers.{answerMeant}
 use Rattle.server_c.specs.Wire.{Fits}
 use Rattle.server_c.specs.Wire as Wire
 use Rattle.server_c.proofs.Fitting.{run-fits}

@@ -3,8 +3,8 @@
 use native.Mathlib.Omega.{arith}
 use mathlib.Core.Path.{_≡_, sym, ap, subst, _∙_}
 use Prim.Native.Nat.{ℕ}
-use Rattle.server.specs.Answers.{answerMeant}
-use Rattle.server.specs.declared.answer.Answer.{Answer}
+use Rattle.answers.specs.Answers.{answerMeant}
+use Rattle.answers.specs.declared.Answer.{Answer}
 use Rattle.server_c.specs.Wire.{coded, Fits}
 use Rattle.server_c.specs.Wire as Wire
 use borrow.Author.Needs.{needs}

@@ -9,7 +9,7 @@ use Rattle.store.specs.declared.mark.Found.the-variants.{At}
 use Rattle.rights.specs.declared.Answer.{Answer}
 use Rattle.numbers.specs.Numbers.{code, lengthOf}
 use Rattle.validate.specs.Checked.{Understood}
-use Rattle.server.specs.Answers.{rightCode}
+use Rattle.answers.specs.Answers.{rightCode}
 use Rattle.server.proofs.Settling.{Names, names-one, store, store-valid, few-everyone, few-standing, people-rows, vars-rows, are-people, are-vars, unknown-name, unknown-right, unknown-variable, number-fits, asks, answered}
 use borrow.Author.Needs.{needs}
 use Rattle.server.proofs.question.decide.Statement.{statement}

@@ -6,11 +6,11 @@ use Rattle.language.specs.Commands as Refused
 use Rattle.language.specs.Run as Run
 use Rattle.language.specs.Calls as Calls
 use Rattle.numbers.specs.Numbers.{code}
-use Rattle.server.specs.declared.answer.Kind.{Kind}
-use Rattle.server.specs.declared.answer.Kind.the-variants.{Returned, Exited, Denied, Failed, Full}
-use Rattle.server.specs.declared.answer.Finish.{Finish}
-use Rattle.server.specs.declared.answer.Answer.{Answer}
-use Rattle.server.specs.declared.answer.Answer.the-variants.{Wrong, Ended, Yes, No, Ready}
+use Rattle.answers.specs.declared.Kind.{Kind}
+use Rattle.answers.specs.declared.Kind.the-variants.{Returned, Exited, Denied, Failed, Full}
+use Rattle.answers.specs.declared.Finish.{Finish}
+use Rattle.answers.specs.declared.Answer.{Answer}
+use Rattle.answers.specs.declared.Answer.the-variants.{Wrong, Ended, Yes, No, Ready}
 
 abbrev pub kindMeant : Kind → Run.Kind
 kindMeant Returned = Run.returned

@@ -1,10 +1,10 @@
--- `server::ending::refuse` meets its contract. The line stands at the output's start, whatever was printed before.
+-- `transaction::ending::refuse` meets its contract. The line stands at the output's start, whatever was printed before.
 -- Assumes nothing.
 use Rattle.language.specs.Run.{refusal}
-use Rattle.server.proofs.Closings.{first-bytes, first-text, one-line}
+use Rattle.transaction.proofs.Closings.{first-bytes, first-text, one-line}
 use borrow.Author.Needs.{needs}
-use Rattle.server.proofs.ending.refuse.Statement.{statement}
-use Rattle.server.proofs.ending.refuse.Tie as tie
+use Rattle.transaction.proofs.ending.refuse.Statement.{statement}
+use Rattle.transaction.proofs.ending.refuse.Tie as tie
 
 status-requires : tie.Need-status-requires
 status-requires c κs = search needs

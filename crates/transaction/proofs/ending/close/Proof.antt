@@ -1,9 +1,9 @@
--- `server::ending::close` meets its contract. Zeros after the output's lines, and in the whole work buffer.
+-- `transaction::ending::close` meets its contract. Zeros after the output's lines, and in the whole work buffer.
 -- Assumes nothing.
-use Rattle.server.proofs.Closings.{closes}
+use Rattle.transaction.proofs.Closings.{closes}
 use borrow.Author.Needs.{needs}
-use Rattle.server.proofs.ending.close.Statement.{statement}
-use Rattle.server.proofs.ending.close.Tie as tie
+use Rattle.transaction.proofs.ending.close.Statement.{statement}
+use Rattle.transaction.proofs.ending.close.Tie as tie
 
 zero-rest-requires : tie.Need-zero-rest-requires
 zero-rest-requires c κs = search needs

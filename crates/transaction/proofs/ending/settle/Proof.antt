@@ -1,7 +1,8 @@
--- `server::ending::settle` meets its contract. A refusal leaves the state as it was; a completed program's session is saved.
+-- `transaction::ending::settle` meets its contract. A refusal leaves the state as it was, and so does a text that is no program; a completed program's session is saved.
 -- Assumes nothing.
-use mathlib.Core.Path.{refl, subst}
+use mathlib.Core.Path.{refl, ap, subst}
 use native.Mathlib.Omega.{arith}
+use mathlib.Core.Option.{Option}
 use Rattle.language.specs.Text.{Text}
 use Rattle.language.specs.Commands.{DENIED, FAILED, FULL}
 use Rattle.language.specs.Run.{End}
@@ -9,18 +10,19 @@ use Rattle.values.proofs.Pieces.{written-length}
 use Rattle.running.specs.Sessions.{Slices, slices}
 use Rattle.engine.specs.declared.Performed.{Performed}
 use Rattle.engine.specs.Ends.{Completes, Ends}
-use Rattle.server.proofs.Closings.{closed-refusal, kept, kind-is, count-is, bytes-are, lines-are, state-is}
+use Rattle.transaction.specs.Endings.{endOr}
+use Rattle.transaction.proofs.Closings.{closed-refusal, kept, kind-is, count-is, bytes-are, lines-are, state-is}
 use borrow.Author.Needs.{needs}
-use Rattle.server.proofs.ending.settle.Statement.{statement}
-use Rattle.server.proofs.ending.settle.Tie as tie
+use Rattle.transaction.proofs.ending.settle.Statement.{statement}
+use Rattle.transaction.proofs.ending.settle.Tie as tie
 
 abbrev lent : tie.Start → Slices
 lent c = let a = c .args in slices (a .people .now) (a .people-marks .now) (a .work .now) (a .var-marks .now) (a .locals .now) (a .local-marks .now) (a .standing .now)
 
-abbrev Ending : tie.Start → End → Text → Performed → Type 0
+abbrev Ending : tie.Start → Option End → Text → Performed → Type 0
 Ending c e before d = Ends d e (lent c) before (c .args .output .now)
 
-completes : (c : tie.After-performed) (e : End) (before : Text) → Ending (c .before .before .before .before .before .before .before .before .before .before .before) e before (c .before .before .before .before .before .before .before .before .before .before .before .args .performed)
+completes : (c : tie.After-performed) (e : Option End) (before : Text) → Ending (c .before .before .before .before .before .before .before .before .before .before .before) e before (c .before .before .before .before .before .before .before .before .before .before .before .args .performed)
     → Completes e (c .performed .given .0 .0) (c .performed .given .0 .1 .0) (c .performed .given .0 .1 .1 .0) (lent (c .before .before .before .before .before .before .before .before .before .before .before)) before (c .before .before .before .before .before .before .before .before .before .before .before .args .output .now)
 completes c e before D = subst (Ending (c .before .before .before .before .before .before .before .before .before .before .before) e before) (c .performed .given .1) D
 
@@ -51,6 +53,15 @@ slice-aggregate-refuse-3 c = search needs
 refuse-requires-3 : tie.Need-refuse-requires-3
 refuse-requires-3 c κs = search needs
 
+enum-told-4 : tie.Need-enum-told-4
+enum-told-4 c = search needs
+
+slice-aggregate-refuse-4 : tie.Need-slice-aggregate-refuse-4
+slice-aggregate-refuse-4 c = search needs
+
+refuse-requires-4 : tie.Need-refuse-requires-4
+refuse-requires-4 c κs = search needs
+
 enum-known-performed : tie.Need-enum-known-performed
 enum-known-performed c = search needs
 
@@ -61,7 +72,7 @@ save-requires : tie.Need-save-requires
 save-requires c κs =
     let P = c .before .before .before .before .before .before .before .before .before .before .before .before .before .before .before .pre .0 in
     let C = completes (c .before .before .before .before) (P .end) (P .before) (P .ends) in
-    (record { session = C .session; running = C .running }, (c .before .before .before .before .before .before .before .before .before .before .before .before .before .before .before .pre .1 .1, c .before .before .counted .ensures .1))
+    (record { session = C .session; running = C .running }, (c .before .before .before .before .before .before .before .before .before .before .before .before .before .before .before .pre .1 .1, c .before .before .counted .ensures .1, c .before .before .before .before .before .before .before .before .before .before .before .before .before .before .before .pre .1 .4, c .before .before .before .before .before .before .before .before .before .before .before .before .before .before .before .pre .1 .5))
 
 end-kind-requires : tie.Need-end-kind-requires
 end-kind-requires c κs = search needs
@@ -80,8 +91,8 @@ same-length-2 c = search needs
 
 returns : tie.Need-returns
 returns c e before D =
-    let R = c .before .before .before .before .refuse .ensures DENIED refl refl in
-    let h = subst (Ending (c .before .before .before .before .before .before .before .before .before .before .before .before .before .before .before .before .before .before .before) e before) (c .before .before .before .before .before .before .before .before .enum-told .given .1) D in
+    let R = c .before .before .before .before .refuse .ensures FAILED refl refl in
+    let h = ap endOr (subst (Ending (c .before .before .before .before .before .before .before .before .before .before .before .before .before .before .before .before .before .before .before) e before) (c .before .before .before .before .before .before .before .before .enum-told .given .1) D) in
     (closed-refusal R h, λ s k. kept R h (c .before .before .before .before .before .before .before .before .before .before .before .before .before .before .before .before .before .before .before .args .state .now) s)
 
 same-length-3 : tie.Need-same-length-3
@@ -92,8 +103,8 @@ same-length-4 c = search needs
 
 returns-2 : tie.Need-returns-2
 returns-2 c e before D =
-    let R = c .before .before .before .before .refuse2 .ensures FAILED refl refl in
-    let h = subst (Ending (c .before .before .before .before .before .before .before .before .before .before .before .before .before .before .before .before .before .before .before) e before) (c .before .before .before .before .before .before .before .before .enum-told2 .given .1) D in
+    let R = c .before .before .before .before .refuse2 .ensures DENIED refl refl in
+    let h = ap endOr (subst (Ending (c .before .before .before .before .before .before .before .before .before .before .before .before .before .before .before .before .before .before .before) e before) (c .before .before .before .before .before .before .before .before .enum-told2 .given .1) D) in
     (closed-refusal R h, λ s k. kept R h (c .before .before .before .before .before .before .before .before .before .before .before .before .before .before .before .before .before .before .before .args .state .now) s)
 
 same-length-5 : tie.Need-same-length-5
@@ -104,8 +115,8 @@ same-length-6 c = search needs
 
 returns-3 : tie.Need-returns-3
 returns-3 c e before D =
-    let R = c .before .before .before .before .refuse3 .ensures FULL refl refl in
-    let h = subst (Ending (c .before .before .before .before .before .before .before .before .before .before .before .before .before .before .before .before .before .before .before) e before) (c .before .before .before .before .before .before .before .before .enum-told3 .given .1) D in
+    let R = c .before .before .before .before .refuse3 .ensures FAILED refl refl in
+    let h = ap endOr (subst (Ending (c .before .before .before .before .before .before .before .before .before .before .before .before .before .before .before .before .before .before .before) e before) (c .before .before .before .before .before .before .before .before .enum-told3 .given .1) D) in
     (closed-refusal R h, λ s k. kept R h (c .before .before .before .before .before .before .before .before .before .before .before .before .before .before .before .before .before .before .before .args .state .now) s)
 
 same-length-7 : tie.Need-same-length-7
@@ -114,13 +125,25 @@ same-length-7 c = search needs
 same-length-8 : tie.Need-same-length-8
 same-length-8 c = search needs
 
+returns-4 : tie.Need-returns-4
+returns-4 c e before D =
+    let R = c .before .before .before .before .refuse4 .ensures FULL refl refl in
+    let h = ap endOr (subst (Ending (c .before .before .before .before .before .before .before .before .before .before .before .before .before .before .before .before .before .before .before) e before) (c .before .before .before .before .before .before .before .before .enum-told4 .given .1) D) in
+    (closed-refusal R h, λ s k. kept R h (c .before .before .before .before .before .before .before .before .before .before .before .before .before .before .before .before .before .before .before .args .state .now) s)
+
 same-length-9 : tie.Need-same-length-9
 same-length-9 c = search needs
 
-returns-4 : tie.Need-returns-4
-returns-4 c e before D =
+same-length-10 : tie.Need-same-length-10
+same-length-10 c = search needs
+
+same-length-11 : tie.Need-same-length-11
+same-length-11 c = search needs
+
+returns-5 : tie.Need-returns-5
+returns-5 c e before D =
     let C = completes (c .before .before .before .before .before .before .before .before .before .before .before .before .before .before .before) e before D in (
-      c .before .before .before .before .close .ensures e (kind-is C (c .before .before .before .before .before .before .before .end-kind .result) (c .before .before .before .before .before .before .before .end-kind .ensures)) (count-is C) (bytes-are C) (lines-are C),
+      c .before .before .before .before .close .ensures (endOr e) (kind-is C (c .before .before .before .before .before .before .before .end-kind .result) (c .before .before .before .before .before .before .before .end-kind .ensures)) (count-is C) (bytes-are C) (lines-are C),
       state-is C (c .before .before .before .before .before .before .before .before .before .before .before .before .before .before .before .before .before .before .before .before .before .before .before .before .before .before .args .count) (c .before .before .before .before .before .before .before .before .before .before .before .before .before .counted .result) (c .before .before .before .before .before .before .before .before .before .before .before .before .before .before .before .before .before .before .before .before .before .before .before .before .before .before .args .state .now) _ (c .before .before .before .before .before .before .before .before .before .before .before .before .before .counted .ensures .0) (c .before .before .before .before .before .before .before .before .before .before .save .ensures (C .session) (C .running)),
     )
 
@@ -137,6 +160,9 @@ settle-spec =
     enum-told-3
     slice-aggregate-refuse-3
     refuse-requires-3
+    enum-told-4
+    slice-aggregate-refuse-4
+    refuse-requires-4
     enum-known-performed
     counted-requires
     save-requires
@@ -153,5 +179,8 @@ settle-spec =
     returns-3
     same-length-7
     same-length-8
+    returns-4
     same-length-9
-    returns-4)
+    same-length-10
+    same-length-11
+    returns-5)

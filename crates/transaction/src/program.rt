@@ -1,13 +1,13 @@
 // A program on a state that was checked and is open.
-use crate::answer::Answer;
-use crate::answer::Kind;
 use crate::ending::refuse;
 use crate::ending::settle;
+use answers::Answer;
+use answers::Kind;
 use engine::perform;
 use opening::Login;
 use opening::begin;
 use opening::log_in;
-use parser::Parsed;
+use parser::Head;
 use validate::Parts;
 ghost use mathlib.Core.Path.{_≡_};
 ghost use lib.ListN.{length};
@@ -15,8 +15,8 @@ ghost use Rattle.language.specs.Programs.{parse};
 ghost use Rattle.language.specs.Run as Run;
 ghost use Rattle.language.specs.Calls.{endReply};
 ghost use Rattle.validate.specs.Checked.{Understood};
-ghost use Rattle.server.specs.Answers.{replied};
-ghost use Rattle.server.specs.Endings.{Admitted};
+ghost use Rattle.answers.specs.Answers.{replied};
+ghost use Rattle.transaction.specs.Endings.{Admitted};
 
 // A program whose login is right: its session works on copies of the state's texts, the variables in the work buffer.
 fn session(
@@ -24,8 +24,8 @@ fn session(
     work: &mut [u8],
     output: &mut [u8],
     program: &[u8],
-    people_marks: &mut [u64],
-    var_marks: &mut [u64],
+    people_marks: &mut [u32],
+    var_marks: &mut [u32],
     standing: &mut [u64],
     parts: Parts,
     sender: usize,
@@ -39,9 +39,9 @@ fn session(
         ≡ endReply (record { state = now (state .entry); work = now (work .entry); output = now (output .entry) }) (a .understood .state)
         (Run.run (a .understood .state .store) (parse (now (program .entry))))) ⌝ }
 {
-    let mut people = [0u8; 45056];
-    let mut locals = [0u8; 65536];
-    let mut local_marks = [0u64; 4096];
+    let mut people = [0u8; 20992];
+    let mut locals = [0u8; 32768];
+    let mut local_marks = [0u32; 4096];
     let start = begin(
         state,
         people_marks,
@@ -55,9 +55,7 @@ fn session(
         &local_marks,
     );
     let mut value = [0u8; 45056];
-    let mut spare = [0u8; 45056];
-    let mut list = [0u8; 45056];
-    let mut labels = [0u64; 4096];
+    let mut labels = [0u32; 4096];
     let performed = perform(
         &mut people,
         people_marks,
@@ -67,8 +65,6 @@ fn session(
         &mut local_marks,
         standing,
         &mut value,
-        &mut spare,
-        &mut list,
         &mut labels,
         start,
         program,
@@ -87,17 +83,19 @@ fn session(
         parts.count,
         state,
         output,
+        parts.used,
     )
 }
 
-// First the program is parsed, then the password is looked at, and then the commands are done in turn.
+// First the login is read, then the password is looked at, and then the commands are read and done in turn. A text that is no program is
+// FAILED, wherever that is found out.
 pub fn start(
     state: &mut [u8],
     work: &mut [u8],
     output: &mut [u8],
     program: &[u8],
-    people_marks: &mut [u64],
-    var_marks: &mut [u64],
+    people_marks: &mut [u32],
+    var_marks: &mut [u32],
     standing: &mut [u64],
     parts: Parts,
 ) -> Answer
@@ -109,12 +107,12 @@ pub fn start(
         ≡ endReply (record { state = now (state .entry); work = now (work .entry); output = now (output .entry) }) (u .state)
         (Run.run (u .state .store) (parse (now (program .entry))))) ⌝ }
 {
-    let parsed = parser::program(program);
-    let Parsed::Program {
+    let head = parser::login(program);
+    let Head::Login {
         sender,
         password,
         at,
-    } = parsed
+    } = head
     else {
         return refuse(work, output, Kind::Failed, b"FAILED");
     };
@@ -131,7 +129,12 @@ pub fn start(
     );
     match login {
         Login::Unknown => refuse(work, output, Kind::Failed, b"FAILED"),
-        Login::Mistaken => refuse(work, output, Kind::Denied, b"DENIED"),
+        Login::Mistaken => {
+            if parser::body_at(program, at) {
+                return refuse(work, output, Kind::Denied, b"DENIED");
+            }
+            refuse(work, output, Kind::Failed, b"FAILED")
+        }
         Login::Right(number) => session(
             state,
             work,

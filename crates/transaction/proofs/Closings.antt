@@ -4,13 +4,14 @@ use mathlib.Core.Path.{_≡_, refl, sym, ap, subst, _∙_}
 use Prim.Native.Nat.{ℕ, _-_}
 use native.Mathlib.Omega.{arith}
 use mathlib.Core.Bool.{Bool}
+use mathlib.Core.Option.{Option}
 use mathlib.Core.List.{[], _++_}
 use lib.ListN.{length, take, replicate}
 use Rattle.language.specs.Text.{Text, if_then_else_}
 use Rattle.language.specs.State.{State}
 use Rattle.language.specs.Encode.{stateText, bufferSize, padded}
 use Rattle.language.specs.Commands.{Refusal, DENIED, FAILED, FULL}
-use Rattle.language.specs.Run.{End, refusal, refusalLine, output, Kind, returned, exited, kindOf, lineCount}
+use Rattle.language.specs.Run.{End, refusal, completed, refusalLine, output, Kind, returned, exited, kindOf, lineCount}
 use Rattle.language.specs.Run as Run
 use Rattle.language.specs.Calls.{ended, Buffers, stateAfter, endReply}
 use Rattle.values.specs.Writing.{Written}
@@ -18,12 +19,12 @@ use Rattle.values.proofs.Pieces.{rewritten, written-take}
 use Rattle.render.proofs.Zeros.{padded-is}
 use Rattle.running.specs.declared.Layout.{Layout}
 use Rattle.running.specs.Sessions.{Slices}
-use Rattle.server.specs.declared.answer.Kind as Is
-use Rattle.server.specs.declared.answer.Answer.{Answer}
-use Rattle.server.specs.declared.answer.Answer.the-variants.{Ended}
-use Rattle.server.specs.Answers.{kindMeant, replied}
+use Rattle.answers.specs.declared.Kind as Is
+use Rattle.answers.specs.declared.Answer.{Answer}
+use Rattle.answers.specs.declared.Answer.the-variants.{Ended}
+use Rattle.answers.specs.Answers.{kindMeant, replied}
 use Rattle.engine.specs.Ends.{Completes}
-use Rattle.server.specs.Endings.{Closed}
+use Rattle.transaction.specs.Endings.{Closed, endOr}
 
 -- ---- zeros after the output's first bytes and in the work buffer
 
@@ -68,26 +69,29 @@ module _ {r : Answer} {f : Refusal} {work out : Text} (C : Closed r (refusal f) 
 
 -- ---- a completed program
 
-module _ {e : End} {l : Layout} {n count : ℕ} {b : Slices} {before after : Text} (C : Completes e l n count b before after) where
-  pub kind-is : (k : Is.Kind) → kindMeant k ≡ (if_then_else_ {A = Kind} (l .«is_open») returned exited) → kindMeant k ≡ kindOf e
-  kind-is k h = h ∙ ap (λ (o : Bool). if_then_else_ {A = Kind} o returned exited) (C .running .is-open) ∙ sym (ap kindOf (C .is-end))
+module _ {e : Option End} {l : Layout} {n count : ℕ} {b : Slices} {before after : Text} (C : Completes e l n count b before after) where
+  the-end : endOr e ≡ completed (C .lines) (C .session .store)
+  the-end = ap endOr (C .is-end)
 
-  pub count-is : count ≡ lineCount (output e)
-  count-is = C .counted ∙ sym (ap (λ (k : End). lineCount (output k)) (C .is-end))
+  pub kind-is : (k : Is.Kind) → kindMeant k ≡ (if_then_else_ {A = Kind} (l .«is_open») returned exited) → kindMeant k ≡ kindOf (endOr e)
+  kind-is k h = h ∙ ap (λ (o : Bool). if_then_else_ {A = Kind} o returned exited) (C .running .is-open) ∙ sym (ap kindOf the-end)
 
-  pub bytes-are : n ≡ length (output e)
-  bytes-are = first-bytes (sym (ap output (C .is-end))) (C .printed)
+  pub count-is : count ≡ lineCount (output (endOr e))
+  count-is = C .counted ∙ sym (ap (λ (k : End). lineCount (output k)) the-end)
 
-  pub lines-are : take n after ≡ output e
-  lines-are = first-text (sym (ap output (C .is-end))) (C .printed)
+  pub bytes-are : n ≡ length (output (endOr e))
+  bytes-are = first-bytes (sym (ap output the-end)) (C .printed)
+
+  pub lines-are : take n after ≡ output (endOr e)
+  lines-are = first-text (sym (ap output the-end)) (C .printed)
 
   pub state-is : (programs more : ℕ) (state-before state-after : Text) → more ≡ Run.counted programs
       → state-after ≡ padded (stateText (record { count = more; store = C .session .store }))
-      → (s : State) → s .count ≡ programs → state-after ≡ stateAfter state-before s e
+      → (s : State) → s .count ≡ programs → state-after ≡ stateAfter state-before s (endOr e)
   state-is programs more state-before state-after m h s c =
       h
       ∙ ap (λ (k : ℕ). padded (stateText (record { count = k; store = C .session .store }))) (m ∙ ap Run.counted (sym c))
-      ∙ sym (ap (stateAfter state-before s) (C .is-end))
+      ∙ sym (ap (stateAfter state-before s) the-end)
 
 -- ---- the reply
 
