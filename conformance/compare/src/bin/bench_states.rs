@@ -40,35 +40,25 @@ fn late_assertions(count: usize, principals: usize) -> Vec<u8> {
     })
 }
 
-/// Names of eight letters that all have one print (crates/store/specs/Held.antt), the first of so many: those whose bytes are the digits,
-/// in base 31, of a number with this print as its rest.
-fn one_print(count: usize) -> Vec<Vec<u8>> {
-    let mut found = Vec::new();
-    for turn in 0.. {
-        names_of(0x5eed_0000 + (turn << 32), 8, &mut Vec::new(), &mut found);
-        if found.len() >= count {
-            break;
+/// The shortest names that all have one print (crates/store/specs/Held.antt), as many as weigh so much with a principal's line each.
+fn one_print(weight: usize) -> Vec<Vec<u8>> {
+    const PRINT: u16 = 0x5eed;
+    let letters: Vec<u8> = (b'0'..=b'z').filter(|byte| byte.is_ascii_alphanumeric() || *byte == b'_').collect();
+    let print = |name: &[u8]| name.iter().fold(0u16, |so_far, byte| so_far.wrapping_mul(31).wrapping_add(u16::from(*byte)));
+    let (mut found, mut left) = (Vec::new(), weight);
+    let mut longer: Vec<Vec<u8>> = letters.iter().filter(|byte| byte.is_ascii_alphabetic()).map(|byte| vec![*byte]).collect();
+    loop {
+        for name in longer.iter().filter(|name| print(name) == PRINT) {
+            if left < name.len() + 1 {
+                return found;
+            }
+            left -= name.len() + 1;
+            found.push(name.clone());
         }
-    }
-    found.truncate(count);
-    found
-}
-
-/// The names of a length that are this number in base 31; `behind` is what follows, last byte first.
-fn names_of(number: u64, length: usize, behind: &mut Vec<u8>, found: &mut Vec<Vec<u8>>) {
-    if length == 0 {
-        if number == 0 && behind[7].is_ascii_alphabetic() {
-            found.push(behind.iter().rev().copied().collect());
-        }
-        return;
-    }
-    for byte in b'0'..=b'z' {
-        let word = byte.is_ascii_alphanumeric() || byte == b'_';
-        if word && number >= u64::from(byte) && (number - u64::from(byte)) % 31 == 0 {
-            behind.push(byte);
-            names_of((number - u64::from(byte)) / 31, length - 1, behind, found);
-            behind.pop();
-        }
+        // Names of five letters are enough, and need not all be made.
+        let fronts = std::mem::take(&mut longer);
+        let fronts = if fronts[0].len() == 4 { &fronts[..fronts.len() / 8] } else { &fronts[..] };
+        longer = fronts.iter().flat_map(|front| letters.iter().map(|byte| [&front[..], &[*byte]].concat())).collect();
     }
 }
 
@@ -80,7 +70,7 @@ fn cases() -> Vec<(&'static str, Vec<u8>)> {
     let named = |before: &'static str, after: &'static str| {
         move |n: usize| [before.as_bytes(), &short_name(n), after.as_bytes()].concat()
     };
-    let same = one_print(908);
+    let same = one_print(8_180);
     let people = repeated(16, |n| format!("P\t{}\t\n", letter(n)).into_bytes());
     let lists = repeated(4, |n| format!("V\t{}\tL\n", letter(n)).into_bytes());
     vec![
