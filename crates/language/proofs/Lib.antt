@@ -10,3 +10,5 @@ pub mod Meaning
 pub mod Parsing
 -- Demand 3
 pub mod Histories
+-- The three demands together
+pub mod Demanded

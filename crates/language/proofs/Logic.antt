@@ -1,3 +1,4 @@
 -- Laws of the Bool tests and of `do` blocks.
 pub mod Tests
 pub mod Outcomes
+pub mod Lists

@@ -7,3 +7,4 @@ pub mod ValidCommands
 pub mod ValidRuns
 pub mod Weights
 pub mod Printed
+pub mod LineCounts

@@ -26,3 +26,5 @@ pub mod Calls
 -- "The book of demand 3"
 pub mod Events
 pub mod History
+-- The three demands together
+pub mod Demands

@@ -10,21 +10,10 @@ use Rattle.language.specs.Encode.{bufferSize}
 use Rattle.language.specs.Programs.{parse}
 use Rattle.language.specs.Run.{counted}
 use Rattle.language.specs.Calls.{wrong, yes, no, ready, Buffers, makeCall, runCall, runOn, askCall, question, rightByte}
-use Rattle.worked.specs.Sessions.{page, runs, new, after-session, admin-sends}
+use Rattle.worked.specs.Sessions.{letters, runs, after-session, admin-sends}
 use Rattle.worked.specs.Texts.{accepted}
 
--- n times the letter a
-abbrev pub letters : ℕ → Text
-letters n = replicate n 97
-
--- ---- FULL: a server just made weighs 8, and `x` adds 2 and its text
-
-abbrev pub setting : ℕ → Text
-setting n = bytes "as principal admin password \"desk\" do\nset x = \"" ++ letters n ++ bytes "\"\nreturn \"\"\n***\n"
-
-pub full : map (λ n. runs new (setting n ∷ []) .printed) (8182 ∷ 8183 ∷ [])
-    ≡ page ("{\"status\":\"SET\"}" ∷ "{\"status\":\"RETURNING\",\"output\":\"\"}" ∷ []) ∷ page ("{\"status\":\"FULL\"}" ∷ []) ∷ []
-full = refl
+-- ---- FULL: the two programs at the limit are rows of the starred table
 
 -- the state text that weighs 8,192 is well formed, and the one that weighs 8,193 is not
 abbrev pub weighing : ℕ → Text

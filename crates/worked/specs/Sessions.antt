@@ -3,6 +3,7 @@ use Prim.Native.Nat.{ℕ}
 use Prim.Native.String.{String}
 use mathlib.Core.Option.{Option, none, some}
 use mathlib.Core.List.{List, [], _∷_, _++_}
+use lib.ListN.{replicate}
 use Rattle.language.specs.Text.{Text, bytes, joined, decimal}
 use Rattle.language.specs.State.{State, fresh}
 use Rattle.language.specs.Programs.{parse}
@@ -58,3 +59,11 @@ pub record Case : Type 0 where
   pub what : String
   pub gives : Text
   pub expected : Text
+
+-- n times the letter a
+abbrev pub letters : ℕ → Text
+letters n = replicate n 97
+
+-- a program of admin's that sets x to n letters: a server just made weighs 8, and `x` adds 2 and its text
+abbrev pub setting : ℕ → Text
+setting n = bytes "as principal admin password \"desk\" do\nset x = \"" ++ letters n ++ bytes "\"\nreturn \"\"\n***\n"

@@ -1,5 +1,5 @@
 -- The starred cases of document 01, "Desk sessions": one table of the definitions' values, and one theorem.
--- Programs are given by their bytes, and all start from the session's own state.
+-- Programs are given by their bytes. All but the last two start from the session's own state.
 use mathlib.Core.Path.{_≡_, refl}
 use mathlib.Core.List.{List, [], _∷_, map}
 use Rattle.language.specs.Text.{bytes, decimal}
@@ -7,7 +7,7 @@ use Rattle.language.specs.Syntax.{read}
 use Rattle.language.specs.Weight.{storeWeight}
 use Rattle.language.specs.Chains.{chainLength}
 use Rattle.language.specs.Encode.{stateText, assertionsText}
-use Rattle.worked.specs.Sessions.{page, runs, new, session, after-session, answer, admin-sends, rosa-sends, lengthText, Case}
+use Rattle.worked.specs.Sessions.{page, runs, new, session, after-session, answer, admin-sends, rosa-sends, lengthText, Case, setting}
 
 abbrev pub starred : List Case
 starred =
@@ -61,6 +61,12 @@ starred =
       expected = page ("{\"status\":\"DELETE_DELEGATION\"}" ∷ "{\"status\":\"RETURNING\",\"output\":\"\"}" ∷ "{\"status\":\"DENIED\"}" ∷ []);
     }
     ∷ record { what = "the empty program"; gives = answer ([] ∷ []); expected = page ("{\"status\":\"FAILED\"}" ∷ []) }
+    ∷ record {
+      what = "x of 8,182 characters, on a server just made";
+      gives = runs new (setting 8182 ∷ []) .printed;
+      expected = page ("{\"status\":\"SET\"}" ∷ "{\"status\":\"RETURNING\",\"output\":\"\"}" ∷ []);
+    }
+    ∷ record { what = "of 8,183"; gives = runs new (setting 8183 ∷ []) .printed; expected = page ("{\"status\":\"FULL\"}" ∷ []) }
     ∷ []
 
 pub starred-cases : map (λ c. c .gives) starred ≡ map (λ c. c .expected) starred

@@ -13,16 +13,19 @@ use Rattle.language.specs.State.{State, named, valueIn}
 use Rattle.language.specs.Weight.{limit, storeWeight}
 use Rattle.language.specs.Valid.{wellFormed}
 use Rattle.language.specs.Chains.{Chain, Shortest, chainLength}
+use Rattle.language.specs.Output.{status}
+use Rattle.language.specs.Encode.{padded}
+use Rattle.language.specs.Decode.{Holds}
 use Rattle.language.specs.Programs.{parse}
 use Rattle.language.specs.Commands.{DENIED}
-use Rattle.language.specs.Run.{End, refusal, completed, run, returned, exited, stopped, kindOf, result}
-use Rattle.language.specs.Calls.{Answer, wrong, ended, yes, no, Buffers, checked, sized, endReply, rightByte, lengthAnswer, question}
+use Rattle.language.specs.Run.{End, refusal, completed, run, output, returned, exited, stopped, kindOf, result}
+use Rattle.language.specs.Calls.{Answer, wrong, ended, yes, no, Buffers, checked, sized, endReply, runCall, rightByte, lengthAnswer, question}
 use Rattle.language.specs.History.{Call, send, ask, stateOf, reply, Book, runFault, askFault, fault, isWrong, Completes, Offends}
 use Rattle.language.proofs.Logic.Tests.{both}
 use Rattle.language.proofs.StateText.Shape.{Shape, shape}
 use Rattle.language.proofs.Rights.Search.{none-there, one-there}
 use Rattle.language.proofs.Histories.Offences.{sound, run-denied}
-use Rattle.language.proofs.Histories.Mirror.{Mirrors, lentFor, reply-send, reply-ask, store-valid}
+use Rattle.language.proofs.Histories.Mirror.{heldState, lentFor, whole-reply, reply-send, reply-ask, store-valid}
 
 -- answers may be replaced by equal ones
 along : {A : Type 0} {a a′ : Answer} → a ≡ a′ → (c : Answer) → (a′ ≡ c) ↔ A → (a ≡ c) ↔ A
@@ -43,17 +46,17 @@ denied-result e = (λ h. go e (same-kind h), λ h. ap (λ k. ended (result k)) h
     go (refusal r) h = cc
     go (completed lines s) h = absurd (open-kind (s .isOpen) h)
 
-module _ (buffer : Text) (b : Book) (m : Mirrors buffer b) where
+module _ (buffer : Text) (b : Book) (n : ℕ) (m : Holds buffer (heldState b n)) where
   abbrev held-state : State
-  held-state = record { count = m .count; store = b }
+  held-state = heldState b n
 
   book-shape : Shape b
-  book-shape = shape b (both (wellFormed b) (leb (storeWeight b) limit) (store-valid (m .held)) .0)
+  book-shape = shape b (both (wellFormed b) (leb (storeWeight b) limit) (store-valid m) .0)
 
   -- ---- numbers
 
   pub next-number : (c : Call) (n : ℕ) → (reply buffer c .answer ≡ wrong n) ↔ (fault b c ≡ some n)
-  next-number (send o w t) n = along (ap (λ k. k .answer) (reply-send (m .held) o w t)) (wrong n) (go (sized o) (sized w) (b .isOpen) (run b (parse t)))
+  next-number (send o w t) n = along (ap (λ k. k .answer) (reply-send m o w t)) (wrong n) (go (sized o) (sized w) (b .isOpen) (run b (parse t)))
     where
       l : Buffers
       l = lentFor buffer o w
@@ -65,7 +68,7 @@ module _ (buffer : Text) (b : Book) (m : Mirrors buffer b) where
       go true true false e = (λ h. cc, λ h. cc)
       go true true true e = (λ h. cc, λ h. cc)
   next-number (ask p x byte) n =
-      along (ap (λ k. k .answer) (reply-ask (m .held) p x byte)) (wrong n)
+      along (ap (λ k. k .answer) (reply-ask m p x byte)) (wrong n)
       (go (present (named (b .principals) p)) (present (valueIn (b .variables) x)) (rightByte byte) refl refl)
     where
       answer-number : (o : Option ℕ) → (lengthAnswer o ≡ wrong n) ↔ (none ≡ some n)
@@ -84,7 +87,7 @@ module _ (buffer : Text) (b : Book) (m : Mirrors buffer b) where
   -- ---- programs
 
   right-answer : (o w t : Text) → T (not (isWrong b (send o w t))) → reply buffer (send o w t) .answer ≡ ended (result (run b (parse t)))
-  right-answer o w t h = ap (λ k. k .answer) (reply-send (m .held) o w t) ∙ go (sized o) (sized w) (b .isOpen) h
+  right-answer o w t h = ap (λ k. k .answer) (reply-send m o w t) ∙ go (sized o) (sized w) (b .isOpen) h
     where
       l : Buffers
       l = lentFor buffer o w
@@ -99,12 +102,16 @@ module _ (buffer : Text) (b : Book) (m : Mirrors buffer b) where
   pub next-denial : (o w t : Text) → T (not (isWrong b (send o w t)))
       → (reply buffer (send o w t) .answer ≡ ended (result (refusal DENIED))) ↔ Offends b t
   next-denial o w t h =
-      let r = run-denied b (store-valid (m .held)) t in
+      let r = run-denied b (store-valid m) t in
       let d = denied-result (run b (parse t)) in
       (λ e. r .0 (d .0 (sym (right-answer o w t h) ∙ e)), λ k. right-answer o w t h ∙ d .1 (r .1 k))
 
+  pub next-denied-line : (o w t : Text) → T (not (isWrong b (send o w t))) → Offends b t → runCall (lentFor buffer o w) t .lent .output ≡ padded (status "DENIED")
+  next-denied-line o w t h f =
+      ap (λ r. r .lent .output) (whole-reply m o w t h) ∙ ap (λ e. padded (output e)) (run-denied b (store-valid m) t .1 f)
+
   pub next-kept : (c : Call) → ¬ Completes b c → reply buffer c .lent ≡ buffer
-  next-kept (send o w t) n = ap (λ k. k .lent) (reply-send (m .held) o w t) ∙ go (sized o) (sized w) (b .isOpen) (run b (parse t)) refl refl refl refl
+  next-kept (send o w t) n = ap (λ k. k .lent) (reply-send m o w t) ∙ go (sized o) (sized w) (b .isOpen) (run b (parse t)) refl refl refl refl
     where
       l : Buffers
       l = lentFor buffer o w
@@ -128,7 +135,7 @@ module _ (buffer : Text) (b : Book) (m : Mirrors buffer b) where
         next = next;
         is-completed = ee;
       }))
-  next-kept (ask p x r) n = ap (λ k. k .lent) (reply-ask (m .held) p x r)
+  next-kept (ask p x r) n = ap (λ k. k .lent) (reply-ask m p x r)
 
   -- ---- questions
 
@@ -136,7 +143,7 @@ module _ (buffer : Text) (b : Book) (m : Mirrors buffer b) where
   asked : (p x : Text) (byte : ℕ) (r : Right) → rightByte byte ≡ some r → T (not (isWrong b (ask p x byte)))
       → reply buffer (ask p x byte) .answer ≡ lengthAnswer (chainLength b r x p)
   asked p x byte r e h =
-      ap (λ k. k .answer) (reply-ask (m .held) p x byte)
+      ap (λ k. k .answer) (reply-ask m p x byte)
       ∙ ap (question b p x) e
       ∙ go (present (named (b .principals) p)) (present (valueIn (b .variables) x)) (present (rightByte byte)) h
     where

@@ -2,6 +2,7 @@
 use mathlib.Core.Path.{_≡_, refl, sym, ap, subst, _∙_}
 use mathlib.Core.Logic.{_↔_}
 use Prim.Native.Nat.{ℕ}
+use native.Mathlib.Nat.{zero-add}
 use native.Mathlib.Omega.{arith}
 use mathlib.Core.Bool.{Bool, true, false}
 use mathlib.Core.Option.{some}
@@ -17,17 +18,18 @@ use Rattle.language.specs.Valid.{wellFormed, validStore}
 use Rattle.language.specs.Values.{Session}
 use Rattle.language.specs.Run.{login, right, begin}
 use Rattle.language.specs.Programs.{parse}
+use Rattle.language.specs.Decode.{Holds}
 use Rattle.language.specs.Calls.{wrong, ready, checked, sized, longestPassword, made, makeCall}
 use Rattle.language.specs.Events.{Event, afterEvents, Stands}
-use Rattle.language.specs.History.{leaves, Book, bookOf, historyOf, Reaches, Governed, Answered, Demand3}
+use Rattle.language.specs.History.{leaves, Book, bookOf, completedOf, historyOf, Reaches, Governed, Answered, Demand3}
 use Rattle.language.proofs.Logic.Tests.{both}
 use Rattle.language.proofs.Meaning.ValidRuns.{Ready, ready-valid, begin-ready, commands-valid, fresh-valid}
 use Rattle.language.proofs.Parsing.Parsing.{parse-valid}
 use Rattle.language.proofs.Histories.Entries.{after-append, reaches-enters, book-enters}
 use Rattle.language.proofs.Histories.Fold.{stands-by-events}
 use Rattle.language.proofs.Histories.Offences.{right-is-chain, reaches-ready}
-use Rattle.language.proofs.Histories.Mirror.{Mirrors, store-valid, mirrors-all}
-use Rattle.language.proofs.Histories.Answers.{next-number, next-denial, next-kept, next-yes, next-no}
+use Rattle.language.proofs.Histories.Mirror.{heldState, store-valid, holds-all}
+use Rattle.language.proofs.Histories.Answers.{next-number, next-denial, next-denied-line, next-kept, next-yes, next-no}
 
 -- a valid store whose assertions are the fold of the events is governed by chains and events
 govern : (s : Store) (es : List Event) → T (validStore s) → s .assertions ≡ afterEvents [] es → Governed s es
@@ -37,22 +39,23 @@ govern s es v e = record {
   entered-not-withdrawn = λ a. subst (λ l. T (stands l a) ↔ Stands es a) (sym e) (stands-by-events es a);
 }
 
-module _ (buffer : Text) (b : Book) (es : List Event) (m : Mirrors buffer b) (e : b .assertions ≡ afterEvents [] es) where
+module _ (buffer : Text) (b : Book) (es : List Event) (n : ℕ) (m : Holds buffer (heldState b n)) (e : b .assertions ≡ afterEvents [] es) where
   within : (program : Text) (p : Program) → parse program ≡ some p → login b p ≡ right
       → {inner : List Event} {t : Session} {rest : List Command} → Reaches (begin b p) (p .commands) inner t rest → Governed (t .store) (es ++ inner)
   within program p k l {inner} {t} r =
-      let ready : Ready t = reaches-ready r (begin-ready b p (store-valid (m .held)) l) (commands-valid p (parse-valid program p k)) .0 in
+      let ready : Ready t = reaches-ready r (begin-ready b p (store-valid m) l) (commands-valid p (parse-valid program p k)) .0 in
       govern (t .store) (es ++ inner) (ready-valid t ready) (reaches-enters r ∙ ap (λ l. afterEvents l inner) e ∙ sym (after-append [] es inner))
 
-  answered : Answered b es buffer
+  answered : Answered b es n buffer
   answered = record {
-    text = (m .count, m .held);
-    number = next-number buffer b m;
-    denial = next-denial buffer b m;
-    kept = next-kept buffer b m;
-    yes-answer = next-yes buffer b m;
-    no-answer = next-no buffer b m;
-    governed = govern b es (store-valid (m .held)) e;
+    text = m;
+    number = next-number buffer b n m;
+    denial = next-denial buffer b n m;
+    denied-line = next-denied-line buffer b n m;
+    kept = next-kept buffer b n m;
+    yes-answer = next-yes buffer b n m;
+    no-answer = next-no buffer b n m;
+    governed = govern b es (store-valid m) e;
     governed-within = within;
   }
 
@@ -74,8 +77,10 @@ unfolding Demand3
 demand-3 buffer password e calls =
     let (h, l, k) = made-right (sized buffer) (isString password) (leb (length password) longestPassword) buffer password e in
     answered (leaves (makeCall buffer password .lent) calls) (bookOf (fresh password) calls) (historyOf (fresh password) calls)
-    (mirrors-all calls (makeCall buffer password .lent) (fresh password) (record {
-      count = 0;
-      held = record { is-valid = fresh-valid password h (leb→le (length password) longestPassword l); is-text = k };
-    }))
+    (completedOf (fresh password) calls)
+    (subst (λ n. Holds (leaves (makeCall buffer password .lent) calls) (heldState (bookOf (fresh password) calls) n)) (zero-add (completedOf (fresh password) calls))
+    (holds-all calls (makeCall buffer password .lent) (fresh password) 0 (record {
+      is-valid = fresh-valid password h (leb→le (length password) longestPassword l);
+      is-text = k;
+    })))
     (book-enters calls (fresh password))

@@ -19,6 +19,10 @@ pub anything : {A : Type 0} (o : Option A) → Where (λ a. Unit {0}) o
 anything none = tt
 anything (some a) = tt
 
+pub where-map : {A : Type 0} (P Q : A → Type 0) (o : Option A) → ((a : A) → P a → Q a) → Where P o → Where Q o
+where-map P Q none f h = tt
+where-map P Q (some a) f h = f a h
+
 pub bind-where : {A B : Type 0} (P : A → Type 0) (Q : B → Type 0) (o : Option A) (k : A → Option B)
     → Where P o → ((a : A) → P a → Where Q (k a)) → Where Q (o >>= k)
 bind-where P Q none k h f = tt

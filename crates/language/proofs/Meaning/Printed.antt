@@ -1,6 +1,7 @@
 -- A command that is done prints one line: its status, or the value that it returns.
 use mathlib.Core.Path.{_≡_, refl, subst}
-use Prim.Native.Nat.{_+_}
+use Prim.Native.Nat.{suc, _+_, _≤_}
+use native.Mathlib.Nat.{le-refl}
 use Prim.Native.String.{String}
 use native.Mathlib.Omega.{arith}
 use mathlib.Core.Bool.{Bool, true, false, _&&_, not}
@@ -20,13 +21,21 @@ use Rattle.language.proofs.Logic.Tests.{both, three}
 use Rattle.language.proofs.Logic.Outcomes.{Where, anything, bind-where, given-where}
 use Rattle.language.proofs.StateText.Lines.{isClean}
 use Rattle.language.proofs.StateText.Clean.{string-clean, name-clean}
-use Rattle.language.proofs.Meaning.Weights.{sum-append}
+use Rattle.language.proofs.Logic.Lists.{sum-append}
 use Rattle.language.proofs.Meaning.ValidRuns.{Went, verdict-went}
 
 -- ---- how many lines
 
 pub count-append : (t u : Text) → lineCount (t ++ u) ≡ lineCount t + lineCount u
 count-append = sum-append (λ b. if eqb b 10 then 1 else 0)
+
+pub few-lines : (t : Text) → lineCount t ≤ length t
+few-lines [] = le-refl 0
+few-lines (b ∷ t) = go (eqb b 10) (few-lines t)
+  where
+    go : (c : Bool) → lineCount t ≤ length t → (if c then 1 else 0) + lineCount t ≤ suc (length t)
+    go true h = omega arith
+    go false h = omega arith
 
 clean-quiet : (t : Text) → T (isClean t) → lineCount t ≡ 0
 clean-quiet [] h = refl
@@ -103,10 +112,10 @@ word (default-delegator p) = "DEFAULT_DELEGATOR"
 word exit = "EXITING"
 word (return e) = "RETURNING"
 
-abbrev Says : Command → Effect → Type 0
+abbrev pub Says : Command → Effect → Type 0
 Says c f = f .line ≡ status (word c)
 
-says : (s : Session) (c : Command) → T (not (isReturn c)) → Where (Says c) (effect s c)
+pub says : (s : Session) (c : Command) → T (not (isReturn c)) → Where (Says c) (effect s c)
 says s (create-principal p t) h = given-where (Says (create-principal p t)) (not (isPrincipal s p)) _ (λ k. refl)
 says s (change-password p t) h = given-where (Says (change-password p t)) (isPrincipal s p) _ (λ k. refl)
 says s (set x e) h = bind-where (λ v. Unit {0}) (Says (set x e)) (value s e) _ (anything (value s e)) (λ v k. refl)

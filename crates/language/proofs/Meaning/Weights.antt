@@ -13,12 +13,9 @@ use Rattle.language.specs.State.{Value, Principal, Variable, Assertion, 
 use Rattle.language.specs.Weight.{valueWeight, passwordWeight, principalWeight, variableWeight, assertionWeight}
 use Rattle.language.specs.Commands.{changed}
 use Rattle.language.proofs.Logic.Tests.{both, left-of, ==→≡, ==-refl}
+use Rattle.language.proofs.Logic.Lists.{sum-append}
 use Rattle.language.proofs.Meaning.Standing.{same-assertion}
 use Rattle.language.proofs.StateText.Names.{principalNames}
-
-pub sum-append : {A : Type 0} (f : A → ℕ) (l m : List A) → sum f (l ++ m) ≡ sum f l + sum f m
-sum-append f [] m = omega arith
-sum-append f (a ∷ l) m = let h : sum f (l ++ m) ≡ sum f l + sum f m = sum-append f l m in omega arith
 
 -- ---- variables
 

@@ -37,7 +37,7 @@ commas-length f (a ∷ b ∷ l) =
     let h : length (commas f (b ∷ l)) ≤ sum (λ a. length (f a) + 1) (b ∷ l) = commas-length f (b ∷ l) in
     omega (arith, h, length-append (f a ++ bytes ",") (commas f (b ∷ l)), length-append (f a) (bytes ","))
 
-quote-length : (t : Text) → length (quote t) ≡ length t + 2
+pub quote-length : (t : Text) → length (quote t) ≡ length t + 2
 quote-length t = length-append (bytes "\"" ++ t) (bytes "\"") ∙ omega arith
 
 json-sum : {A : Type 0} (f : A → Text) (weight : A → ℕ) (fine : A → Bool) → ((a : A) → T (fine a) → 2 * (length (f a) + 1) ≤ 7 * weight a)

@@ -8,7 +8,8 @@ use lib.ListN.{length}
 use lib.Dec.{T, ltb, lt→ltb, lit≤}
 use Rattle.language.specs.Text.{bytes, all}
 use Rattle.language.specs.Tokens.{Token}
-use Rattle.language.specs.Syntax.{Name, Right, read, write, append, delegate, Operand, name, dot, quoted, Binding, Expr, single, nothing, fields, Target, every, only, Command, create-principal, change-password, set, append-to, local, foreach, set-delegation, delete-delegation, default-delegator, exit, return}
+use Rattle.language.specs.Syntax.{Name, Right, read, write, append, delegate, Operand, name, dot, quoted, Binding, Expr, single, nothing, fields}
+use Rattle.language.specs.Syntax.{Target, every, only, Command, create-principal, change-password, set, append-to, local, foreach, set-delegation, delete-delegation, default-delegator, exit, return}
 use Rattle.language.specs.Identifiers.{isIdentifier, isString}
 use Rattle.language.specs.Grammar.{Reader, _>>=_, _>>_, anyOperand, anyFields, anyExpression, anyRight, anyTarget, setForm, anyCommand, anyEnding, anyLogin, spent, whole}
 use Rattle.language.proofs.Parsing.ValidPrograms.{validOperand, validBinding, validExpr, validTarget, validCommand, isEnding}

@@ -112,6 +112,14 @@ name-clean (b ∷ t) h =
     let (w₁, w₂) = both (isLetter (class b)) (all wordByte t) w in
     and (not (eqb b tab) && not (eqb b lineEnd)) (isClean t) (low-clean b (word-low b (letter-word (class b) w₁))) (all-map _ _ (λ c k. low-clean c (word-low c k)) t w₂)
 
+pub name-word : (t : Text) → T (isName t) → T (all wordByte t)
+name-word [] h = tt
+name-word (b ∷ t) h =
+    let (h₁, h₂) = both (isWord (b ∷ t) && leb (length (b ∷ t)) 255) (not (member (b ∷ t) baseKeywords)) h in
+    let (w, l) = both (isWord (b ∷ t)) (leb (length (b ∷ t)) 255) h₁ in
+    let (w₁, w₂) = both (isLetter (class b)) (all wordByte t) w in
+    and (wordByte b) (all wordByte t) (letter-word (class b) w₁) w₂
+
 pub name-length : (t : Text) → T (isName t) → (1 ≤ length t) × (length t ≤ 255)
 name-length [] h = absurd (both (isWord [] && leb 0 255) (not (member [] baseKeywords)) h .0)
 name-length (b ∷ t) h =
@@ -121,7 +129,7 @@ name-length (b ∷ t) h =
 
 -- ---- numbers
 
-number-append : (a d : ℕ) (t : Text) → number a (t ++ d ∷ []) ≡ number a t * 10 + (d - 48)
+pub number-append : (a d : ℕ) (t : Text) → number a (t ++ d ∷ []) ≡ number a t * 10 + (d - 48)
 number-append a d [] = refl
 number-append a d (b ∷ t) = number-append (a * 10 + (b - 48)) d t
 

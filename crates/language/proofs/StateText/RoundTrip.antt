@@ -15,6 +15,7 @@ use Rattle.language.specs.Encode.{newline, headText, principalsText, del
 use Rattle.language.specs.Identifiers.{isName, isString}
 use Rattle.language.specs.Valid.{validField, validFields, validElement, validValue, validVariable, validPassword, validPrincipal, wellFormed, validStore, valid}
 use Rattle.language.specs.Decode.{Holds, rightOf, Below, nothingBelow, withAssertion, withHead, readLines, readState, decode}
+use Rattle.language.proofs.Logic.Lists.{six-joined}
 use Rattle.language.proofs.Logic.Tests.{both, and, three, ==→≡, ==-refl}
 use Rattle.language.proofs.Logic.Outcomes.{Where, anything, bind-where, given-where}
 use Rattle.language.proofs.StateText.Names.{principal-name}
@@ -108,9 +109,6 @@ reads-principal s k ks rest h r =
     go (some u) p t =
         reads-line (bytes "P") (k .name ∷ u ∷ []) rest (and (isClean (k .name)) _ p (and (isClean u) true (string-clean u t) tt)) r refl
 
-five : (a b c d e f : Text) → ((((a ++ b) ++ c) ++ d) ++ e) ++ f ≡ a ++ (b ++ (c ++ (d ++ (e ++ f))))
-five a b c d e f = simp append-assoc
-
 reads-head : (b : Bool) (n : ℕ) (s : Store) (rest : Text) → n ≤ lastCount → Reads rest (from-principals s (s .principals))
     → Reads (lineOf ((if b then bytes "O" else bytes "C") ∷ decimal n ∷ []) ++ rest)
     (record { loose = []; elements = []; count = n; store = record { isOpen = b; principals = s .principals; delegator = s .delegator; variables = s .variables; assertions = s .assertions } })
@@ -130,7 +128,7 @@ reads-state s n g rest r =
     let d = delegatorText (t .delegator) in
     let v = variablesText (t .variables) in
     let a = assertionsText (t .assertions) in
-    ap (λ y. readLines (parts newline y)) (five h k d v a rest)
+    ap (λ y. readLines (parts newline y)) (six-joined h k d v a rest)
     ∙ reads-head (t .isOpen) (s .count) t (k ++ (d ++ (v ++ (a ++ rest)))) n
     (reads-joined (λ k. principalText (k .name) (k .password)) validPrincipal (from-principals t) (reads-principal t) (t .principals) (d ++ (v ++ (a ++ rest))) (g .principals-valid)
     (reads-line (bytes "D") (t .delegator ∷ []) (v ++ (a ++ rest)) (and (isClean (t .delegator)) true delegator-clean tt)

@@ -1,0 +1,315 @@
+-- The three demands are met.
+use mathlib.Core.Path.{_≡_, refl, sym, ap, subst, _∙_}
+use mathlib.Core.Logic.{_↔_, _⊎_, inl, inr}
+use Prim.Native.Nat.{ℕ, _≤_}
+use native.Mathlib.Omega.{arith}
+use mathlib.Core.Bool.{Bool, true, false, not}
+use mathlib.Core.Option.{Option, none, some}
+use lib.Dec.{T, not-T, leb, le→leb, leb→le, nleb→lt}
+use lib.ListN.{length}
+use Rattle.language.specs.Text.{Text, if_then_else_, present}
+use Rattle.language.specs.Syntax.{Right}
+use Rattle.language.specs.Identifiers.{isString}
+use Rattle.language.specs.Commands.{Refusal, DENIED, FAILED, FULL}
+use Rattle.language.specs.State.{Store, State, fresh, named, valueIn}
+use Rattle.language.specs.Chains.{chainLength}
+use Rattle.language.specs.Decode.{Holds, decode}
+use Rattle.language.specs.Programs.{parse}
+use Rattle.language.specs.Run.{End, refusal, completed, run, refusalLine, lineCount, output, left}
+use Rattle.language.specs.Calls.{Answer, wrong, ended, yes, no, ready, Reply, refuse, Buffers, checked, decoded, sized, longestPassword, made, stateAfter, endReply, runOn, runCall, makeCall, askCall, lengthAnswer, question, rightByte, askOn}
+use Rattle.language.specs.Demands.{Sent, Asked, Installed, RunWrong, QuestionWrong, MakingWrong, endOf, Demand1, Demand2, Demands}
+use Rattle.language.proofs.Logic.Tests.{true-of, false-of}
+use Rattle.language.proofs.StateText.RoundTrip.{decode-holds}
+use Rattle.language.proofs.Meaning.ValidRuns.{EndsValid, run-valid, left-valid, fresh-valid}
+use Rattle.language.proofs.Parsing.Parsing.{valid-parsed, parse-valid}
+use Rattle.language.proofs.Parsing.Printing.{output-fits}
+use Rattle.language.proofs.Histories.Mirror.{store-valid, holds-sized, holds-decodes}
+use Rattle.language.proofs.Histories.Demand.{demand-3}
+use Rattle.language.proofs.Meaning.LineCounts.{line-each}
+
+-- ---- tests
+
+decided : (t : Bool) → T t ⊎ (¬ T t)
+decided true = inl tt
+decided false = inr (λ h. h)
+
+met : {Lent : Type 0} (lent : Lent) (t : Bool) (n : ℕ) (r : Reply Lent) → T t → checked lent t n r ≡ r
+met lent true n r h = refl
+met lent false n r h = absurd h
+
+unmet : {Lent : Type 0} (lent : Lent) (t : Bool) (n : ℕ) (r : Reply Lent) → ¬ T t → checked lent t n r ≡ refuse lent n
+unmet lent t n r h = ap (λ c. checked lent c n r) (false-of t h)
+
+-- a buffer holds a state or none
+held-or-not : (buffer : Text) → ((s : State) × Holds buffer s) ⊎ ((s : State) → ¬ Holds buffer s)
+held-or-not buffer = go (decode buffer) refl
+  where
+    go : (o : Option State) → decode buffer ≡ o → ((s : State) × Holds buffer s) ⊎ ((s : State) → ¬ Holds buffer s)
+    go none e = inr (λ s h. let z : _≡_ {A = Option State} none (some s) = sym e ∙ holds-decodes h in not-there z)
+      where
+        not-there : {s : State} → none ≡ some s → ⊥
+        not-there e = let z : _≡_ {A = ℕ} 0 1 = cc in omega arith
+    go (some s) e = inl (s, decode-holds buffer s .0 e)
+
+none-decoded : (buffer : Text) → ((s : State) → ¬ Holds buffer s) → decode buffer ≡ none
+none-decoded buffer h = go (decode buffer) refl
+  where
+    go : (o : Option State) → decode buffer ≡ o → o ≡ none
+    go none e = refl
+    go (some s) e = absurd (h s (decode-holds buffer s .0 e))
+
+state-sized : {buffer : Text} {s : State} → Holds buffer s → T (sized buffer)
+state-sized h = subst T (sym (holds-sized h)) tt
+
+-- ---- answers that are right are no numbers
+
+abbrev IsRight : Answer → Type 0
+IsRight (wrong n) = ⊥
+IsRight (ended r) = Unit {0}
+IsRight (yes n) = Unit {0}
+IsRight no = Unit {0}
+IsRight ready = Unit {0}
+
+same-number : {m n : ℕ} → wrong m ≡ wrong n → m ≡ n
+same-number e = cc
+
+-- A call that is made rightly is answered rightly, and a ground for a number gives a refusal with it: then the number is had exactly
+-- where there is a ground for it, and leaves what was lent.
+module _ {Lent : Type 0} (lent : Lent) (r : Reply Lent) (P : ℕ → Type 0) (refused : (n : ℕ) → P n → r ≡ refuse lent n)
+    (either : IsRight (r .answer) ⊎ ((n : ℕ) × P n)) where
+  exactly : (n : ℕ) → (r .answer ≡ wrong n) ↔ P n
+  exactly n = (λ e. go either e, λ p. ap (λ (k : Reply Lent). k .answer) (refused n p))
+    where
+      go : IsRight (r .answer) ⊎ ((m : ℕ) × P m) → r .answer ≡ wrong n → P n
+      go (inl k) e = absurd (subst IsRight e k)
+      go (inr (m, p)) e = subst P (same-number (sym (ap (λ (k : Reply Lent). k .answer) (refused m p)) ∙ e)) p
+
+  kept : (n : ℕ) → r .answer ≡ wrong n → r .lent ≡ lent
+  kept n e = ap (λ (k : Reply Lent). k .lent) (refused n (exactly n .0 e))
+
+-- ---- runs
+
+module _ (b : Buffers) (program : Text) where
+  runs : (s : State) → Sent b s → runCall b program ≡ endReply b s (endOf s program)
+  runs s h =
+      met b (sized (b .output)) 1 _ (h .output-sized) ∙ met b (sized (b .state)) 2 _ (state-sized (h .holds)) ∙ met b (sized (b .work)) 3 _ (h .work-sized)
+      ∙ ap (λ (o : Option State). decoded b o (runOn b program)) (holds-decodes (h .holds)) ∙ met b (s .store .isOpen) 5 _ (h .is-open)
+
+  run-refused : (n : ℕ) → RunWrong b n → runCall b program ≡ refuse b n
+  run-refused n (RunWrong.output-size h) = unmet b (sized (b .output)) 1 _ h
+  run-refused n (RunWrong.state-size h k) = met b (sized (b .output)) 1 _ h ∙ unmet b (sized (b .state)) 2 _ k
+  run-refused n (RunWrong.work-size h k l) = met b (sized (b .output)) 1 _ h ∙ met b (sized (b .state)) 2 _ k ∙ unmet b (sized (b .work)) 3 _ l
+  run-refused n (RunWrong.no-state h k l m) =
+      met b (sized (b .output)) 1 _ h ∙ met b (sized (b .state)) 2 _ k ∙ met b (sized (b .work)) 3 _ l
+      ∙ ap (λ (o : Option State). decoded b o (runOn b program)) (none-decoded (b .state) m)
+  run-refused n (RunWrong.closed h l s m k) =
+      met b (sized (b .output)) 1 _ h ∙ met b (sized (b .state)) 2 _ (state-sized m) ∙ met b (sized (b .work)) 3 _ l
+      ∙ ap (λ (o : Option State). decoded b o (runOn b program)) (holds-decodes m) ∙ unmet b (s .store .isOpen) 5 _ k
+
+  -- what a program leaves is well formed, refused or not
+  state-after : (s : State) → Sent b s → Holds (runCall b program .lent .state) (left s (endOf s program))
+  state-after s h =
+      subst (λ (r : Reply Buffers). Holds (r .lent .state) (left s (endOf s program))) (sym (runs s h))
+      (go (endOf s program) (run-valid (s .store) (store-valid (h .holds)) (parse program) (valid-parsed program)))
+    where
+      go : (e : End) → EndsValid e → Holds (stateAfter (b .state) s e) (left s e)
+      go (refusal r) k = h .holds
+      go (completed lines t) k = record { is-valid = left-valid s (h .holds .is-valid) (completed lines t) k; is-text = refl }
+
+run-either : (b : Buffers) → ((s : State) × Sent b s) ⊎ ((n : ℕ) × RunWrong b n)
+run-either b = elim (decided (sized (b .output))) [
+  | inr h ↦ inr (1, RunWrong.output-size h)
+  | inl h ↦ elim (decided (sized (b .state))) [
+    | inr k ↦ inr (2, RunWrong.state-size h k)
+    | inl k ↦ elim (decided (sized (b .work))) [
+      | inr l ↦ inr (3, RunWrong.work-size h k l)
+      | inl l ↦ elim (held-or-not (b .state)) [
+        | inr m ↦ inr (4, RunWrong.no-state h k l m)
+        | inl m ↦ elim (decided (m .0 .store .isOpen)) [
+          | inr o ↦ inr (5, RunWrong.closed h l (m .0) (m .1) o)
+          | inl o ↦ inl (m .0, record { output-sized = h; work-sized = l; holds = m .1; is-open = o })
+        ]
+      ]
+    ]
+  ]
+]
+
+module _ (b : Buffers) (program : Text) where
+  run-right : ((s : State) × Sent b s) ⊎ ((n : ℕ) × RunWrong b n) → IsRight (runCall b program .answer) ⊎ ((n : ℕ) × RunWrong b n)
+  run-right (inl (s, h)) = inl (subst (λ (r : Reply Buffers). IsRight (r .answer)) (sym (runs b program s h)) tt)
+  run-right (inr w) = inr w
+
+  run-number : (n : ℕ) → (runCall b program .answer ≡ wrong n) ↔ RunWrong b n
+  run-number = exactly b (runCall b program) (RunWrong b) (run-refused b program) (run-right (run-either b))
+
+  run-kept : (n : ℕ) → runCall b program .answer ≡ wrong n → runCall b program .lent ≡ b
+  run-kept = kept b (runCall b program) (RunWrong b) (run-refused b program) (run-right (run-either b))
+
+one : (r : Refusal) → lineCount (refusalLine r) ≡ 1
+one DENIED = refl
+one FAILED = refl
+one FULL = refl
+
+-- ---- questions
+
+module _ (s : Store) (p x : Text) where
+  unknown-principal : (o : Option Right) → ¬ T (present (named (s .principals) p)) → question s p x o ≡ wrong 6
+  unknown-principal none h = ap (λ c. if c then wrong 7 else wrong 6) (false-of (present (named (s .principals) p)) h)
+  unknown-principal (some r) h =
+      ap (λ c. if not c then wrong 6 else if not (present (valueIn (s .variables) x)) then wrong 7 else lengthAnswer (chainLength s r x p)) (false-of (present (named (s .principals) p)) h)
+
+  module _ (h : T (present (named (s .principals) p))) where
+    known : (r : Right) → question s p x (some r) ≡ (if not (present (valueIn (s .variables) x)) then wrong 7 else lengthAnswer (chainLength s r x p))
+    known r =
+        ap (λ c. if not c then wrong 6 else if not (present (valueIn (s .variables) x)) then wrong 7 else lengthAnswer (chainLength s r x p)) (true-of (present (named (s .principals) p)) h)
+
+    unknown-right : (o : Option Right) → ¬ T (present o) → question s p x o ≡ wrong 7
+    unknown-right none k = ap (λ c. if c then wrong 7 else wrong 6) (true-of (present (named (s .principals) p)) h)
+    unknown-right (some r) k = absurd (k tt)
+
+    unknown-variable : (o : Option Right) → ¬ T (present (valueIn (s .variables) x)) → question s p x o ≡ wrong 7
+    unknown-variable none k = ap (λ c. if c then wrong 7 else wrong 6) (true-of (present (named (s .principals) p)) h)
+    unknown-variable (some r) k = known r ∙ ap (λ c. if not c then wrong 7 else lengthAnswer (chainLength s r x p)) (false-of (present (valueIn (s .variables) x)) k)
+
+    rightly-asked : (o : Option Right) → T (present (valueIn (s .variables) x)) → T (present o) → IsRight (question s p x o)
+    rightly-asked none k l = absurd l
+    rightly-asked (some r) k l =
+        subst IsRight (sym (known r ∙ ap (λ c. if not c then wrong 7 else lengthAnswer (chainLength s r x p)) (true-of (present (valueIn (s .variables) x)) k))) (go (chainLength s r x p))
+      where
+        go : (o : Option ℕ) → IsRight (lengthAnswer o)
+        go none = tt
+        go (some n) = tt
+
+module _ (buffer p x : Text) (byte : ℕ) where
+  asks : (s : State) → Holds buffer s → askCall buffer p x byte ≡ askOn buffer p x byte s
+  asks s h = met buffer (sized buffer) 2 _ (state-sized h) ∙ ap (λ (o : Option State). decoded buffer o (askOn buffer p x byte)) (holds-decodes h)
+
+  numbered : (s : State) (n : ℕ) → Holds buffer s → question (s .store) p x (rightByte byte) ≡ wrong n → askCall buffer p x byte ≡ refuse buffer n
+  numbered s n h e = asks s h ∙ ap (λ (a : Answer). record { answer = a; lent = buffer }) e
+
+  question-refused : (n : ℕ) → QuestionWrong buffer p x byte n → askCall buffer p x byte ≡ refuse buffer n
+  question-refused n (QuestionWrong.state-size h) = unmet buffer (sized buffer) 2 _ h
+  question-refused n (QuestionWrong.no-state h k) =
+      met buffer (sized buffer) 2 _ h ∙ ap (λ (o : Option State). decoded buffer o (askOn buffer p x byte)) (none-decoded buffer k)
+  question-refused n (QuestionWrong.no-principal s h k) = numbered s 6 h (unknown-principal (s .store) p x (rightByte byte) k)
+  question-refused n (QuestionWrong.no-variable s h k l) = numbered s 7 h (unknown-variable (s .store) p x k (rightByte byte) l)
+  question-refused n (QuestionWrong.no-right s h k l) = numbered s 7 h (unknown-right (s .store) p x k (rightByte byte) l)
+
+  question-either : ((s : State) × Asked buffer p x byte s) ⊎ ((n : ℕ) × QuestionWrong buffer p x byte n)
+  question-either = elim (decided (sized buffer)) [
+    | inr h ↦ inr (2, QuestionWrong.state-size h)
+    | inl h ↦ elim (held-or-not buffer) [
+      | inr k ↦ inr (4, QuestionWrong.no-state h k)
+      | inl m ↦ elim (decided (present (named (m .0 .store .principals) p))) [
+        | inr k ↦ inr (6, QuestionWrong.no-principal (m .0) (m .1) k)
+        | inl k ↦ elim (decided (present (valueIn (m .0 .store .variables) x))) [
+          | inr l ↦ inr (7, QuestionWrong.no-variable (m .0) (m .1) k l)
+          | inl l ↦ elim (decided (present (rightByte byte))) [
+            | inr r ↦ inr (7, QuestionWrong.no-right (m .0) (m .1) k r)
+            | inl r ↦ inl (m .0, record { holds = m .1; is-principal = k; is-variable = l; is-right = r })
+          ]
+        ]
+      ]
+    ]
+  ]
+
+  question-right : ((s : State) × Asked buffer p x byte s) ⊎ ((n : ℕ) × QuestionWrong buffer p x byte n)
+      → IsRight (askCall buffer p x byte .answer) ⊎ ((n : ℕ) × QuestionWrong buffer p x byte n)
+  question-right (inl (s, a)) =
+      inl (subst (λ (r : Reply Text). IsRight (r .answer)) (sym (asks s (a .holds)))
+      (rightly-asked (s .store) p x (a .is-principal) (rightByte byte) (a .is-variable) (a .is-right)))
+  question-right (inr w) = inr w
+
+  question-number : (n : ℕ) → (askCall buffer p x byte .answer ≡ wrong n) ↔ QuestionWrong buffer p x byte n
+  question-number = exactly buffer (askCall buffer p x byte) (QuestionWrong buffer p x byte) question-refused (question-right question-either)
+
+  question-kept : askCall buffer p x byte .lent ≡ buffer
+  question-kept = elim question-either [
+    | inl a ↦ ap (λ (r : Reply Text). r .lent) (asks (a .0) (a .1 .holds))
+    | inr w ↦ ap (λ (r : Reply Text). r .lent) (question-refused (w .0) (w .1))
+  ]
+
+-- ---- the making of servers
+
+module _ (buffer password : Text) where
+  makes : Installed buffer password → makeCall buffer password ≡ record { answer = ready; lent = made password }
+  makes h =
+      met buffer (sized buffer) 2 _ (h .state-sized) ∙ met buffer (isString password) 8 _ (h .is-string)
+      ∙ met buffer (leb (length password) longestPassword) 9 _ (le→leb (length password) longestPassword (h .is-short))
+
+  making-refused : (n : ℕ) → MakingWrong buffer password n → makeCall buffer password ≡ refuse buffer n
+  making-refused n (MakingWrong.state-size h) = unmet buffer (sized buffer) 2 _ h
+  making-refused n (MakingWrong.no-string h k) = met buffer (sized buffer) 2 _ h ∙ unmet buffer (isString password) 8 _ k
+  making-refused n (MakingWrong.too-long h k l) =
+      met buffer (sized buffer) 2 _ h ∙ met buffer (isString password) 8 _ k
+      ∙ unmet buffer (leb (length password) longestPassword) 9 _ (λ t. let m : length password ≤ longestPassword = leb→le (length password) longestPassword t in omega arith)
+
+  making-either : Installed buffer password ⊎ ((n : ℕ) × MakingWrong buffer password n)
+  making-either = elim (decided (sized buffer)) [
+    | inr h ↦ inr (2, MakingWrong.state-size h)
+    | inl h ↦ elim (decided (isString password)) [
+      | inr k ↦ inr (8, MakingWrong.no-string h k)
+      | inl k ↦ elim (decided (leb (length password) longestPassword)) [
+        | inr l ↦ inr (9, MakingWrong.too-long h k (nleb→lt (length password) longestPassword (not-T (leb (length password) longestPassword) l)))
+        | inl l ↦ inl (record { state-sized = h; is-string = k; is-short = leb→le (length password) longestPassword l })
+      ]
+    ]
+  ]
+
+  making-right : Installed buffer password ⊎ ((n : ℕ) × MakingWrong buffer password n)
+      → IsRight (makeCall buffer password .answer) ⊎ ((n : ℕ) × MakingWrong buffer password n)
+  making-right (inl h) = inl (subst (λ (r : Reply Text). IsRight (r .answer)) (sym (makes h)) tt)
+  making-right (inr w) = inr w
+
+  making-number : (n : ℕ) → (makeCall buffer password .answer ≡ wrong n) ↔ MakingWrong buffer password n
+  making-number = exactly buffer (makeCall buffer password) (MakingWrong buffer password) making-refused (making-right making-either)
+
+  making-kept : (n : ℕ) → makeCall buffer password .answer ≡ wrong n → makeCall buffer password .lent ≡ buffer
+  making-kept = kept buffer (makeCall buffer password) (MakingWrong buffer password) making-refused (making-right making-either)
+
+  making-made : Installed buffer password
+      → (makeCall buffer password .answer ≡ ready) × Holds (makeCall buffer password .lent) (record { count = 0; store = fresh password })
+  making-made h = (
+    ap (λ (r : Reply Text). r .answer) (makes h),
+    record {
+      is-valid = fresh-valid password (h .is-string) (h .is-short);
+      is-text = ap (λ (r : Reply Text). r .lent) (makes h);
+    },
+  )
+
+-- ---- the demands
+
+demand-1 : Demand1
+demand-1 = record {
+  ends = λ b program s h. ap (λ (r : Reply Buffers). r .answer) (runs b program s h);
+  fits = λ b program s h. output-fits (s .store) (store-valid (h .holds)) program;
+  state-again = λ b program s h. (left s (endOf s program), state-after b program s h);
+  line-each = λ b program s h p lines t e k.
+      ap (λ (d : End). lineCount (output d)) k
+      ∙ line-each (s .store) (store-valid (h .holds)) p (parse-valid program p e) lines t (ap (run (s .store)) (sym e) ∙ k);
+  one-line = λ b program s h r e. (
+    ap (λ (k : End). lineCount (output k)) e ∙ one r,
+    ap (λ (k : Reply Buffers). k .lent .output) (runs b program s h ∙ ap (endReply b s) e),
+    ap (λ (k : Reply Buffers). k .lent .state) (runs b program s h ∙ ap (endReply b s) e),
+  );
+  run-number = run-number;
+  run-either = run-either;
+  run-kept = run-kept;
+  question-number = question-number;
+  question-either = question-either;
+  question-kept = question-kept;
+  making-number = making-number;
+  making-either = making-either;
+  making-kept = making-kept;
+  making-made = making-made;
+}
+
+demand-2 : Demand2
+demand-2 = record {
+  lines = λ b program s h. ap (λ (k : Reply Buffers). k .lent .output) (runs b program s h);
+  state = state-after;
+  work = λ b program s h. ap (λ (k : Reply Buffers). k .lent .work) (runs b program s h);
+}
+
+pub demands : Demands
+demands = record { first = demand-1; second = demand-2; third = demand-3 }
