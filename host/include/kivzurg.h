@@ -1,9 +1,18 @@
 /* The functions of the proved data server that are open to a host.
  *
- * Each lends byte buffers for the time of the call; nothing of them is kept. No function asks anything of its caller: every input is answered or
- * refused, and a refused call changes no byte. A call needs about 400 KB of stack. Calls on different buffers may run at the same time.
+ * Each function is lent byte buffers for the time of the call and keeps nothing of them. Every input is answered or refused, and a refused call
+ * changes no byte. Of its caller a function asks only what C cannot check:
  *
- * Build: `rt staticlib server_c` at the root of the repository writes target/staticlib/libserver_c.a; link that archive.
+ *   - a pointer and its size name bytes that the caller owns; a null pointer goes with the size 0;
+ *   - a buffer that is written (state, work and output of a run; the state of a making) overlaps no other buffer of the same call;
+ *   - nobody else writes a lent buffer during the call, or reads one that is written. Calls that have no buffer in common may run at the same
+ *     time, and so may questions on one state. There is no other shared data, and no heap is used;
+ *   - the thread has KIVZURG_STACK bytes of stack left.
+ *
+ * The state holds every password in clear. It is a secret: keep it where only the host can read it.
+ *
+ * For x86-64 Linux. Build: `rt staticlib server_c` at the root of the repository writes target/staticlib/libserver_c.a; link that archive and the
+ * C library. host/README.md has all limits in one place, host/examples/evening.c a whole program.
  */
 #ifndef KIVZURG_H
 #define KIVZURG_H
@@ -15,8 +24,14 @@
 extern "C" {
 #endif
 
+/* The version of this header and of what the functions answer. CHANGELOG.md says what changed. */
+#define KIVZURG_VERSION "0.2.0"
+
 /* The size of the state, of the work buffer and of the output. */
 #define KIVZURG_BUFFER 65536
+
+/* The stack that a call needs, with room to spare. */
+#define KIVZURG_STACK 524288
 
 /* Makes a server: `state` then holds its text and zeros. Answers KIVZURG_READY, or the number 2, 8 or 9. */
 uint64_t kivzurg_make(uint8_t *state, size_t state_size, const uint8_t *password, size_t password_size);

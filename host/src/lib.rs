@@ -1,22 +1,39 @@
 //! A safe way into the proved data server. Sizes are types and answers are enums, so that what the functions below refuse by a number for a wrong
-//! size cannot be asked here, and nothing panics. [`raw`] has the functions as they are exported.
+//! size cannot be asked here; lent buffers cannot overlap; and nothing panics. [`raw`] has the functions as they are exported.
 //!
-//! ```no_run
-//! use kivzurg::{Right, Server};
-//!
-//! let mut server = Server::make(b"desk").unwrap();
-//! let report = server.run(b"as principal admin password \"desk\" do\nset x = \"1\"\nreturn x\n***").unwrap();
-//! assert_eq!(report.lines, 2);
-//! assert_eq!(server.ask(b"admin", b"x", Right::Read), Ok(Some(0)));
 //! ```
+//! use kivzurg::{Principal, Right, Server, Variable};
+//!
+//! fn main() -> Result<(), Box<dyn std::error::Error>> {
+//!     let mut server = Server::make(b"desk")?;
+//!     let report = server.run(b"as principal admin password \"desk\" do\nset queue = []\nreturn queue\n***")?;
+//!     assert!(report.is_completed());
+//!     assert_eq!(report.output, b"{\"status\":\"SET\"}\n{\"status\":\"RETURNING\",\"output\":[]}\n");
+//!     assert_eq!(server.ask(Principal(b"anyone"), Variable(b"queue"), Right::Read)?, None);
+//!     let kept: Box<kivzurg::Buffer> = Box::new(*server.state());
+//!     assert_eq!(Server::over(kept).ask(Principal(b"admin"), Variable(b"queue"), Right::Read)?, Some(0));
+//!     Ok(())
+//! }
+//! ```
+//!
+//! The state holds every password in clear. It is a secret: keep it where only the host can read it, and do not print it. `Debug` for [`Server`]
+//! shows nothing of it.
+//!
+//! A call takes up to [`STACK_BYTES`] of stack and no heap. A [`Server`] may be sent to another thread, and questions may be put to one from several
+//! threads at a time.
 
 #![deny(missing_docs)]
 
-#[allow(missing_docs)]
+mod error;
 pub mod raw;
+mod right;
 
+use std::fmt;
+
+pub use error::{AskError, MakeError, RunError};
 use raw::Answer;
 pub use raw::Kind;
+pub use right::{NoSuchRight, Right};
 
 /// The size of each lent buffer.
 pub const BUFFER: usize = 65_536;
@@ -24,53 +41,20 @@ pub const BUFFER: usize = 65_536;
 /// What is lent.
 pub type Buffer = [u8; BUFFER];
 
-/// A right on a shared variable.
-#[derive(Clone, Copy, PartialEq, Eq, Debug)]
-pub enum Right {
-    /// May read.
-    Read,
-    /// May write.
-    Write,
-    /// May append.
-    Append,
-    /// May pass rights on.
-    Delegate,
-}
+/// A longer program does not parse.
+pub const LONGEST_PROGRAM: usize = 16_384;
 
-/// Why no server was made.
-#[derive(Clone, Copy, PartialEq, Eq, Debug)]
-pub enum MakeError {
-    /// The password has a byte outside the string alphabet.
-    PasswordByte,
-    /// The password is longer than 1,024 bytes.
-    PasswordLength,
-    /// An answer that the server does not give.
-    Unexpected,
-}
+/// The stack that a thread needs to make calls, with room to spare. tests/stack.rs runs every kind of program in a thread of this size. The same figure
+/// stands in include/kivzurg.h and in README.md, which tests/documents.rs compares.
+pub const STACK_BYTES: usize = 524_288;
 
-/// Why a program was not run. Nothing has changed.
+/// The name of a principal.
 #[derive(Clone, Copy, PartialEq, Eq, Debug)]
-pub enum RunError {
-    /// The state is not well formed.
-    NotWellFormed,
-    /// The server is closed.
-    Closed,
-    /// An answer that the server does not give.
-    Unexpected,
-}
+pub struct Principal<'a>(pub &'a [u8]);
 
-/// Why a question was not answered.
+/// The name of a shared variable.
 #[derive(Clone, Copy, PartialEq, Eq, Debug)]
-pub enum AskError {
-    /// The state is not well formed.
-    NotWellFormed,
-    /// No such principal.
-    UnknownPrincipal,
-    /// No such shared variable.
-    UnknownVariable,
-    /// An answer that the server does not give.
-    Unexpected,
-}
+pub struct Variable<'a>(pub &'a [u8]);
 
 /// What a program that was run has given.
 #[derive(Clone, Copy, PartialEq, Eq, Debug)]
@@ -114,9 +98,14 @@ impl Server {
         Server { state, work: zeros(), output: zeros() }
     }
 
-    /// The state, to be kept.
+    /// The state, to be kept after each completed program. It is a secret: it holds the passwords.
     pub fn state(&self) -> &Buffer {
         &self.state
+    }
+
+    /// Whether the state is well formed: a question looks at that first.
+    pub fn is_well_formed(&self) -> bool {
+        self.ask(Principal(b"admin"), Variable(b""), Right::Read) != Err(AskError::NotWellFormed)
     }
 
     /// Runs a program.
@@ -133,14 +122,8 @@ impl Server {
     }
 
     /// Whether a principal has a right on a shared variable: the length of a shortest chain, or none.
-    pub fn ask(&self, name: &[u8], variable: &[u8], right: Right) -> Result<Option<usize>, AskError> {
-        let letter = match right {
-            Right::Read => b'r',
-            Right::Write => b'w',
-            Right::Append => b'a',
-            Right::Delegate => b'd',
-        };
-        match raw::ask(&self.state[..], name, variable, letter) {
+    pub fn ask(&self, name: Principal<'_>, variable: Variable<'_>, right: Right) -> Result<Option<usize>, AskError> {
+        match raw::ask(&self.state[..], name.0, variable.0, right.letter()) {
             Answer::Yes(length) => Ok(Some(length)),
             Answer::No => Ok(None),
             Answer::Wrong(4) => Err(AskError::NotWellFormed),
@@ -151,6 +134,17 @@ impl Server {
     }
 }
 
+impl fmt::Debug for Server {
+    fn fmt(&self, f: &mut fmt::Formatter<'_>) -> fmt::Result {
+        f.debug_struct("Server").finish_non_exhaustive()
+    }
+}
+
 fn zeros() -> Box<Buffer> {
     Box::new([0; BUFFER])
 }
+
+// The examples of README.md are run as tests.
+#[cfg(doctest)]
+#[doc = include_str!("../README.md")]
+struct Readme;

@@ -1,5 +1,8 @@
-//! The functions as they are exported, over slices of any size, and the number that each answers. They ask nothing of their caller: what they
-//! do not take they refuse with a number, and then no byte of what was lent is changed.
+//! The functions as they are exported, over slices of any size, and the number that each answers. What they do not take they refuse with a
+//! number, and then no byte of what was lent is changed. Two slices of which one is written cannot overlap here, which is all that the functions
+//! ask of their caller.
+
+use std::fmt;
 
 mod exported {
     // A slice passes as a pointer and then a length. crates/server_c/src/lib.rt has the other side of each line.
@@ -30,27 +33,56 @@ mod exported {
 /// How a program ended.
 #[derive(Clone, Copy, PartialEq, Eq, Debug)]
 pub enum Kind {
+    /// Completed by `return`.
     Returned,
+    /// Completed by `exit`: the server is closed.
     Exited,
+    /// Not done: its sender may not do it.
     Denied,
+    /// Not done: it does not parse, or it cannot be done.
     Failed,
+    /// Not done: it would weigh too much.
     Full,
 }
 
+impl fmt::Display for Kind {
+    fn fmt(&self, f: &mut fmt::Formatter<'_>) -> fmt::Result {
+        f.pad(match self {
+            Kind::Returned => "returned",
+            Kind::Exited => "exited",
+            Kind::Denied => "denied",
+            Kind::Failed => "failed",
+            Kind::Full => "full",
+        })
+    }
+}
+
+/// What a function answers.
 #[derive(Clone, Copy, PartialEq, Eq, Debug)]
 pub enum Answer {
-    /// The call was refused with this number.
+    /// The call was refused with this number, from 1 to 9. Nothing has changed.
     Wrong(u8),
-    Ended { kind: Kind, lines: usize, bytes: usize },
+    /// A program was run.
+    Ended {
+        /// How it ended.
+        kind: Kind,
+        /// How many lines it printed.
+        lines: usize,
+        /// How many bytes of the output they take.
+        bytes: usize,
+    },
+    /// The right is held, by a shortest chain of so many steps.
     Yes(usize),
+    /// The right is not held.
     No,
+    /// A server was made.
     Ready,
     /// A number that stands for nothing. It does not come.
     Unknown(u64),
 }
 
 impl Answer {
-    /// What a number says (crates/server_c/specs/Wire.antt).
+    /// What a number says (include/kivzurg.h has the same codes for C).
     fn of(number: u64) -> Answer {
         let low = (number & 0xff_ffff) as usize;
         let lines = (number >> 24 & 0xff_ffff) as usize;
@@ -70,11 +102,13 @@ impl Answer {
     }
 }
 
+/// Makes a server in `state`: `Ready`, or `Wrong` with 2, 8 or 9.
 pub fn make(state: &mut [u8], password: &[u8]) -> Answer {
     // Sound: the function reads `password`, writes within `state`, and keeps nothing of either.
     Answer::of(unsafe { exported::kivzurg_make(state.as_mut_ptr(), state.len(), password.as_ptr(), password.len()) })
 }
 
+/// Runs a program: `Ended`, or `Wrong` with a number from 1 to 5.
 pub fn run(state: &mut [u8], work: &mut [u8], output: &mut [u8], program: &[u8]) -> Answer {
     // Sound: the function reads `program`, writes within the three others, which do not overlap, and keeps nothing of them.
     Answer::of(unsafe {
@@ -91,6 +125,7 @@ pub fn run(state: &mut [u8], work: &mut [u8], output: &mut [u8], program: &[u8])
     })
 }
 
+/// Asks whether a principal has a right, given by its letter, on a shared variable: `Yes`, `No`, or `Wrong` with 2, 4, 6 or 7.
 pub fn ask(state: &[u8], name: &[u8], variable: &[u8], right: u8) -> Answer {
     // Sound: the function reads the slices and keeps nothing of them.
     Answer::of(unsafe {

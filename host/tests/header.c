@@ -1,4 +1,4 @@
-/* The header by itself: makes a server, runs a program, asks a question, and is refused for a size. */
+/* The header by itself: its constants, a server made, a program, a question, refusals, and null pointers with the size 0. */
 #include "kivzurg.h"
 
 #include <stdio.h>
@@ -6,16 +6,29 @@
 
 static uint8_t state[KIVZURG_BUFFER], work[KIVZURG_BUFFER], output[KIVZURG_BUFFER];
 
+static uint64_t run(size_t work_size, const char *program) {
+    size_t size = program == NULL ? 0 : strlen(program);
+    return kivzurg_run(state, sizeof state, work, work_size, output, sizeof output, (const uint8_t *)program, size);
+}
+
 int main(void) {
-    const char *program = "as principal admin password \"p\" do\nset x = \"1\"\nreturn x\n***";
-    uint64_t answer = kivzurg_make(state, sizeof state, (const uint8_t *)"p", 1);
+    const char *program = "as principal admin password \"\" do\nset x = \"1\"\nreturn x\n***";
+    uint64_t answer;
+    printf("version %s, buffer %d, stack %d\n", KIVZURG_VERSION, KIVZURG_BUFFER, KIVZURG_STACK);
+    answer = kivzurg_make(state, sizeof state, NULL, 0);
     printf("made %u\n", KIVZURG_CODE(answer));
-    answer = kivzurg_run(state, sizeof state, work, sizeof work, output, sizeof output, (const uint8_t *)program, strlen(program));
+    answer = run(sizeof work, program);
     printf("ran %u, %zu lines, %zu bytes\n", KIVZURG_CODE(answer), KIVZURG_LINES(answer), KIVZURG_BYTES(answer));
     fwrite(output, 1, KIVZURG_BYTES(answer), stdout);
     answer = kivzurg_ask(state, sizeof state, (const uint8_t *)"admin", 5, (const uint8_t *)"x", 1, 'r');
     printf("asked %u, %zu long\n", KIVZURG_CODE(answer), KIVZURG_LENGTH(answer));
-    answer = kivzurg_run(state, sizeof state, work, 1, output, sizeof output, (const uint8_t *)program, strlen(program));
+    answer = kivzurg_ask(state, sizeof state, NULL, 0, NULL, 0, 'r');
     printf("refused %u\n", KIVZURG_CODE(answer));
+    answer = run(1, program);
+    printf("refused %u\n", KIVZURG_CODE(answer));
+    answer = kivzurg_run(NULL, 0, NULL, 0, NULL, 0, NULL, 0);
+    printf("refused %u\n", KIVZURG_CODE(answer));
+    answer = run(sizeof work, NULL);
+    printf("ran %u, %zu lines\n", KIVZURG_CODE(answer), KIVZURG_LINES(answer));
     return 0;
 }

@@ -1,24 +1,19 @@
-//! The host that keeps its server in a file is killed at one moment after the other. What it has answered is there afterwards, in order, and of the
-//! rest at most the program that it had in hand.
+//! The host is killed at one moment after the other. What it has answered is in the journal and in the state afterwards, in order, and of the rest at
+//! most the program that it had in hand. Its next start brings the two together.
 
-use std::env;
+mod common;
+
 use std::fs;
 use std::io::{Read, Write};
-use std::path::{Path, PathBuf};
-use std::process::{Command, Stdio};
 use std::thread;
 use std::time::Duration;
 
+use common::Folder;
 use kivzurg::{Buffer, Server};
 
 const ROUNDS: u64 = 30;
 const PROGRAMS: usize = 60;
-
-fn folder() -> PathBuf {
-    let folder = env::temp_dir().join(format!("kivzurg-kill-{}", std::process::id()));
-    fs::create_dir_all(&folder).expect("a folder for the state");
-    folder
-}
+const RUN: [&str; 4] = ["run", "state", "--journal", "journal"];
 
 /// Numbers appended to a list, one a program, from `first` on.
 fn programs(first: usize) -> Vec<u8> {
@@ -27,14 +22,8 @@ fn programs(first: usize) -> Vec<u8> {
 }
 
 /// Feeds programs and kills the host some time later: how many of them it answered.
-fn killed_after(path: &Path, wait: Duration, input: Vec<u8>) -> usize {
-    let mut host = Command::new(env!("CARGO_BIN_EXE_keeper"))
-        .arg(path)
-        .arg("p")
-        .stdin(Stdio::piped())
-        .stdout(Stdio::piped())
-        .spawn()
-        .expect("the host starts");
+fn killed_after(folder: &Folder, wait: Duration, input: Vec<u8>) -> usize {
+    let mut host = folder.command(&RUN).spawn().expect("the host starts");
     let mut to_host = host.stdin.take().expect("its input");
     let mut from_host = host.stdout.take().expect("its output");
     // The host may be gone before it has read all.
@@ -52,8 +41,8 @@ fn killed_after(path: &Path, wait: Duration, input: Vec<u8>) -> usize {
 }
 
 /// How many numbers the kept list has; they are 0, 1, 2, ..
-fn kept(path: &Path) -> usize {
-    let bytes = fs::read(path).expect("the state is there");
+fn kept(folder: &Folder) -> usize {
+    let bytes = fs::read(folder.path("state")).expect("the state is there");
     let state: Box<Buffer> = bytes.into_boxed_slice().try_into().expect("it has its size");
     let mut server = Server::over(state);
     let report = server.run(b"as principal admin password \"p\" do\nreturn list\n***").expect("it is well formed");
@@ -64,24 +53,34 @@ fn kept(path: &Path) -> usize {
     count
 }
 
+/// How many programs the journal has that append; it replays as it stands.
+fn journaled(folder: &Folder) -> usize {
+    let output = folder.run(&["replay", "journal"], b"");
+    let said = String::from_utf8_lossy(&output.stdout).into_owned();
+    assert_eq!(output.status.code(), Some(0), "{said}");
+    said.split(' ').next().and_then(|number| number.parse().ok()).expect("a number of programs")
+}
+
 #[test]
 fn what_was_answered_is_kept() {
-    let folder = folder();
-    let path = folder.join("state");
-    let mut first = Server::make(b"p").expect("a good password");
-    first.run(b"as principal admin password \"p\" do\nset list = []\nreturn list\n***").expect("a right call");
-    fs::write(&path, first.state()).expect("the state is written");
-    let mut total = 0;
-    let mut cut = 0;
+    let folder = Folder::of("kill");
+    folder.printed(0, &["make", "state"], "p\n");
+    folder.printed(0, &["run", "state"], "as principal admin password \"p\" do\nset list = []\nreturn list\n***\n");
+    folder.printed(0, &RUN, "");
+    let (mut total, mut held, mut cut, mut apart) = (0, 0, 0, 0);
     for round in 0..ROUNDS {
-        let answered = killed_after(&path, Duration::from_micros(700 * round), programs(total));
-        let now = kept(&path);
-        let gained = now - total;
-        assert!(gained == answered || gained == answered + 1, "{answered} answered, {gained} kept");
+        let answered = killed_after(&folder, Duration::from_millis(3 * round), programs(total));
+        let (journaled, kept) = (journaled(&folder), kept(&folder));
+        // Where it answered nothing it may not even have done again what the round before left in the journal alone.
+        let least = if answered == 0 { held } else { total + answered };
+        assert!(least <= kept, "{answered} answered, {kept} kept after {total}");
+        assert!(kept <= journaled && journaled <= total + answered + 1, "{kept} kept, {journaled} in the journal, {answered} answered after {total}");
         cut += usize::from(answered < PROGRAMS);
-        total = now;
+        apart += usize::from(kept < journaled);
+        (total, held) = (journaled, kept);
     }
-    println!("{total} programs kept in {ROUNDS} rounds, {cut} of them cut short");
+    folder.printed(0, &RUN, "");
+    assert!(folder.printed(0, &["replay", "journal", "state"], "").ends_with("the same bytes\n"));
+    println!("{total} programs kept in {ROUNDS} rounds, {cut} of them cut short, {apart} between journal and state");
     assert!(total > 0 && cut > 0, "nothing was kept, or nothing was cut short");
-    fs::remove_dir_all(&folder).expect("the folder goes");
 }

@@ -7,7 +7,7 @@
 //!     load                           the lines up to `end` become the state's text, `|` standing for a tab
 //!     run                            the lines up to `***` are the program; `run-sized STATE WORK OUTPUT` lends buffers of these sizes
 //!     ask NAME VARIABLE RIGHT        the question; `ask-sized N NAME VARIABLE RIGHT` on N bytes
-//!     show                           the state's text and its weight
+//!     show                           the state's text and its weight, which each side tells by itself
 //!
 //! A transcript is written anew, by the proved server, with REPLAYS=write in the environment; read what changed before it is stored.
 
@@ -17,14 +17,20 @@ use std::fs;
 use std::path::{Path, PathBuf};
 
 use compare::server::{self, Answer};
+use compare::states::{self, FIGURES};
 use model::calls;
 use model::text::{decode, BUFFER};
+
+/// The place of the weight among the figures of a state's check.
+const WEIGHT: usize = 2;
 
 /// One of the two sides.
 trait Side {
     fn make(&self, state: &mut [u8], password: &[u8]) -> Answer;
     fn run(&self, state: &mut [u8], work: &mut [u8], output: &mut [u8], program: &[u8]) -> Answer;
     fn ask(&self, state: &[u8], name: &[u8], variable: &[u8], right: u8) -> Answer;
+    /// None where the state is not well formed.
+    fn weight(&self, state: &[u8]) -> Option<usize>;
 }
 
 struct Proved;
@@ -40,6 +46,14 @@ impl Side for Proved {
 
     fn ask(&self, state: &[u8], name: &[u8], variable: &[u8], right: u8) -> Answer {
         server::ask(state, name, variable, right)
+    }
+
+    fn weight(&self, state: &[u8]) -> Option<usize> {
+        let mut room = vec![0; FIGURES];
+        match states::check(state, &mut room) {
+            states::Answer::Found(_, figures) => Some(figures[WEIGHT] as usize),
+            _ => None,
+        }
     }
 }
 
@@ -60,6 +74,10 @@ impl Side for Model {
             Ok(None) => Answer::No,
             Err(refusal) => Answer::Wrong(refusal.number()),
         }
+    }
+
+    fn weight(&self, state: &[u8]) -> Option<usize> {
+        decode(state).map(|(state, _)| state.weight())
     }
 }
 
@@ -123,7 +141,7 @@ impl Play<'_> {
     fn show(&mut self) {
         let used = self.state.iter().rposition(|b| *b != 0).map_or(0, |at| at + 1);
         self.transcript += &String::from_utf8_lossy(&self.state[..used]).replace('\t', "|");
-        let weight = decode(&self.state).map_or_else(|| "none".to_string(), |(state, _)| state.weight().to_string());
+        let weight = self.side.weight(&self.state).map_or("none".to_string(), |weight| weight.to_string());
         writeln!(self.transcript, "weight {weight}").expect("a line");
     }
 }

@@ -1,0 +1,46 @@
+//! What docs/LANGUAGE.md shows, tried on the server.
+
+use std::fs;
+use std::path::Path;
+
+use kivzurg::{Kind, Server};
+
+fn page() -> String {
+    fs::read_to_string(Path::new(env!("CARGO_MANIFEST_DIR")).join("../docs/LANGUAGE.md")).expect("the page")
+}
+
+/// The indented block that follows a text, its lines without the indent.
+fn block(page: &str, before: &str) -> String {
+    let (_, after) = page.split_once(before).expect("the text before the block");
+    let lines = after.lines().skip_while(|line| !line.starts_with("    ")).take_while(|line| line.starts_with("    "));
+    lines.map(|line| format!("{}\n", &line[4..])).collect()
+}
+
+#[test]
+fn the_first_program_and_its_state() {
+    let page = page();
+    let mut server = Server::make(b"desk").expect("a good password");
+    let report = server.run(block(&page, "## A first program").as_bytes()).expect("a right call");
+    assert_eq!(String::from_utf8_lossy(report.output), block(&page, "It prints one line for each command"));
+    let appending = b"as principal rosa password \"r1\" do\nappend to queue with {song=\"Blue Moon\",key=\"F\"}\nreturn \"\"\n***";
+    assert!(server.run(appending).expect("a right call").is_completed());
+    let text = String::from_utf8_lossy(server.state()).trim_end_matches('\0').replace('\t', "|");
+    assert_eq!(text, block(&page, "the state is this"));
+}
+
+/// Whether admin may make a variable of this name.
+fn is_name(word: &str) -> bool {
+    let mut server = Server::make(b"p").expect("a good password");
+    let program = format!("as principal admin password \"p\" do\nset {word} = \"\"\nreturn {word}\n***");
+    server.run(program.as_bytes()).map(|report| report.kind) == Ok(Kind::Returned)
+}
+
+#[test]
+fn keywords() {
+    let words = block(&page(), "Keywords are no names");
+    for word in words.split_whitespace() {
+        assert!(!is_name(word), "{word} is no keyword");
+        assert!(is_name(&format!("{word}_")), "{word}_ is a keyword");
+    }
+    assert!(is_name("admin") && is_name("anyone") && is_name("if"));
+}

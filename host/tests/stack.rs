@@ -1,0 +1,98 @@
+//! The stack that calls take: every kind of program runs in a thread of `STACK_BYTES`, and a fifth of that is to spare.
+
+use std::fs;
+use std::hint::black_box;
+use std::thread;
+
+use kivzurg::{raw, Buffer, Kind, Principal, Right, Server, Variable, STACK_BYTES};
+
+/// Commands, and how a program of admin's that ends with them ends. Together they have every command and every kind of end.
+const PROGRAMS: &[(&str, Kind)] = &[
+    ("create principal rosa \"r\"\nset a = \"1\"\nset r = {x=a,y=\"2\"}\nset l = []\nreturn r", Kind::Returned),
+    ("append to l with r\nappend to l with r\nappend to l with l\nlocal n = r.x\nreturn l", Kind::Returned),
+    ("foreach y in l replacewith {z=y.x}\nreturn l", Kind::Returned),
+    ("foreach y in l replacewith y.none\nreturn l", Kind::Failed),
+    ("set delegation l admin read -> anyone\nset delegation all admin delegate -> rosa\nreturn \"\"", Kind::Returned),
+    ("default delegator = rosa\ncreate principal tom \"t\"\nchange password tom \"tt\"\nreturn \"\"", Kind::Returned),
+    ("delete delegation all rosa write -> tom\ndelete delegation l admin read -> anyone\nreturn \"\"", Kind::Returned),
+    ("set delegation l tom read -> rosa\nset delegation l anyone read -> rosa\nreturn \"\"", Kind::Denied),
+    ("return none", Kind::Failed),
+    ("return [ ]", Kind::Failed),
+    ("exit", Kind::Exited),
+];
+
+/// A list of 8,000 for the weight, so that it is long and one more is too much.
+fn doubling() -> String {
+    let names = ["append to l with l"; 12].join("\n");
+    format!("set l = []\nappend to l with \"\"\n{names}\nforeach y in l replacewith y\nset m = l\nreturn l")
+}
+
+fn program(commands: &str) -> String {
+    format!("as principal admin password \"p\" do\n{commands}\n***")
+}
+
+/// A chain from admin over so many principals.
+fn chained(steps: usize) -> Vec<String> {
+    let mut commands = vec!["set l = []".to_string()];
+    for n in 0..steps {
+        let from = if n == 0 { "admin".to_string() } else { format!("p{}", n - 1) };
+        commands.push(format!("create principal p{n} \"\"\nset delegation l admin delegate -> p{n}\nset delegation l {from} read -> p{n}"));
+    }
+    commands.chunks(60).map(|some| program(&format!("{}\nreturn \"\"", some.join("\n")))).collect()
+}
+
+/// Every kind of call. The servers' buffers are not on this thread's stack.
+fn calls(servers: &mut [Server; 3], damaged: &mut Buffer) {
+    let [plain, full, long] = servers;
+    for (commands, kind) in PROGRAMS {
+        assert_eq!(plain.run(program(commands).as_bytes()).map(|report| report.kind), Ok(*kind), "{commands}");
+    }
+    assert_eq!(full.run(program(&doubling()).as_bytes()).map(|report| report.kind), Ok(Kind::Full));
+    for text in chained(200) {
+        assert_eq!(long.run(text.as_bytes()).map(|report| report.kind), Ok(Kind::Returned), "{text}");
+    }
+    assert_eq!(long.ask(Principal(b"p199"), Variable(b"l"), Right::Read), Ok(Some(200)));
+    assert_eq!(long.ask(Principal(b"p199"), Variable(b"l"), Right::Write), Ok(None));
+    assert_eq!(raw::ask(&damaged[..], b"admin", b"l", b'r'), raw::Answer::Wrong(4));
+    assert_eq!(raw::make(&mut damaged[..], b"p"), raw::Answer::Ready);
+}
+
+/// Makes the calls in a thread of this size and answers what `after` says there.
+fn in_thread(size: usize, after: fn() -> usize) -> usize {
+    let mut servers = [(); 3].map(|()| Server::make(b"p").expect("a good password"));
+    let mut damaged: Box<Buffer> = Box::new([7; kivzurg::BUFFER]);
+    let work = move || {
+        let before = after();
+        calls(&mut servers, &mut damaged);
+        after() - before
+    };
+    thread::Builder::new().stack_size(size).spawn(work).expect("a thread").join().expect("it ends")
+}
+
+/// The bytes of this thread's stack that were ever touched, in whole pages.
+fn touched() -> usize {
+    let mut local = 0_u8;
+    let here = black_box(&mut local) as *mut u8 as usize;
+    let maps = fs::read_to_string("/proc/self/smaps").expect("the process's memory");
+    let mut is_here = false;
+    for line in maps.lines() {
+        let mut words = line.split_whitespace();
+        let first = words.next().unwrap_or_default();
+        if let Some((from, to)) = first.split_once('-') {
+            let [from, to] = [from, to].map(|word| usize::from_str_radix(word, 16).unwrap_or(0));
+            is_here = (from..to).contains(&here);
+        } else if is_here && first == "Rss:" {
+            return words.next().and_then(|word| word.parse::<usize>().ok()).expect("a number") * 1_024;
+        }
+    }
+    panic!("the stack is not among the process's memory");
+}
+
+/// One test, so that no thread has ended before: the C library would hand its stack, which is larger, to the thread of `STACK_BYTES`.
+#[test]
+fn calls_fit_and_a_fifth_is_to_spare() {
+    in_thread(STACK_BYTES, || 0);
+    let used = in_thread(STACK_BYTES * 3 / 2, touched);
+    println!("calls touch {used} bytes of stack; STACK_BYTES is {STACK_BYTES}");
+    assert!(used > 0 && used <= STACK_BYTES / 5 * 4, "calls touch {used} bytes of stack");
+}
