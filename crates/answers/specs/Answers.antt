@@ -5,7 +5,7 @@ use Rattle.language.specs.Syntax.{Right}
 use Rattle.language.specs.Commands as Refused
 use Rattle.language.specs.Run as Run
 use Rattle.language.specs.Calls as Calls
-use Rattle.numbers.specs.Numbers.{code}
+use Rattle.named_rights.specs.Numbers.{code}
 use Rattle.answers.specs.declared.Kind.{Kind}
 use Rattle.answers.specs.declared.Kind.the-variants.{Returned, Exited, Denied, Failed, Full}
 use Rattle.answers.specs.declared.Finish.{Finish}

@@ -16,17 +16,17 @@ use Rattle.language.specs.Commands.{sessionWeight, withStore, withAssertions, a
 use Rattle.language.proofs.Logic.Tests.{and-three}
 use Rattle.language.proofs.StateText.Names.{is-named, valued-is, principal-name, variable-name}
 use Rattle.language.proofs.StateText.Clean.{name-length}
-use Rattle.rights.specs.Packed.{pack}
+use Rattle.assertion.specs.Packed.{pack}
 use Rattle.store.specs.Rows.{Row, rowAt, noRow, position, principalRow, variableRow}
 use Rattle.store.proofs.Answers.{map-at, variable-names, principal-names}
 use Rattle.store.proofs.Records.{all-at}
-use Rattle.numbers.specs.Numbers.{people, variables}
-use Rattle.numbers.proofs.Few.{few-people, few-variables}
-use Rattle.numbers.proofs.Places.{name-at, position-lt, code-lt}
-use Rattle.running.specs.declared.Layout.{Layout}
-use Rattle.running.specs.Sessions.{Slices, Running}
-use Rattle.running.proofs.Scoping.{store-valid, everyone}
-use Rattle.delegations.specs.Numbered.{Numbered}
+use Rattle.named_rights.specs.Numbers.{principalsOf, variables}
+use Rattle.named_rights.proofs.Few.{few-names, few-variables}
+use Rattle.named_rights.proofs.Places.{name-at, position-lt, code-lt}
+use Rattle.session.specs.declared.Layout.{Layout}
+use Rattle.session.specs.Sessions.{Slices, Running}
+use Rattle.session.proofs.Scoping.{store-valid, everyone}
+use Rattle.delegation_rules.specs.Numbered.{Numbered}
 use Rattle.delegations.specs.Entering.{Asserts, Delegates, entered, withdrawn, restood}
 use Rattle.store.proofs.NameWeights.{name-light}
 use Rattle.delegations.proofs.Lists.{assertionAt, on-next, on-split, entering-append, withdrawing-append, entering-grows-by}
@@ -39,15 +39,15 @@ variable-row : (vs : List Variable) (k : ℕ) → rowAt (map variableRow vs) k .
 variable-row vs k = sym (List·getD-map (λ (r : Row). r .name) (map variableRow vs) k noRow) ∙ ap (λ (l : List Name). getD l k []) (variable-names vs)
 
 module _ (s : Session) (l : Layout) (b : Slices) (R : Running s l b) (p : Name) (k : ℕ) (N : Numbered (s .store) p k) where
-  pub principal-below : k < l .people
-  principal-below = omega (arith, N .number, position-lt (people (s .store)) p (N .known), everyone s l b R)
+  pub principal-below : k < l .principals
+  principal-below = omega (arith, N .number, position-lt (principalsOf (s .store)) p (N .known), everyone s l b R)
 
   pub principal-few : k < 4096
-  principal-few = omega (arith, principal-below, everyone s l b R, few-people (s .store) (store-valid s l b R))
+  principal-few = omega (arith, principal-below, everyone s l b R, few-names (s .store) (store-valid s l b R))
 
   pub principal-called : rowAt (map principalRow (s .store .principals)) k .name ≡ p
   principal-called =
-      principal-row (s .store .principals) k ∙ ap (λ (n : ℕ). getD (people (s .store)) n []) (N .number) ∙ name-at (people (s .store)) p (N .known)
+      principal-row (s .store .principals) k ∙ ap (λ (n : ℕ). getD (principalsOf (s .store)) n []) (N .number) ∙ name-at (principalsOf (s .store)) p (N .known)
 
   principal-light : nameWeight (rowAt (map principalRow (s .store .principals)) k .name) ≤ 255
   principal-light = omega (
@@ -113,12 +113,12 @@ module _ (s : Session) (l : Layout) (b : Slices) (targets : List ℕ) (count q r
     )
 
     -- the assertion on variable i, whatever assertions stand
-    pub asserts-at : (m : List Assertion) (k : Layout) (standing : List ℕ) (number weight pair : ℕ) → Running (withStore s (withAssertions (s .store) m)) k (restood b standing)
+    pub asserts-at : (m : List Assertion) (k : Layout) (assertions : List ℕ) (number weight pair : ℕ) → Running (withStore s (withAssertions (s .store) m)) k (restood b assertions)
         → number ≡ pack (getD targets i 0) q right p
         → pair ≡ nameWeight (rowAt (map principalRow (s .store .principals)) q .name) + nameWeight (rowAt (map principalRow (s .store .principals)) p .name)
         → weight ≡ length (rowAt (map variableRow (s .store .variables)) (getD targets i 0) .name) + 1 + pair
-        → Asserts (withStore s (withAssertions (s .store) m)) k (restood b standing) standing (assertionAt xs from r to i) number weight
-    asserts-at m k standing number weight pair R n e w =
+        → Asserts (withStore s (withAssertions (s .store) m)) k (restood b assertions) assertions (assertionAt xs from r to i) number weight
+    asserts-at m k assertions number weight pair R n e w =
         let fq : nameWeight (rowAt (map principalRow (s .store .principals)) q .name) ≡ nameWeight from = ap nameWeight (principal-called s l b (D .running) from q (D .giver)) in
         let fp : nameWeight (rowAt (map principalRow (s .store .principals)) p .name) ≡ nameWeight to = ap nameWeight (principal-called s l b (D .running) to p (D .taker)) in
         let fx : length (rowAt (map variableRow (s .store .variables)) (getD targets i 0) .name) ≡ length (getD xs i []) = ap length target-called in

@@ -18,15 +18,15 @@ use Rattle.language.specs.Commands.{Effect, effect, done, denied, sessionWeight
 use Rattle.language.proofs.Logic.Tests.{three}
 use Rattle.language.proofs.StateText.Names.{named-is}
 use Rattle.store.specs.Rows.{position}
-use Rattle.numbers.specs.Numbers.{code, variables}
-use Rattle.running.specs.declared.Layout.{Layout}
-use Rattle.running.specs.Sessions.{Slices, Running}
-use Rattle.running.specs.Endings.{Succeeds}
-use Rattle.running.proofs.Steps.{is-failed, is-full, is-done, heavy-session}
-use Rattle.delegations.specs.declared.ask.Ask.{Ask}
+use Rattle.named_rights.specs.Numbers.{code, variables}
+use Rattle.session.specs.declared.Layout.{Layout}
+use Rattle.session.specs.Sessions.{Slices, Running}
+use Rattle.session.specs.Endings.{Succeeds}
+use Rattle.session.proofs.Steps.{is-failed, is-full, is-done, heavy-session}
+use Rattle.delegation_rules.specs.declared.Ask.{Ask}
 use Rattle.delegations.specs.Entering.{Delegates, entered, withdrawn}
-use Rattle.delegations.specs.Asking.{Names}
-use Rattle.delegations.proofs.Existing.{complete}
+use Rattle.delegation_rules.specs.Asking.{Names}
+use Rattle.delegation_rules.proofs.Existing.{complete}
 
 -- an effect that changes the session, and has no values
 module _ (s : Session) (c : Command) (f : Effect) (v : f .values ≡ []) (d : denied s c ≡ false) (e : effect s c ≡ some f) where

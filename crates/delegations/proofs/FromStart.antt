@@ -11,8 +11,8 @@ use Rattle.store.specs.Rows.{Row, Rows, SomeRows}
 from-start : {A : Type 0} (l : List A) (n : ℕ) → take (n - 0) (drop 0 l) ≡ take n l
 from-start l n = ap (λ (k : ℕ). take k l) (sub-zero n)
 
-pub rows-from-start : (rows : List Row) (t : Text) (n count : ℕ) (marks : List ℕ) → Rows rows (take n t) count marks → Rows rows (take (n - 0) (drop 0 t)) count marks
-rows-from-start rows t n count marks H = rw (from-start t n) H
+pub rows-from-start : (rows : List Row) (t : Text) (n count : ℕ) (slots : List ℕ) → Rows rows (take n t) count slots → Rows rows (take (n - 0) (drop 0 t)) count slots
+rows-from-start rows t n count slots H = rw (from-start t n) H
 
-pub some-from-start : (t : Text) (n count : ℕ) (marks : List ℕ) → SomeRows (take n t) count marks → SomeRows (take (n - 0) (drop 0 t)) count marks
-some-from-start t n count marks S = record { rows = S .rows; held = rows-from-start (S .rows) t n count marks (S .held) }
+pub some-from-start : (t : Text) (n count : ℕ) (slots : List ℕ) → SomeRows (take n t) count slots → SomeRows (take (n - 0) (drop 0 t)) count slots
+some-from-start t n count slots S = record { rows = S .rows; held = rows-from-start (S .rows) t n count slots (S .held) }

@@ -12,12 +12,12 @@ use Rattle.language.specs.Valid.{validAssertion}
 use Rattle.language.specs.Values.{Session, isShared}
 use Rattle.language.specs.Commands.{sessionWeight, withStore, enterAll, withdrawAll}
 use Rattle.store.specs.Rows.{position}
-use Rattle.numbers.specs.Numbers.{code, people, variables, numbered}
-use Rattle.running.specs.declared.Layout.{Layout}
-use Rattle.running.specs.Sessions.{Slices, slices, Running}
+use Rattle.named_rights.specs.Numbers.{code, principalsOf, variables, numbered}
+use Rattle.session.specs.declared.Layout.{Layout}
+use Rattle.session.specs.Sessions.{Slices, slices, Running}
 use Rattle.delegations.specs.declared.Entered.{Entered}
 use Rattle.delegations.specs.declared.Entered.the-variants.{Full, Done}
-use Rattle.delegations.specs.Numbered.{Numbered}
+use Rattle.delegation_rules.specs.Numbered.{Numbered}
 
 -- the session after some assertions were entered, or withdrawn
 abbrev pub entered : Session → List Assertion → Session
@@ -28,13 +28,13 @@ withdrawn s added = withStore s (withdrawAll (s .store) added)
 
 -- other numbers stand
 abbrev pub restood : Slices → List ℕ → Slices
-restood b standing =
-    slices (b .people) (b .people-marks) (b .vars) (b .var-marks) (b .locals) (b .local-marks) standing
+restood b assertions =
+    slices (b .principals) (b .principal-slots) (b .vars) (b .variable-slots) (b .locals) (b .local-slots) assertions
 
 abbrev pub relaid : Layout → ℕ → ℕ → Layout
 relaid l asserted weight = record {
-  «people_len» = l .«people_len»;
-  people = l .people;
+  «principals_len» = l .«principals_len»;
+  principals = l .principals;
   «vars_len» = l .«vars_len»;
   vars = l .vars;
   «locals_len» = l .«locals_len»;
@@ -49,18 +49,18 @@ relaid l asserted weight = record {
 -- ---- one assertion
 
 -- the assertion a of names of the session s, its number and its weight
-pub record Asserts (s : Session) (l : Layout) (b : Slices) (standing : List ℕ) (a : Assertion) (number weight : ℕ) : Type 0 where
+pub record Asserts (s : Session) (l : Layout) (b : Slices) (assertions : List ℕ) (a : Assertion) (number weight : ℕ) : Type 0 where
   pub running : Running s l b
-  pub stood : b .standing ≡ standing
+  pub stood : b .assertions ≡ assertions
   pub is-valid : T (validAssertion (s .store) a)
-  pub is-number : number ≡ numbered (people (s .store)) (variables (s .store)) a
+  pub is-number : number ≡ numbered (principalsOf (s .store)) (variables (s .store)) a
   pub weighs : weight ≡ assertionWeight a
 
-pub record SomeAsserts (l : Layout) (standing : List ℕ) (number weight : ℕ) : Type 0 where
+pub record SomeAsserts (l : Layout) (assertions : List ℕ) (number weight : ℕ) : Type 0 where
   pub session : Session
   pub buffers : Slices
   pub assertion : Assertion
-  pub asserts : Asserts session l buffers standing assertion number weight
+  pub asserts : Asserts session l buffers assertions assertion number weight
 
 -- the session s is too heavy, or in the buffers
 abbrev pub Ends : Entered → Session → Slices → Type 0

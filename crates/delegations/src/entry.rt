@@ -1,11 +1,11 @@
 // One assertion, entered in a running session or withdrawn.
 use crate::Entered;
-use running::Layout;
+use session::Layout;
 ghost use mathlib.Core.Path.{_≡_};
-ghost use mathlib.Core.List.{List, [], _∷_};
+ghost use mathlib.Core.List.{[], _∷_};
 ghost use Rattle.language.specs.State.{Assertion};
 ghost use Rattle.language.specs.Values.{Session};
-ghost use Rattle.running.specs.Sessions.{Slices, Running};
+ghost use Rattle.session.specs.Sessions.{Slices, Running};
 ghost use Rattle.delegations.specs.Entering.{Asserts, SomeAsserts, Ends, entered, withdrawn, relaid, restood};
 
 // The layout with other assertions.
@@ -13,8 +13,8 @@ fn with_assertions(l: Layout, asserted: usize, weight: usize) -> Layout
     ensures { λ r. ⌜ r ≡ relaid l asserted weight ⌝ }
 {
     Layout {
-        people_len: l.people_len,
-        people: l.people,
+        principals_len: l.principals_len,
+        principals: l.principals,
         vars_len: l.vars_len,
         vars: l.vars,
         locals_len: l.locals_len,
@@ -28,32 +28,32 @@ fn with_assertions(l: Layout, asserted: usize, weight: usize) -> Layout
 }
 
 // Enters the assertion of a number, unless it stands.
-pub fn enter_one(standing: &mut [u64], l: Layout, number: u64, weight: usize) -> Entered
-    requires { ⌜ SomeAsserts l (now standing) number weight ⌝ }
-    ensures { λ r. ⌜ ((s : Session) (b : Slices) (a : Assertion) → Asserts s l b (now (standing .entry)) a number weight
-        → Ends r (entered s (a ∷ [])) (restood b (now (standing .exit)))) ⌝ }
+pub fn enter_one(assertions: &mut [u64], l: Layout, number: u64, weight: usize) -> Entered
+    requires { ⌜ SomeAsserts l (now assertions) number weight ⌝ }
+    ensures { λ r. ⌜ ((s : Session) (b : Slices) (a : Assertion) → Asserts s l b (now (assertions .entry)) a number weight
+        → Ends r (entered s (a ∷ [])) (restood b (now (assertions .exit)))) ⌝ }
 {
     let asserted = l.asserted;
-    if standing::stands(standing, asserted, number) {
+    if assertion_list::stands(assertions, asserted, number) {
         return Entered::Done(l);
     }
     let after = l.weight + weight;
     if 8192 < after {
         return Entered::Full;
     }
-    let n = standing::enter(standing, asserted, number);
+    let n = assertion_list::enter(assertions, asserted, number);
     Entered::Done(with_assertions(l, n, after))
 }
 
 // Withdraws the assertion of a number, if it stands.
-pub fn withdraw_one(standing: &mut [u64], l: Layout, number: u64, weight: usize) -> Layout
-    requires { ⌜ SomeAsserts l (now standing) number weight ⌝ }
-    ensures { λ r. ⌜ ((s : Session) (b : Slices) (a : Assertion) → Asserts s l b (now (standing .entry)) a number weight
-        → Running (withdrawn s (a ∷ [])) r (restood b (now (standing .exit)))) ⌝ }
+pub fn withdraw_one(assertions: &mut [u64], l: Layout, number: u64, weight: usize) -> Layout
+    requires { ⌜ SomeAsserts l (now assertions) number weight ⌝ }
+    ensures { λ r. ⌜ ((s : Session) (b : Slices) (a : Assertion) → Asserts s l b (now (assertions .entry)) a number weight
+        → Running (withdrawn s (a ∷ [])) r (restood b (now (assertions .exit)))) ⌝ }
 {
     let asserted = l.asserted;
-    if standing::stands(standing, asserted, number) {
-        let n = standing::withdraw(standing, asserted, number);
+    if assertion_list::stands(assertions, asserted, number) {
+        let n = assertion_list::withdraw(assertions, asserted, number);
         return with_assertions(l, n, l.weight - weight);
     }
     l

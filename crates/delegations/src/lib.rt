@@ -1,29 +1,23 @@
-// Delegations in a running session: the variables that `all` stands for, assertions entered and withdrawn, and the two commands.
-mod ask; // what a delegation names, and who may send it
+// Delegations in a running session: assertions entered and withdrawn, and the two commands.
 mod entry; // one assertion
 mod weigh; // what an assertion weighs, and its number
 
-use commands::form::Right;
-use commands::form::Target;
-use running::Layout;
-use running::Verdict;
+use command_readers::form::Right;
+use command_readers::form::Target;
+use session::Layout;
+use session::Verdict;
 use text::Span;
-ghost use mathlib.Core.Path.{_≡_};
-ghost use mathlib.Core.List.{List, map};
+ghost use mathlib.Core.List.{List};
 ghost use Prim.Native.Nat.{_≤_};
-ghost use lib.ListN.{length, take};
+ghost use lib.ListN.{length};
 ghost use Rattle.language.specs.Syntax.{Name, set-delegation, delete-delegation};
 ghost use Rattle.language.specs.Syntax as Syntax;
-ghost use Rattle.language.specs.State.{Store};
 ghost use Rattle.language.specs.Values.{Session};
-ghost use Rattle.language.specs.Commands.{delegable, assertionsOn, step};
-ghost use Rattle.store.specs.Rows.{position};
-ghost use Rattle.numbers.specs.Numbers.{variables};
-ghost use Rattle.running.specs.Sessions.{slices, Running, SomeRunning};
-ghost use Rattle.running.specs.Endings.{Ended};
+ghost use Rattle.language.specs.Commands.{assertionsOn, step};
+ghost use Rattle.session.specs.Sessions.{slices, Running, SomeRunning};
+ghost use Rattle.session.specs.Endings.{Ended};
 ghost use Rattle.text.specs.Meaning.{part, Within};
-ghost use Rattle.commands.specs.Forms.{rightMeant, targetMeant, TargetWithin};
-ghost use Rattle.delegations.specs.Numbered.{Numbered, Counted};
+ghost use Rattle.command_readers.specs.Forms.{rightMeant, targetMeant, TargetWithin};
 ghost use Rattle.delegations.specs.Entering.{Ends, Delegates, SomeDelegates, entered, withdrawn};
 
 // The session after assertions were entered, or none where it would be too heavy.
@@ -32,41 +26,15 @@ pub enum Entered {
     Done(Layout),
 }
 
-// The numbers of the shared variables on which principal q has delegate, in their order, at the start of `targets`; how many there are.
-pub fn collect(
-    standing: &[u64],
-    asserted: usize,
-    people: usize,
-    vars: usize,
-    q: usize,
-    targets: &mut [u32],
-) -> usize
-    requires { ⌜ (asserted ≤ length (now standing)) × (asserted ≤ 2048) × (people ≤ 4096) × (vars ≤ 4096) × (4096 ≤ length (now targets)) ⌝ }
-    ensures few { λ r. ⌜ r ≤ vars ⌝ }
-    ensures are { λ r. ⌜ ((s : Store) (name : Name) → Counted s (now (standing .entry)) asserted people vars → Numbered s name q
-        → take r (now (targets .exit)) ≡ map (position (variables s)) (delegable s name)) ⌝ }
-{
-    let mut n = 0;
-    let mut k = 0;
-    while k < vars {
-        if numbers::may(standing, asserted, people, k, 3, q) {
-            targets[n] = k as u32;
-            n += 1;
-        }
-        k += 1;
-    }
-    n
-}
-
 // Enters the assertions from q to p of a right on each of the first `count` targets.
 pub fn enter_all(
-    people: &[u8],
-    people_marks: &[u32],
+    principals: &[u8],
+    principal_slots: &[u32],
     vars: &[u8],
-    var_marks: &[u32],
+    variable_slots: &[u32],
     locals: &[u8],
-    local_marks: &[u32],
-    standing: &mut [u64],
+    local_slots: &[u32],
+    assertions: &mut [u64],
     l: Layout,
     targets: &[u32],
     count: usize,
@@ -74,23 +42,30 @@ pub fn enter_all(
     right: u16,
     p: usize,
 ) -> Entered
-    requires { ⌜ SomeDelegates l (slices (now people) (now «people_marks») (now vars) (now «var_marks») (now locals) (now «local_marks») (now standing)) (now targets) count q right p ⌝ }
+    requires { ⌜ SomeDelegates l (slices (now principals) (now «principal_slots») (now vars) (now «variable_slots») (now locals) (now «local_slots») (now assertions)) (now targets) count q right p ⌝ }
     ensures { λ r. ⌜ ((s : Session) (xs : List Name) (from : Name) (of : Syntax.Right) (to : Name)
-        → Delegates s l (slices (now (people .entry)) (now («people_marks» .entry)) (now (vars .entry)) (now («var_marks» .entry)) (now (locals .entry)) (now («local_marks» .entry)) (now (standing .entry))) (now (targets .entry)) count q right p xs from of to
-        → Ends r (entered s (assertionsOn xs from of to)) (slices (now (people .entry)) (now («people_marks» .entry)) (now (vars .entry)) (now («var_marks» .entry)) (now (locals .entry)) (now («local_marks» .entry)) (now (standing .exit)))) ⌝ }
+        → Delegates s l (slices (now (principals .entry)) (now («principal_slots» .entry)) (now (vars .entry)) (now («variable_slots» .entry)) (now (locals .entry)) (now («local_slots» .entry)) (now (assertions .entry))) (now (targets .entry)) count q right p xs from of to
+        → Ends r (entered s (assertionsOn xs from of to)) (slices (now (principals .entry)) (now («principal_slots» .entry)) (now (vars .entry)) (now («variable_slots» .entry)) (now (locals .entry)) (now («local_slots» .entry)) (now (assertions .exit)))) ⌝ }
 {
-    let people_len = l.people_len;
-    let principals = l.people;
+    let principals_len = l.principals_len;
+    let principal_count = l.principals;
     let vars_len = l.vars_len;
     let variables = l.vars;
-    let pair = weigh::pair(people, people_marks, people_len, principals, q, p);
+    let pair = weigh::pair(
+        principals,
+        principal_slots,
+        principals_len,
+        principal_count,
+        q,
+        p,
+    );
     let mut k = l;
     let mut i = 0;
     while i < count {
         let x = targets[i] as usize;
-        let weight = weigh::variable(vars, var_marks, vars_len, variables, x) + 1 + pair;
+        let weight = weigh::variable(vars, variable_slots, vars_len, variables, x) + 1 + pair;
         let number = weigh::packed(x, q, right, p);
-        let next = entry::enter_one(standing, k, number, weight);
+        let next = entry::enter_one(assertions, k, number, weight);
         let Entered::Done(after) = next else {
             return Entered::Full;
         };
@@ -101,14 +76,14 @@ pub fn enter_all(
 }
 
 // Withdraws those that stand of the assertions from q to p of a right on each of the first `count` targets.
-pub fn withdraw_all(
-    people: &[u8],
-    people_marks: &[u32],
+fn withdraw_all(
+    principals: &[u8],
+    principal_slots: &[u32],
     vars: &[u8],
-    var_marks: &[u32],
+    variable_slots: &[u32],
     locals: &[u8],
-    local_marks: &[u32],
-    standing: &mut [u64],
+    local_slots: &[u32],
+    assertions: &mut [u64],
     l: Layout,
     targets: &[u32],
     count: usize,
@@ -116,22 +91,29 @@ pub fn withdraw_all(
     right: u16,
     p: usize,
 ) -> Layout
-    requires { ⌜ SomeDelegates l (slices (now people) (now «people_marks») (now vars) (now «var_marks») (now locals) (now «local_marks») (now standing)) (now targets) count q right p ⌝ }
+    requires { ⌜ SomeDelegates l (slices (now principals) (now «principal_slots») (now vars) (now «variable_slots») (now locals) (now «local_slots») (now assertions)) (now targets) count q right p ⌝ }
     ensures { λ k. ⌜ ((s : Session) (xs : List Name) (from : Name) (of : Syntax.Right) (to : Name)
-        → Delegates s l (slices (now (people .entry)) (now («people_marks» .entry)) (now (vars .entry)) (now («var_marks» .entry)) (now (locals .entry)) (now («local_marks» .entry)) (now (standing .entry))) (now (targets .entry)) count q right p xs from of to
-        → Running (withdrawn s (assertionsOn xs from of to)) k (slices (now (people .entry)) (now («people_marks» .entry)) (now (vars .entry)) (now («var_marks» .entry)) (now (locals .entry)) (now («local_marks» .entry)) (now (standing .exit)))) ⌝ }
+        → Delegates s l (slices (now (principals .entry)) (now («principal_slots» .entry)) (now (vars .entry)) (now («variable_slots» .entry)) (now (locals .entry)) (now («local_slots» .entry)) (now (assertions .entry))) (now (targets .entry)) count q right p xs from of to
+        → Running (withdrawn s (assertionsOn xs from of to)) k (slices (now (principals .entry)) (now («principal_slots» .entry)) (now (vars .entry)) (now («variable_slots» .entry)) (now (locals .entry)) (now («local_slots» .entry)) (now (assertions .exit)))) ⌝ }
 {
-    let people_len = l.people_len;
-    let principals = l.people;
+    let principals_len = l.principals_len;
+    let principal_count = l.principals;
     let vars_len = l.vars_len;
     let variables = l.vars;
-    let pair = weigh::pair(people, people_marks, people_len, principals, q, p);
+    let pair = weigh::pair(
+        principals,
+        principal_slots,
+        principals_len,
+        principal_count,
+        q,
+        p,
+    );
     let mut k = l;
     let mut i = 0;
     while i < count {
         let x = targets[i] as usize;
-        let weight = weigh::variable(vars, var_marks, vars_len, variables, x) + 1 + pair;
-        k = entry::withdraw_one(standing, k, weigh::packed(x, q, right, p), weight);
+        let weight = weigh::variable(vars, variable_slots, vars_len, variables, x) + 1 + pair;
+        k = entry::withdraw_one(assertions, k, weigh::packed(x, q, right, p), weight);
         i += 1;
     }
     k
@@ -139,13 +121,13 @@ pub fn withdraw_all(
 
 // Set delegation: enters the right, from q to p, on what the target is about.
 pub fn set_delegation(
-    people: &[u8],
-    people_marks: &[u32],
+    principals: &[u8],
+    principal_slots: &[u32],
     vars: &[u8],
-    var_marks: &[u32],
+    variable_slots: &[u32],
     locals: &[u8],
-    local_marks: &[u32],
-    standing: &mut [u64],
+    local_slots: &[u32],
+    assertions: &mut [u64],
     targets: &mut [u32],
     l: Layout,
     text: &[u8],
@@ -154,29 +136,39 @@ pub fn set_delegation(
     right: Right,
     p: Span,
 ) -> Verdict
-    requires { ⌜ SomeRunning l (slices (now people) (now «people_marks») (now vars) (now «var_marks») (now locals) (now «local_marks») (now standing)) ⌝ }
+    requires { ⌜ SomeRunning l (slices (now principals) (now «principal_slots») (now vars) (now «variable_slots») (now locals) (now «local_slots») (now assertions)) ⌝ }
     requires { ⌜ TargetWithin (now text) target × Within (now text) q × Within (now text) p × (4096 ≤ length (now targets)) ⌝ }
-    ensures { λ r. ⌜ ((s : Session) → Running s l (slices (now (people .entry)) (now («people_marks» .entry)) (now (vars .entry)) (now («var_marks» .entry)) (now (locals .entry)) (now («local_marks» .entry)) (now (standing .entry)))
+    ensures { λ r. ⌜ ((s : Session) → Running s l (slices (now (principals .entry)) (now («principal_slots» .entry)) (now (vars .entry)) (now («variable_slots» .entry)) (now (locals .entry)) (now («local_slots» .entry)) (now (assertions .entry)))
         → Ended r (step s (set-delegation (targetMeant (now (text .entry)) target) (part (now (text .entry)) q) (rightMeant right) (part (now (text .entry)) p)))
-        (slices (now (people .entry)) (now («people_marks» .entry)) (now (vars .entry)) (now («var_marks» .entry)) (now (locals .entry)) (now («local_marks» .entry)) (now (standing .exit)))) ⌝ }
+        (slices (now (principals .entry)) (now («principal_slots» .entry)) (now (vars .entry)) (now («variable_slots» .entry)) (now (locals .entry)) (now («local_slots» .entry)) (now (assertions .exit)))) ⌝ }
 {
-    let k = ask::asked(people, people_marks, vars, var_marks, l, text, target, q, p);
-    if ask::set_denied(standing, l, k) {
+    let k = delegation_rules::asked(
+        principals,
+        principal_slots,
+        vars,
+        variable_slots,
+        l,
+        text,
+        target,
+        q,
+        p,
+    );
+    if delegation_rules::set_denied(assertions, l, k) {
         return Verdict::Denied;
     }
-    if ask::missing(l, k) {
+    if delegation_rules::missing(l, k) {
         return Verdict::Failed;
     }
-    let count = ask::choose(standing, l, k, targets);
-    let code = ask::right_code(right);
+    let count = delegation_rules::choose(assertions, l, k, targets);
+    let code = delegation_rules::right_code(right);
     let done = enter_all(
-        people,
-        people_marks,
+        principals,
+        principal_slots,
         vars,
-        var_marks,
+        variable_slots,
         locals,
-        local_marks,
-        standing,
+        local_slots,
+        assertions,
         l,
         targets,
         count,
@@ -192,13 +184,13 @@ pub fn set_delegation(
 
 // Delete delegation: withdraws the right, from q to p, on what the target is about.
 pub fn delete_delegation(
-    people: &[u8],
-    people_marks: &[u32],
+    principals: &[u8],
+    principal_slots: &[u32],
     vars: &[u8],
-    var_marks: &[u32],
+    variable_slots: &[u32],
     locals: &[u8],
-    local_marks: &[u32],
-    standing: &mut [u64],
+    local_slots: &[u32],
+    assertions: &mut [u64],
     targets: &mut [u32],
     l: Layout,
     text: &[u8],
@@ -207,29 +199,39 @@ pub fn delete_delegation(
     right: Right,
     p: Span,
 ) -> Verdict
-    requires { ⌜ SomeRunning l (slices (now people) (now «people_marks») (now vars) (now «var_marks») (now locals) (now «local_marks») (now standing)) ⌝ }
+    requires { ⌜ SomeRunning l (slices (now principals) (now «principal_slots») (now vars) (now «variable_slots») (now locals) (now «local_slots») (now assertions)) ⌝ }
     requires { ⌜ TargetWithin (now text) target × Within (now text) q × Within (now text) p × (4096 ≤ length (now targets)) ⌝ }
-    ensures { λ r. ⌜ ((s : Session) → Running s l (slices (now (people .entry)) (now («people_marks» .entry)) (now (vars .entry)) (now («var_marks» .entry)) (now (locals .entry)) (now («local_marks» .entry)) (now (standing .entry)))
+    ensures { λ r. ⌜ ((s : Session) → Running s l (slices (now (principals .entry)) (now («principal_slots» .entry)) (now (vars .entry)) (now («variable_slots» .entry)) (now (locals .entry)) (now («local_slots» .entry)) (now (assertions .entry)))
         → Ended r (step s (delete-delegation (targetMeant (now (text .entry)) target) (part (now (text .entry)) q) (rightMeant right) (part (now (text .entry)) p)))
-        (slices (now (people .entry)) (now («people_marks» .entry)) (now (vars .entry)) (now («var_marks» .entry)) (now (locals .entry)) (now («local_marks» .entry)) (now (standing .exit)))) ⌝ }
+        (slices (now (principals .entry)) (now («principal_slots» .entry)) (now (vars .entry)) (now («variable_slots» .entry)) (now (locals .entry)) (now («local_slots» .entry)) (now (assertions .exit)))) ⌝ }
 {
-    let k = ask::asked(people, people_marks, vars, var_marks, l, text, target, q, p);
-    if ask::delete_denied(standing, l, k) {
+    let k = delegation_rules::asked(
+        principals,
+        principal_slots,
+        vars,
+        variable_slots,
+        l,
+        text,
+        target,
+        q,
+        p,
+    );
+    if delegation_rules::delete_denied(assertions, l, k) {
         return Verdict::Denied;
     }
-    if ask::missing(l, k) {
+    if delegation_rules::missing(l, k) {
         return Verdict::Failed;
     }
-    let count = ask::choose(standing, l, k, targets);
-    let code = ask::right_code(right);
+    let count = delegation_rules::choose(assertions, l, k, targets);
+    let code = delegation_rules::right_code(right);
     let after = withdraw_all(
-        people,
-        people_marks,
+        principals,
+        principal_slots,
         vars,
-        var_marks,
+        variable_slots,
         locals,
-        local_marks,
-        standing,
+        local_slots,
+        assertions,
         l,
         targets,
         count,

@@ -43,7 +43,7 @@ fn serve(
     reading: Reading,
 ) -> bool {
     let len = reading::kept(reading, program);
-    let answer = server::run(state, work, output, &program[0..len]);
+    let answer = run::program(state, work, output, &program[0..len]);
     match answer {
         Answer::Wrong(_) => false,
         Answer::Ended(f) => {
@@ -160,6 +160,6 @@ fn main() {
     let mut output = io::large_buffer();
     let mut program = [0u8; 16385];
     let mut chunk = io::large_buffer();
-    server::make(&mut state, b"desk");
+    make::server(&mut state, b"desk");
     session(&mut state, &mut work, &mut output, &mut program, &mut chunk);
 }

@@ -17,11 +17,11 @@ use Rattle.language.specs.Identifiers.{isName}
 use Rattle.language.specs.Encode.{tab, newline, principalsText}
 use Rattle.language.specs.Commands.{changed}
 use Rattle.language.proofs.Logic.Tests.{both, left-of, right-of, ==→≡, ==-sym}
-use Rattle.store.specs.Held.{Principals, mark, marksFrom}
+use Rattle.store.specs.Held.{Principals, slot, slotsFrom}
 use Rattle.store.specs.Rows.{Row, Rows, rowText, bodyText, rowAt, noRow, startOf, position, principalRow, Placed}
 use Rattle.store.specs.Contents.{principalAt}
 use Rattle.edits.specs.Changes.{principalNames, withPassword, Respelled, Outside}
-use Rattle.store.specs.declared.mark.Place.{Place}
+use Rattle.store.specs.declared.index.Place.{Place}
 use Rattle.store.proofs.Records.{start-next, name-valid}
 use Rattle.store.proofs.Holders.{principals-rows, rows-principals, joined-principals}
 use Rattle.store.proofs.Answers.{map-at}
@@ -68,7 +68,7 @@ with-kept ks k w h =
 
 -- ---- the row of a principal
 
-module _ (ks : List Principal) (t : Text) (count : ℕ) (marks : List ℕ) (K : Principals ks t count marks) (k : ℕ) (h : k < count) where
+module _ (ks : List Principal) (t : Text) (count : ℕ) (slots : List ℕ) (K : Principals ks t count slots) (k : ℕ) (h : k < count) where
   pub below-principals : k < length ks
   below-principals = omega (arith, K .counted)
 
@@ -81,9 +81,9 @@ module _ (ks : List Principal) (t : Text) (count : ℕ) (marks : List ℕ) (K : 
   pub with-rows : (w : Text) → map principalRow (withPassword ks k w) ≡ set (map principalRow ks) k (principalRow (record { name = principalAt ks k .name; password = some w }))
   with-rows w = map-set principalRow ks k (record { name = principalAt ks k .name; password = some w })
 
-  pub with-held : (w t′ : Text) (marks′ : List ℕ) → Rows (set (map principalRow ks) k (principalRow (record { name = principalAt ks k .name; password = some w }))) t′ count marks′
-      → Principals (withPassword ks k w) t′ count marks′
-  with-held w t′ marks′ H = rows-principals (withPassword ks k w) t′ count marks′ (subst (λ (l : List Row). Rows l t′ count marks′) (sym (with-rows w)) H)
+  pub with-held : (w t′ : Text) (slots′ : List ℕ) → Rows (set (map principalRow ks) k (principalRow (record { name = principalAt ks k .name; password = some w }))) t′ count slots′
+      → Principals (withPassword ks k w) t′ count slots′
+  with-held w t′ slots′ H = rows-principals (withPassword ks k w) t′ count slots′ (subst (λ (l : List Row). Rows l t′ count slots′) (sym (with-rows w)) H)
 
   pub kept-respelled : (p : Place) → Placed (map principalRow ks) k p → (old src : Text) → principalAt ks k .password ≡ some old
       → Respelled (map principalRow ks) k (p .mid + 1) (p .end - 1) src (principalRow (record { name = principalAt ks k .name; password = some src }))
@@ -97,7 +97,7 @@ module _ (ks : List Principal) (t : Text) (count : ℕ) (marks : List ℕ) (K : 
       let yn : length (rowAt (map principalRow ks) k .name) ≡ length y = ap (λ (r : Row). length (r .name)) r in
       let f : p .mid + 1 ≡ startOf (map principalRow ks) k + length front = omega (arith, P .name-ends, yn, length-append y (tab ∷ [])) in
       let g : startOf (map principalRow ks) (suc k) ≡ startOf (map principalRow ks) k + length front + (length old + 1) =
-      start-next (map principalRow ks) t count marks (principals-rows ks t count marks K) k h
+      start-next (map principalRow ks) t count slots (principals-rows ks t count slots K) k h
       ∙ omega (arith, ap length was, length-append front (old ++ (newline ∷ [])), length-append old (newline ∷ [])) in
       record {
         before = front;
@@ -157,21 +157,21 @@ module _ (ks : List Principal) (t : Text) (count : ℕ) (marks : List ℕ) (K : 
   pub kept-size : (p : Place) → Placed (map principalRow ks) k p → (old src : Text) → principalAt ks k .password ≡ some old
       → p .mid + 1 + length src + (length t - (p .end - 1)) ≡ length (principalsText (withPassword ks k src))
   kept-size p P old src e =
-      respelled-size (map principalRow ks) t count marks (principals-rows ks t count marks K) k (p .mid + 1) (p .end - 1) src
+      respelled-size (map principalRow ks) t count slots (principals-rows ks t count slots K) k (p .mid + 1) (p .end - 1) src
       (principalRow (record { name = principalAt ks k .name; password = some src })) h (kept-respelled p P old src e)
       ∙ ap (λ (l : List Row). length (joined rowText l)) (sym (with-rows src)) ∙ ap length (sym (joined-principals (withPassword ks k src)))
 
 -- ---- another letter
 
-marks-same : {A : Type 0} (name : A → Name) (f : A → Text) (l : List A) (k at : ℕ) (a d : A) → k < length l → name a ≡ name (getD l k d) → length (f a) ≡ length (f (getD l k d))
-    → marksFrom name f at (set l k a) ≡ marksFrom name f at l
-marks-same name f [] k at a d h n e = refl
-marks-same name f (b ∷ l) zero at a d h n e = λ i. mark (n i) at ∷ marksFrom name f (at + e i) l
-marks-same name f (b ∷ l) (suc k) at a d h n e = ap (λ (x : List ℕ). mark (name b) at ∷ x) (marks-same name f l k (at + length (f b)) a d (le-of-suc-le-suc h) n e)
+slots-same : {A : Type 0} (name : A → Name) (f : A → Text) (l : List A) (k at : ℕ) (a d : A) → k < length l → name a ≡ name (getD l k d) → length (f a) ≡ length (f (getD l k d))
+    → slotsFrom name f at (set l k a) ≡ slotsFrom name f at l
+slots-same name f [] k at a d h n e = refl
+slots-same name f (b ∷ l) zero at a d h n e = λ i. slot (n i) at ∷ slotsFrom name f (at + e i) l
+slots-same name f (b ∷ l) (suc k) at a d h n e = ap (λ (x : List ℕ). slot (name b) at ∷ x) (slots-same name f l k (at + length (f b)) a d (le-of-suc-le-suc h) n e)
 
-pub relabelled : (rows : List Row) (t : Text) (count : ℕ) (marks : List ℕ) → Rows rows t count marks → (k b : ℕ) → k < count
-    → Rows (set rows k (record { letter = b; name = rowAt rows k .name; body = rowAt rows k .body })) (set t (startOf rows k) b) count marks
-relabelled rows t count marks H k b h =
+pub relabelled : (rows : List Row) (t : Text) (count : ℕ) (slots : List ℕ) → Rows rows t count slots → (k b : ℕ) → k < count
+    → Rows (set rows k (record { letter = b; name = rowAt rows k .name; body = rowAt rows k .body })) (set t (startOf rows k) b) count slots
+relabelled rows t count slots H k b h =
     let row : Row = record { letter = b; name = rowAt rows k .name; body = rowAt rows k .body } in
     let l : k < length rows = omega (arith, H .counted) in
     let a : Text = joined rowText (take k rows) in
@@ -182,47 +182,47 @@ relabelled rows t count marks H k b h =
           ap (λ (x : Text). set x (startOf rows k) b) whole
           ∙ set-at a (rowAt rows k .letter) (tab ∷ (rowAt rows k .name ++ bodyText (rowAt rows k .body)) ++ z) b (startOf rows k) refl ∙ sym (text-set rows k row l);
       counted = H .counted ∙ sym (length-set rows k row);
-      marked = H .marked ∙ sym (marks-same (λ r. r .name) rowText rows k 0 row noRow l refl refl);
-      named = all-set (λ (r : Row). isName (r .name)) rows k row (H .named) (name-valid rows t count marks H k h);
+      indexed = H .indexed ∙ sym (slots-same (λ r. r .name) rowText rows k 0 row noRow l refl refl);
+      named = all-set (λ (r : Row). isName (r .name)) rows k row (H .named) (name-valid rows t count slots H k h);
       small = omega (arith, length-set t (startOf rows k) b, H .small);
     }
 
 -- the tab and the letter: a principal with an empty password
-pub opened : (ks : List Principal) (t : Text) (count : ℕ) (marks : List ℕ) (K : Principals ks t count marks) (k : ℕ) (h : k < count) (B : Text) (r start : ℕ) (marks′ : List ℕ)
-    → Rows (set (map principalRow ks) k (record { letter = 78; name = principalAt ks k .name; body = some (newline ∷ []) })) (take r B) count marks′
-    → start ≡ startOf (map principalRow ks) k → start < r → Principals (withPassword ks k []) (take r (set B start 80)) count marks′
-opened ks t count marks K k h B r start marks′ H s l =
+pub opened : (ks : List Principal) (t : Text) (count : ℕ) (slots : List ℕ) (K : Principals ks t count slots) (k : ℕ) (h : k < count) (B : Text) (r start : ℕ) (slots′ : List ℕ)
+    → Rows (set (map principalRow ks) k (record { letter = 78; name = principalAt ks k .name; body = some (newline ∷ []) })) (take r B) count slots′
+    → start ≡ startOf (map principalRow ks) k → start < r → Principals (withPassword ks k []) (take r (set B start 80)) count slots′
+opened ks t count slots K k h B r start slots′ H s l =
     let rows : List Row = map principalRow ks in
     let one : Row = record { letter = 78; name = principalAt ks k .name; body = some (newline ∷ []) } in
-    let b : k < length rows = omega (arith, below-principals ks t count marks K k h, length-map ks principalRow) in
+    let b : k < length rows = omega (arith, below-principals ks t count slots K k h, length-map ks principalRow) in
     let at : rowAt (set rows k one) k ≡ one = getD-set-same rows k one noRow b in
     let st : startOf (set rows k one) k ≡ start = ap (λ (x : List Row). length (joined rowText x)) (take-set-le k rows k one (omega arith)) ∙ sym s in
-    let R = relabelled (set rows k one) (take r B) count marks′ H k 80 h in
+    let R = relabelled (set rows k one) (take r B) count slots′ H k 80 h in
     let text : set (take r B) (startOf (set rows k one) k) 80 ≡ take r (set B start 80) = ap (λ (n : ℕ). set (take r B) n 80) st ∙ sym (take-set-lt r B start 80 l) in
     let rws : set (set rows k one) k (record { letter = 80; name = rowAt (set rows k one) k .name; body = rowAt (set rows k one) k .body })
     ≡ set rows k (principalRow (record { name = principalAt ks k .name; password = some [] })) =
     ap (λ (x : Row). set (set rows k one) k (record { letter = 80; name = x .name; body = x .body })) at
     ∙ set-set rows k one (principalRow (record { name = principalAt ks k .name; password = some [] })) in
-    with-held ks t count marks K k h [] (take r (set B start 80)) marks′
-    (subst (λ (x : Text). Rows (set rows k (principalRow (record { name = principalAt ks k .name; password = some [] }))) x count marks′) text
-    (subst (λ (x : List Row). Rows x (set (take r B) (startOf (set rows k one) k) 80) count marks′) rws R))
+    with-held ks t count slots K k h [] (take r (set B start 80)) slots′
+    (subst (λ (x : Text). Rows (set rows k (principalRow (record { name = principalAt ks k .name; password = some [] }))) x count slots′) text
+    (subst (λ (x : List Row). Rows x (set (take r B) (startOf (set rows k one) k) 80) count slots′) rws R))
 
 -- ---- what two changes leave alone
 
-pub store-outside : (d e : Text) (r : ℕ) (marks marks′ : List ℕ) (count i b : ℕ) → i < r → Outside d e r marks marks′ count → Outside d (set e i b) r marks marks′ count
-store-outside d e r marks marks′ count i b h O = record { within = O .within; bytes-kept = drop-set-lt r e i b h ∙ O .bytes-kept; marks-kept = O .marks-kept }
+pub store-outside : (d e : Text) (r : ℕ) (slots slots′ : List ℕ) (count i b : ℕ) → i < r → Outside d e r slots slots′ count → Outside d (set e i b) r slots slots′ count
+store-outside d e r slots slots′ count i b h O = record { within = O .within; bytes-kept = drop-set-lt r e i b h ∙ O .bytes-kept; slots-kept = O .slots-kept }
 
-pub outside-on : (d e f : Text) (n r : ℕ) (marks marks′ marks″ : List ℕ) (count : ℕ) → n ≤ r → length e ≡ length d → Outside d e n marks marks′ count → Outside e f r marks′ marks″ count
-    → Outside d f r marks marks″ count
-outside-on d e f n r marks marks′ marks″ count h l O P =
+pub outside-on : (d e f : Text) (n r : ℕ) (slots slots′ slots″ : List ℕ) (count : ℕ) → n ≤ r → length e ≡ length d → Outside d e n slots slots′ count → Outside e f r slots′ slots″ count
+    → Outside d f r slots slots″ count
+outside-on d e f n r slots slots′ slots″ count h l O P =
     let q : r ≡ n + (r - n) = omega arith in
     record {
       within = omega (arith, P .within);
       bytes-kept =
           P .bytes-kept ∙ ap (λ (j : ℕ). drop j e) q ∙ sym (drop-drop (r - n) n e) ∙ ap (drop (r - n)) (O .bytes-kept) ∙ drop-drop (r - n) n d ∙ ap (λ (j : ℕ). drop j d) (sym q);
-      marks-kept = P .marks-kept ∙ O .marks-kept;
+      slots-kept = P .slots-kept ∙ O .slots-kept;
     }
 
 -- the length of a text that holds principals
-pub held-size : (ks : List Principal) (d : Text) (r count : ℕ) (marks : List ℕ) → r ≤ length d → Principals ks (take r d) count marks → r ≡ length (principalsText ks)
-held-size ks d r count marks h K = sym (length-take-le r d h) ∙ ap length (K .is-text)
+pub held-size : (ks : List Principal) (d : Text) (r count : ℕ) (slots : List ℕ) → r ≤ length d → Principals ks (take r d) count slots → r ≡ length (principalsText ks)
+held-size ks d r count slots h K = sym (length-take-le r d h) ∙ ap length (K .is-text)

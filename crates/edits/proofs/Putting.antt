@@ -16,11 +16,12 @@ use Rattle.store.specs.Held.{Variables}
 use Rattle.store.specs.Rows.{Row, Rows, rowText, rowAt, noRow, startOf, position, variableRow, Placed}
 use Rattle.store.specs.Contents.{variableAt}
 use Rattle.edits.specs.Changes.{variableNames, Respelled}
-use Rattle.store.specs.declared.mark.Place.{Place}
+use Rattle.store.specs.declared.index.Place.{Place}
 use Rattle.store.proofs.Records.{joined-append, start-next}
 use Rattle.store.proofs.Holders.{variables-rows, rows-variables, joined-variables}
 use Rattle.store.proofs.Answers.{map-at, value-at}
 use Rattle.edits.proofs.Rewriting.{respelled-size}
+use Rattle.language.proofs.Logic.Lists.{some-same}
 
 pub map-set : {A B : Type 0} (f : A → B) (l : List A) (k : ℕ) (a : A) → map f (set l k a) ≡ set (map f l) k (f a)
 map-set f [] k a = refl
@@ -55,7 +56,7 @@ put-new (w ∷ vs) x v e = go (w .name == x) e (put-new vs x v)
 
 -- ---- the row of a variable
 
-module _ (vs : List Variable) (t : Text) (count : ℕ) (marks : List ℕ) (W : Variables vs t count marks) (x : Name) (k : ℕ) (h : k < count) (n : k ≡ position (variableNames vs) x) where
+module _ (vs : List Variable) (t : Text) (count : ℕ) (slots : List ℕ) (W : Variables vs t count slots) (x : Name) (k : ℕ) (h : k < count) (n : k ≡ position (variableNames vs) x) where
   var-below : k < length vs
   var-below = omega (arith, W .counted)
 
@@ -90,7 +91,7 @@ module _ (vs : List Variable) (t : Text) (count : ℕ) (marks : List ℕ) (W : V
         becomes = split (valueText v) ∙ ap (λ (l : Text). front ++ (l ++ [])) (sym e);
         from-is = f;
         to-is =
-            omega (arith, P .ends, f, start-next (map variableRow vs) t count marks (variables-rows vs t count marks W) k h, ap length was, length-append front (o ++ []), length-append o []);
+            omega (arith, P .ends, f, start-next (map variableRow vs) t count slots (variables-rows vs t count slots W) k h, ap length was, length-append front (o ++ []), length-append o []);
         same-name = sym (ap (λ (r : Row). r .name) var-row);
       }
 
@@ -112,30 +113,27 @@ module _ (vs : List Variable) (t : Text) (count : ℕ) (marks : List ℕ) (W : V
         becomes =
             ap (λ (l : Text). 86 ∷ tab ∷ (y ++ (tab ∷ l))) (grown ∙ (λ i. valueText (sym is i) ++ sym e i))
             ∙ sym (append-nil-in whole src y (valueText (variableAt vs k .value)) refl);
-        from-is = omega (arith, P .ends, start-next (map variableRow vs) t count marks (variables-rows vs t count marks W) k h, ap (λ (r : Row). length (rowText r)) var-row);
+        from-is = omega (arith, P .ends, start-next (map variableRow vs) t count slots (variables-rows vs t count slots W) k h, ap (λ (r : Row). length (rowText r)) var-row);
         to-is = omega arith;
         same-name = sym (ap (λ (r : Row). r .name) var-row);
       }
     where
-      some-same : {a b : Value} → some a ≡ some b → a ≡ b
-      some-same e = cc
-
       append-nil-in : (whole src : Text) (y : Name) (o : Text) → whole ≡ 86 ∷ tab ∷ (y ++ (tab ∷ o)) → whole ++ (src ++ []) ≡ 86 ∷ tab ∷ (y ++ (tab ∷ (o ++ src)))
       append-nil-in whole src y o w =
           (λ i. w i ++ append-nil src i) ∙ ap (λ (l : Text). 86 ∷ tab ∷ l) (append-assoc y (tab ∷ o) src)
 
 -- ---- room
 
-pub put-size : (vs : List Variable) (t : Text) (count : ℕ) (marks : List ℕ) (W : Variables vs t count marks) (x : Name) (k : ℕ) (h : k < count)
-    (n : k ≡ position (variableNames vs) x) (from to : ℕ) (src : Text) (v : Value) → Respelled (map variableRow vs) k from to src (variableRow (with-value vs t count marks W x k h n v))
+pub put-size : (vs : List Variable) (t : Text) (count : ℕ) (slots : List ℕ) (W : Variables vs t count slots) (x : Name) (k : ℕ) (h : k < count)
+    (n : k ≡ position (variableNames vs) x) (from to : ℕ) (src : Text) (v : Value) → Respelled (map variableRow vs) k from to src (variableRow (with-value vs t count slots W x k h n v))
     → from + length src + (length t - to) ≡ length (variablesText (put x v vs))
-put-size vs t count marks W x k h n from to src v R =
-    respelled-size (map variableRow vs) t count marks (variables-rows vs t count marks W) k from to src (variableRow (with-value vs t count marks W x k h n v)) h R
-    ∙ ap (λ (l : List Row). length (joined rowText l)) (sym (put-row vs t count marks W x k h n v)) ∙ ap length (sym (joined-variables (put x v vs)))
+put-size vs t count slots W x k h n from to src v R =
+    respelled-size (map variableRow vs) t count slots (variables-rows vs t count slots W) k from to src (variableRow (with-value vs t count slots W x k h n v)) h R
+    ∙ ap (λ (l : List Row). length (joined rowText l)) (sym (put-row vs t count slots W x k h n v)) ∙ ap length (sym (joined-variables (put x v vs)))
 
 -- the variables, from the rewritten rows
-pub put-held : (vs : List Variable) (t : Text) (count : ℕ) (marks : List ℕ) (W : Variables vs t count marks) (x : Name) (k : ℕ) (h : k < count)
-    (n : k ≡ position (variableNames vs) x) (v : Value) (t′ : Text) (marks′ : List ℕ)
-    → Rows (set (map variableRow vs) k (variableRow (with-value vs t count marks W x k h n v))) t′ count marks′ → Variables (put x v vs) t′ count marks′
-put-held vs t count marks W x k h n v t′ marks′ H =
-    rows-variables (put x v vs) t′ count marks′ (subst (λ (l : List Row). Rows l t′ count marks′) (sym (put-row vs t count marks W x k h n v)) H)
+pub put-held : (vs : List Variable) (t : Text) (count : ℕ) (slots : List ℕ) (W : Variables vs t count slots) (x : Name) (k : ℕ) (h : k < count)
+    (n : k ≡ position (variableNames vs) x) (v : Value) (t′ : Text) (slots′ : List ℕ)
+    → Rows (set (map variableRow vs) k (variableRow (with-value vs t count slots W x k h n v))) t′ count slots′ → Variables (put x v vs) t′ count slots′
+put-held vs t count slots W x k h n v t′ slots′ H =
+    rows-variables (put x v vs) t′ count slots′ (subst (λ (l : List Row). Rows l t′ count slots′) (sym (put-row vs t count slots W x k h n v)) H)

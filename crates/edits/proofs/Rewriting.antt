@@ -1,4 +1,4 @@
--- A row rewritten in its text: the text is that of the changed rows, and the marks moved with it are theirs.
+-- A row rewritten in its text: the text is that of the changed rows, and the slots moved with it are theirs.
 -- Assumes nothing.
 use mathlib.Core.Path.{_≡_, refl, sym, ap, subst, _∙_}
 use mathlib.Core.Bool.{Bool}
@@ -14,12 +14,13 @@ use Rattle.language.specs.Text.{Text, joined, all}
 use Rattle.language.specs.Syntax.{Name}
 use Rattle.language.specs.Identifiers.{isName}
 use Rattle.language.proofs.Logic.Tests.{both, and}
-use Rattle.store.specs.Held.{part, mark, marksFrom}
+use Rattle.store.specs.Held.{slot, slotsFrom}
+use Rattle.text.specs.Parts.{part}
 use Rattle.store.specs.Rows.{Row, Rows, rowText, noRow, rowAt, startOf}
 use Rattle.edits.specs.Splices.{spliced, shifted}
 use Rattle.edits.specs.Changes.{Respelled, SomeSpot, Outside}
-use Rattle.store.proofs.Prints.{print-small}
-use Rattle.store.proofs.Records.{joined-append, mark-there, start-in, start-next, name-valid}
+use Rattle.store.proofs.Hashes.{hash-small}
+use Rattle.store.proofs.Records.{joined-append, slot-there, start-in, start-next, name-valid}
 use Rattle.edits.proofs.Splicing.{part-take, length-part}
 
 -- ---- the text
@@ -57,7 +58,7 @@ module _ (d src : Text) (len from to : ℕ) (h : from ≤ to) (k : to ≤ len) (
       ap (drop r) grouped ∙ drop-at (take from d ++ (src ++ part d to len)) (drop r d) r size
 
 -- the new text, put together, is that of the changed rows
-module _ (rows : List Row) (t : Text) (count : ℕ) (marks : List ℕ) (H : Rows rows t count marks) (k from to : ℕ) (src : Text) (row : Row) (h : k < count)
+module _ (rows : List Row) (t : Text) (count : ℕ) (slots : List ℕ) (H : Rows rows t count slots) (k from to : ℕ) (src : Text) (row : Row) (h : k < count)
     (R : Respelled rows k from to src row) where
   there : k < length rows
   there = omega (arith, H .counted)
@@ -86,10 +87,10 @@ module _ (rows : List Row) (t : Text) (count : ℕ) (marks : List ℕ) (H : Rows
   respelled-high =
       let n : length (rowText (rowAt rows k)) ≡ length (R .before) + (length (R .old) + length (R .after)) =
       ap length (R .was) ∙ omega (arith, length-append (R .before) (R .old ++ R .after), length-append (R .old) (R .after)) in
-      omega (arith, R .from-is, R .to-is, n, start-next rows t count marks H k h)
+      omega (arith, R .from-is, R .to-is, n, start-next rows t count slots H k h)
 
   -- the rewritten part lies in the row
-  pub respelled-spot : SomeSpot t count marks k from to
+  pub respelled-spot : SomeSpot t count slots k from to
   respelled-spot = record {
     rows = rows;
     held = H;
@@ -103,30 +104,30 @@ module _ (rows : List Row) (t : Text) (count : ℕ) (marks : List ℕ) (H : Rows
   pub respelled-size : from + length src + (length t - to) ≡ length (joined rowText (set rows k row))
   respelled-size =
       let e = ap length respelled-text in
-      omega (arith, e, length-append (take from t) (src ++ drop to t), length-append src (drop to t), length-take from t, length-drop to t, R .to-is, respelled-high, start-in rows t count marks H (suc k))
+      omega (arith, e, length-append (take from t) (src ++ drop to t), length-append src (drop to t), length-take from t, length-drop to t, R .to-is, respelled-high, start-in rows t count slots H (suc k))
 
-pub spot-in : (d : Text) (len count : ℕ) (marks : List ℕ) (k from to : ℕ) → len ≤ length d → SomeSpot (take len d) count marks k from to → to ≤ len
-spot-in d len count marks k from to l S =
-    omega (arith, S .high, start-in (S .rows) (take len d) count marks (S .held) (suc k), length-take-le len d l)
+pub spot-in : (d : Text) (len count : ℕ) (slots : List ℕ) (k from to : ℕ) → len ≤ length d → SomeSpot (take len d) count slots k from to → to ≤ len
+spot-in d len count slots k from to l S =
+    omega (arith, S .high, start-in (S .rows) (take len d) count slots (S .held) (suc k), length-take-le len d l)
 
--- ---- the marks
+-- ---- the slots
 
 module _ {A : Type 0} (name : A → Name) (f : A → Text) (old new : ℕ) where
-  marks-shift : (l : List A) (at at′ : ℕ) → at + new ≡ at′ + old → marksFrom name f at′ l ≡ map (λ x. x + new - old) (marksFrom name f at l)
-  marks-shift [] at at′ e = refl
-  marks-shift (a ∷ l) at at′ e =
-      (λ i. head i ∷ marks-shift l (at + length (f a)) (at′ + length (f a)) (let q : at + length (f a) + new ≡ at′ + length (f a) + old = omega arith in q) i)
+  slots-shift : (l : List A) (at at′ : ℕ) → at + new ≡ at′ + old → slotsFrom name f at′ l ≡ map (λ x. x + new - old) (slotsFrom name f at l)
+  slots-shift [] at at′ e = refl
+  slots-shift (a ∷ l) at at′ e =
+      (λ i. head i ∷ slots-shift l (at + length (f a)) (at′ + length (f a)) (let q : at + length (f a) + new ≡ at′ + length (f a) + old = omega arith in q) i)
     where
-      head : mark (name a) at′ ≡ mark (name a) at + new - old
+      head : slot (name a) at′ ≡ slot (name a) at + new - old
       head = omega arith
 
-  pub marks-set : (l : List A) (k at : ℕ) (a d : A) → k < length l → name a ≡ name (getD l k d) → length (f (getD l k d)) + new ≡ length (f a) + old
-      → marksFrom name f at (set l k a) ≡ take (suc k) (marksFrom name f at l) ++ map (λ x. x + new - old) (drop (suc k) (marksFrom name f at l))
-  marks-set [] k at a d h n e = absurd (not-suc-le-zero h)
-  marks-set (b ∷ l) zero at a d h n e =
-      λ i. mark (n i) at ∷ marks-shift l (at + length (f b)) (at + length (f a)) (let q : at + length (f b) + new ≡ at + length (f a) + old = omega arith in q) i
-  marks-set (b ∷ l) (suc k) at a d h n e =
-      ap (λ (x : List ℕ). mark (name b) at ∷ x) (marks-set l k (at + length (f b)) a d (le-of-suc-le-suc h) n e)
+  pub slots-set : (l : List A) (k at : ℕ) (a d : A) → k < length l → name a ≡ name (getD l k d) → length (f (getD l k d)) + new ≡ length (f a) + old
+      → slotsFrom name f at (set l k a) ≡ take (suc k) (slotsFrom name f at l) ++ map (λ x. x + new - old) (drop (suc k) (slotsFrom name f at l))
+  slots-set [] k at a d h n e = absurd (not-suc-le-zero h)
+  slots-set (b ∷ l) zero at a d h n e =
+      λ i. slot (n i) at ∷ slots-shift l (at + length (f b)) (at + length (f a)) (let q : at + length (f b) + new ≡ at + length (f a) + old = omega arith in q) i
+  slots-set (b ∷ l) (suc k) at a d h n e =
+      ap (λ (x : List ℕ). slot (name b) at ∷ x) (slots-set l k (at + length (f b)) a d (le-of-suc-le-suc h) n e)
 
 -- the shifted numbers, up to `count` and from there on
 module _ (m : List ℕ) (k count old new : ℕ) (h : k < count) (l : count ≤ length m) where
@@ -172,22 +173,22 @@ start-up rows i j h =
     ap length (ap (joined rowText) e ∙ joined-append rowText (take i rows) (take (j - i) (drop i rows))) in
     omega (arith, q, length-append (joined rowText (take i rows)) (joined rowText (take (j - i) (drop i rows))))
 
--- the marks of the rows after a place can be moved
-pub movable : (t : Text) (count : ℕ) (marks : List ℕ) (k from to new : ℕ) → SomeSpot t count marks k from to → from + new + (length t - to) ≤ 65536 → (j : ℕ) → k + 1 ≤ j → j < count
-    → (to - from ≤ getD marks j 0) × (getD marks j 0 - (to - from) + new < 4294967296)
-movable t count marks k from to new S b j g l =
+-- the slots of the rows after a place can be moved
+pub movable : (t : Text) (count : ℕ) (slots : List ℕ) (k from to new : ℕ) → SomeSpot t count slots k from to → from + new + (length t - to) ≤ 65536 → (j : ℕ) → k + 1 ≤ j → j < count
+    → (to - from ≤ getD slots j 0) × (getD slots j 0 - (to - from) + new < 4294967296)
+movable t count slots k from to new S b j g l =
     let rows : List Row = S .rows in
-    let e = mark-there rows t count marks (S .held) j l in
+    let e = slot-there rows t count slots (S .held) j l in
     let u : startOf rows (suc k) ≤ startOf rows j = start-up rows (suc k) j (omega arith) in (
       omega (arith, e, u, S .high),
-      omega (arith, e, u, S .high, S .order, print-small (rowAt rows j .name), start-next rows t count marks (S .held) j l, start-in rows t count marks (S .held) (suc j)),
+      omega (arith, e, u, S .high, S .order, hash-small (rowAt rows j .name), start-next rows t count slots (S .held) j l, start-in rows t count slots (S .held) (suc j)),
     )
 
 -- a row rewritten
-module _ (rows : List Row) (row : Row) (d src new-d : Text) (len count k from to r : ℕ) (marks new-marks : List ℕ) (H : Rows rows (take len d) count marks)
-    (h : k < count) (long : count ≤ length marks) (small : length d ≤ 65536) (l : len ≤ length d) (o : from ≤ to) (p : to ≤ len) (R : Respelled rows k from to src row)
+module _ (rows : List Row) (row : Row) (d src new-d : Text) (len count k from to r : ℕ) (slots new-slots : List ℕ) (H : Rows rows (take len d) count slots)
+    (h : k < count) (long : count ≤ length slots) (small : length d ≤ 65536) (l : len ≤ length d) (o : from ≤ to) (p : to ≤ len) (R : Respelled rows k from to src row)
     (r-is : r ≡ from + length src + (len - to)) (fits : r ≤ length d) (left : new-d ≡ spliced d len from to src)
-    (moved : new-marks ≡ shifted marks (k + 1) count (to - from) (length src)) where
+    (moved : new-slots ≡ shifted slots (k + 1) count (to - from) (length src)) where
   sizes : length (rowText (rowAt rows k)) + length src ≡ length (rowText row) + (to - from)
   sizes =
       let a = ap length (R .was) in
@@ -197,26 +198,26 @@ module _ (rows : List Row) (row : Row) (d src new-d : Text) (len count k from to
   new-is : take r new-d ≡ joined rowText (set rows k row)
   new-is =
       (λ i. take (r-is i) (left i)) ∙ splice-text d src len from to o p l (omega (arith, r-is))
-      ∙ respelled-text rows (take len d) count marks H k from to src row h R
+      ∙ respelled-text rows (take len d) count slots H k from to src row h R
 
-  pub rewritten : Rows (set rows k row) (take r new-d) count new-marks
+  pub rewritten : Rows (set rows k row) (take r new-d) count new-slots
   rewritten = record {
     is-text = new-is;
     counted = H .counted ∙ sym (length-set rows k row);
-    marked =
-        ap (take count) moved ∙ shift-front marks k count (to - from) (length src) h long
-        ∙ ap (λ (m : List ℕ). take (suc k) m ++ map (λ x. x + length src - (to - from)) (drop (suc k) m)) (H .marked)
-        ∙ sym (marks-set (λ r. r .name) rowText (to - from) (length src) rows k 0 row noRow (omega (arith, H .counted)) (R .same-name) sizes);
+    indexed =
+        ap (take count) moved ∙ shift-front slots k count (to - from) (length src) h long
+        ∙ ap (λ (m : List ℕ). take (suc k) m ++ map (λ x. x + length src - (to - from)) (drop (suc k) m)) (H .indexed)
+        ∙ sym (slots-set (λ r. r .name) rowText (to - from) (length src) rows k 0 row noRow (omega (arith, H .counted)) (R .same-name) sizes);
     named =
-        all-set (λ (r : Row). isName (r .name)) rows k row (H .named) (subst (λ (x : Name). T (isName x)) (sym (R .same-name)) (name-valid rows (take len d) count marks H k h));
+        all-set (λ (r : Row). isName (r .name)) rows k row (H .named) (subst (λ (x : Name). T (isName x)) (sym (R .same-name)) (name-valid rows (take len d) count slots H k h));
     small = omega (arith, length-take r new-d);
   }
 
-pub outside : (d src new-d : Text) (len count k from to r : ℕ) (marks new-marks : List ℕ) → k < count → count ≤ length marks → len ≤ length d → from ≤ to → to ≤ len
-    → r ≡ from + length src + (len - to) → r ≤ length d → new-d ≡ spliced d len from to src → new-marks ≡ shifted marks (k + 1) count (to - from) (length src)
-    → Outside d new-d r marks new-marks count
-outside d src new-d len count k from to r marks new-marks h long l o p q fits left moved = record {
+pub outside : (d src new-d : Text) (len count k from to r : ℕ) (slots new-slots : List ℕ) → k < count → count ≤ length slots → len ≤ length d → from ≤ to → to ≤ len
+    → r ≡ from + length src + (len - to) → r ≤ length d → new-d ≡ spliced d len from to src → new-slots ≡ shifted slots (k + 1) count (to - from) (length src)
+    → Outside d new-d r slots new-slots count
+outside d src new-d len count k from to r slots new-slots h long l o p q fits left moved = record {
   within = fits;
   bytes-kept = (λ i. drop (q i) (left i)) ∙ splice-rest d src len from to o p l (omega (arith, q)) ∙ ap (λ (n : ℕ). drop n d) (sym q);
-  marks-kept = ap (drop count) moved ∙ shift-rest marks k count (to - from) (length src) h long;
+  slots-kept = ap (drop count) moved ∙ shift-rest slots k count (to - from) (length src) h long;
 }

@@ -7,7 +7,7 @@ use native.Mathlib.Omega.{arith}
 use lib.ListN.{length, take, drop, length-append, take-append-drop}
 use lib.Seq.{take-add, take-take, drop-drop, take-append-le, drop-at, length-take-le}
 use Rattle.language.specs.Text.{Text}
-use Rattle.store.specs.Held.{part}
+use Rattle.text.specs.Parts.{part}
 use Rattle.edits.specs.Splices.{over, spliced, shifted}
 use Rattle.edits.proofs.Splicing.{part-take, length-part, length-over, drop-over, over-on, over-front}
 
@@ -121,12 +121,12 @@ moved-and-written d src len from to h k l m =
     ∙ ap (λ (n : ℕ). take from d ++ ((src ++ tail) ++ drop n d)) e
     ∙ ap (λ (x : Text). take from d ++ x) (append-assoc src tail (drop (from + length src + (len - to)) d))
 
--- ---- marks of records that did not move
+-- ---- slots of records that did not move
 
 up-and-down : (n : ℕ) (m : List ℕ) → map (λ x. x + n - n) m ≡ m
 up-and-down n [] = refl
 up-and-down n (a ∷ m) = λ i. (let q : a + n - n ≡ a = omega arith in q) i ∷ up-and-down n m i
 
-pub shifted-none : (marks : List ℕ) (from to n : ℕ) → from ≤ to → shifted marks from to n n ≡ marks
-shifted-none marks from to n h =
-    ap (λ (m : List ℕ). take from marks ++ (m ++ drop to marks)) (up-and-down n (part marks from to)) ∙ rejoined marks from to h
+pub shifted-none : (slots : List ℕ) (from to n : ℕ) → from ≤ to → shifted slots from to n n ≡ slots
+shifted-none slots from to n h =
+    ap (λ (m : List ℕ). take from slots ++ (m ++ drop to slots)) (up-and-down n (part slots from to)) ∙ rejoined slots from to h

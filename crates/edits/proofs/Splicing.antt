@@ -8,8 +8,9 @@ use native.Mathlib.Omega.{arith}
 use lib.ListN.{length, getD, set, take, drop, length-append, length-drop, length-map, take-append-drop}
 use lib.Seq.{paste, take-add, drop-drop, take-at, drop-at, set-at, drop-cons, take-suc, getD-at, getD-drop, length-take-le, take-length, set-split}
 use Rattle.language.specs.Text.{Text}
-use Rattle.store.specs.Held.{part}
+use Rattle.text.specs.Parts.{part}
 use Rattle.edits.specs.Splices.{over}
+use Rattle.language.proofs.Logic.Lists.{map-append}
 
 pub paste-over : (d src : Text) (at : ℕ) → paste d at src (length src) ≡ over d at src
 paste-over d src at =
@@ -72,18 +73,10 @@ module _ (f : ℕ → ℕ) (m : List ℕ) (from i : ℕ) where
   regroup : doing ≡ (take from m ++ map f (part m from i)) ++ drop i m
   regroup = sym (append-assoc (take from m) (map f (part m from i)) (drop i m))
 
-  pub doing-length : from ≤ i → i ≤ length m → length doing ≡ length m
-  doing-length h k =
-      ap length regroup ∙ omega (arith, length-append (take from m ++ map f (part m from i)) (drop i m), done-length h k, length-drop i m)
-
   pub doing-at : from ≤ i → i < length m → getD doing i 0 ≡ getD m i 0
   doing-at h k =
       ap (λ (l : List ℕ). getD l i 0) (regroup ∙ ap (λ (r : List ℕ). (take from m ++ map f (part m from i)) ++ r) (drop-cons m i 0 k))
       ∙ getD-at (take from m ++ map f (part m from i)) (getD m i 0) (drop (suc i) m) 0 i (done-length h (omega arith))
-
-pub map-append : {A B : Type 0} (f : A → B) (l r : List A) → map f (l ++ r) ≡ map f l ++ map f r
-map-append f [] r = refl
-map-append f (a ∷ l) r = ap (λ x. f a ∷ x) (map-append f l r)
 
 pub doing-start : (f : ℕ → ℕ) (m : List ℕ) (from : ℕ) → m ≡ doing f m from from
 doing-start f m from =

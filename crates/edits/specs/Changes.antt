@@ -20,18 +20,18 @@ principalNames ks = map (λ k. k .name) ks
 abbrev pub variableNames : List Variable → List Name
 variableNames vs = map (λ v. v .name) vs
 
--- of the buffer nothing from place r on is changed, and of the marks nothing from `count` on
-pub record Outside (old new : Text) (r : ℕ) (marks marks′ : List ℕ) (count : ℕ) : Type 0 where
+-- of the buffer nothing from place r on is changed, and of the slots nothing from `count` on
+pub record Outside (old new : Text) (r : ℕ) (slots slots′ : List ℕ) (count : ℕ) : Type 0 where
   pub within : r ≤ length old
   pub bytes-kept : drop r new ≡ drop r old
-  pub marks-kept : drop count marks′ ≡ drop count marks
+  pub slots-kept : drop count slots′ ≡ drop count slots
 
 -- ---- within one row
 
 -- the places `from` up to `to` lie in the row of number k
-pub record SomeSpot (t : Text) (count : ℕ) (marks : List ℕ) (k from to : ℕ) : Type 0 where
+pub record SomeSpot (t : Text) (count : ℕ) (slots : List ℕ) (k from to : ℕ) : Type 0 where
   pub rows : List Row
-  pub held : Rows rows t count marks
+  pub held : Rows rows t count slots
   pub below : k < count
   pub low : startOf rows k ≤ from
   pub order : from ≤ to
@@ -51,23 +51,23 @@ pub record Respelled (rows : List Row) (k from to : ℕ) (src : Text) (row : Row
 -- ---- what the changes ask
 
 -- variable x has number k, src is the text of a value, and there is room for it
-pub record SomeValue (t : Text) (count : ℕ) (marks : List ℕ) (k : ℕ) (src : Text) (room : ℕ) : Type 0 where
+pub record SomeValue (t : Text) (count : ℕ) (slots : List ℕ) (k : ℕ) (src : Text) (room : ℕ) : Type 0 where
   pub variables : List Variable
   pub name : Name
   pub value : Value
-  pub held : Variables variables t count marks
+  pub held : Variables variables t count slots
   pub below : k < count
   pub number : k ≡ position (variableNames variables) name
   pub is-text : src ≡ valueText value
   pub fits : length (variablesText (put name value variables)) ≤ room
 
 -- variable x has number k and is a list, src is the text of more elements, and there is room for them
-pub record SomeElements (t : Text) (count : ℕ) (marks : List ℕ) (k : ℕ) (src : Text) (room : ℕ) : Type 0 where
+pub record SomeElements (t : Text) (count : ℕ) (slots : List ℕ) (k : ℕ) (src : Text) (room : ℕ) : Type 0 where
   pub variables : List Variable
   pub name : Name
   pub elements : List Element
   pub more : List Element
-  pub held : Variables variables t count marks
+  pub held : Variables variables t count slots
   pub below : k < count
   pub number : k ≡ position (variableNames variables) name
   pub is-list : valueIn variables name ≡ some (list elements)
@@ -79,26 +79,26 @@ abbrev pub withPassword : List Principal → ℕ → Text → List Principal
 withPassword ks k w = set ks k (record { name = principalAt ks k .name; password = some w })
 
 -- principal k has no password
-pub record SomeBare (t : Text) (count : ℕ) (marks : List ℕ) (k : ℕ) : Type 0 where
+pub record SomeBare (t : Text) (count : ℕ) (slots : List ℕ) (k : ℕ) : Type 0 where
   pub principals : List Principal
-  pub held : Principals principals t count marks
+  pub held : Principals principals t count slots
   pub below : k < count
   pub bare : principalAt principals k .password ≡ none
 
 -- principal k has a password, and there is room for src in its place
-pub record SomeKept (t : Text) (count : ℕ) (marks : List ℕ) (k : ℕ) (src : Text) (room : ℕ) : Type 0 where
+pub record SomeKept (t : Text) (count : ℕ) (slots : List ℕ) (k : ℕ) (src : Text) (room : ℕ) : Type 0 where
   pub principals : List Principal
   pub old : Text
-  pub held : Principals principals t count marks
+  pub held : Principals principals t count slots
   pub below : k < count
   pub kept : principalAt principals k .password ≡ some old
   pub fits : length (principalsText (withPassword principals k src)) ≤ room
 
 -- principal p has number k, and there is room for src as its password
-pub record SomePassword (t : Text) (count : ℕ) (marks : List ℕ) (k : ℕ) (src : Text) (room : ℕ) : Type 0 where
+pub record SomePassword (t : Text) (count : ℕ) (slots : List ℕ) (k : ℕ) (src : Text) (room : ℕ) : Type 0 where
   pub principals : List Principal
   pub name : Name
-  pub held : Principals principals t count marks
+  pub held : Principals principals t count slots
   pub below : k < count
   pub apart : T (distinct (principalNames principals))
   pub number : k ≡ position (principalNames principals) name

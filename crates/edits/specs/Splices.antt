@@ -1,9 +1,9 @@
--- What the changes of a buffer and of its marks leave.
+-- What the changes of a buffer and of its slots leave.
 use Prim.Native.Nat.{ℕ, _+_, _-_}
 use mathlib.Core.List.{List, _++_, map}
 use lib.ListN.{length, take, drop}
 use Rattle.language.specs.Text.{Text}
-use Rattle.store.specs.Held.{part}
+use Rattle.text.specs.Parts.{part}
 
 -- src written over d, from place `at` on
 abbrev pub over : Text → ℕ → Text → Text
@@ -15,4 +15,4 @@ spliced d len from to src = take from d ++ (src ++ (part d to len ++ drop (from 
 
 -- the numbers from place `from` up to `to` go up by new and down by old
 abbrev pub shifted : List ℕ → ℕ → ℕ → ℕ → ℕ → List ℕ
-shifted marks from to old new = take from marks ++ (map (λ x. x + new - old) (part marks from to) ++ drop to marks)
+shifted slots from to old new = take from slots ++ (map (λ x. x + new - old) (part slots from to) ++ drop to slots)

@@ -8,11 +8,11 @@ ghost use lib.ListN.{length, set, take};
 ghost use Rattle.language.specs.State.{Value, Principal, Variable};
 ghost use Rattle.language.specs.Identifiers.{isName};
 ghost use Rattle.language.specs.Encode.{valueText};
-ghost use Rattle.store.specs.Held.{Principals, Variables, mark};
+ghost use Rattle.store.specs.Held.{Principals, Variables, slot};
 ghost use Rattle.edits.specs.Splices.{over};
 ghost use Rattle.edits.specs.Changes.{Outside};
 use super::splice::copy;
-use store::mark::print;
+use store::index::hash;
 
 // A record's letter, a tab, its name and a tab; the place after them.
 fn head(buf: &mut [u8], at: usize, letter: u8, name: &[u8]) -> usize
@@ -30,35 +30,35 @@ fn head(buf: &mut [u8], at: usize, letter: u8, name: &[u8]) -> usize
     last + 1
 }
 
-// The mark of a record that starts at `at`.
-fn note(marks: &mut [u32], count: usize, name: &[u8], at: usize)
-    requires { ⌜ (count < length (now marks)) × (at < 65536) ⌝ }
-    ensures { λ _. ⌜ now (marks .exit) ≡ set (now (marks .entry)) count (mark (now (name .entry)) at) ⌝ }
+// The slot of a record that starts at `at`.
+fn note(slots: &mut [u32], count: usize, name: &[u8], at: usize)
+    requires { ⌜ (count < length (now slots)) × (at < 65536) ⌝ }
+    ensures { λ _. ⌜ now (slots .exit) ≡ set (now (slots .entry)) count (slot (now (name .entry)) at) ⌝ }
 {
-    let p = print(name);
+    let p = hash(name);
     let place = at as u32;
-    marks[count] = p * 65536 + place;
+    slots[count] = p * 65536 + place;
 }
 
 // A new variable, last.
 pub fn add_variable(
     buf: &mut [u8],
     len: usize,
-    marks: &mut [u32],
+    slots: &mut [u32],
     count: usize,
     name: &[u8],
     value: &[u8],
 ) -> usize
-    requires { ⌜ (length (now buf) ≤ 65536) × (len + 3 + length (now name) + length (now value) ≤ length (now buf)) × (count < length (now marks)) ⌝ }
+    requires { ⌜ (length (now buf) ≤ 65536) × (len + 3 + length (now name) + length (now value) ≤ length (now buf)) × (count < length (now slots)) ⌝ }
     ensures size { λ r. ⌜ r ≡ len + 3 + length (now (name .entry)) + length (now (value .entry)) ⌝ }
-    ensures outside { λ r. ⌜ Outside (now (buf .entry)) (now (buf .exit)) r (now (marks .entry)) (now (marks .exit)) (count + 1) ⌝ }
-    ensures held { λ r. ⌜ ((vs : List Variable) (v : Value) → Variables vs (take len (now (buf .entry))) count (now (marks .entry)) → T (isName (now (name .entry)))
+    ensures outside { λ r. ⌜ Outside (now (buf .entry)) (now (buf .exit)) r (now (slots .entry)) (now (slots .exit)) (count + 1) ⌝ }
+    ensures held { λ r. ⌜ ((vs : List Variable) (v : Value) → Variables vs (take len (now (buf .entry))) count (now (slots .entry)) → T (isName (now (name .entry)))
         → now (value .entry) ≡ valueText v
-        → Variables (vs ++ (record { name = now (name .entry); value = v } ∷ [])) (take r (now (buf .exit))) (count + 1) (now (marks .exit))) ⌝ }
+        → Variables (vs ++ (record { name = now (name .entry); value = v } ∷ [])) (take r (now (buf .exit))) (count + 1) (now (slots .exit))) ⌝ }
 {
     let body = head(buf, len, b'V', name);
     copy(buf, body, value);
-    note(marks, count, name, len);
+    note(slots, count, name, len);
     body + value.len()
 }
 
@@ -66,21 +66,21 @@ pub fn add_variable(
 pub fn add_principal(
     buf: &mut [u8],
     len: usize,
-    marks: &mut [u32],
+    slots: &mut [u32],
     count: usize,
     name: &[u8],
     password: &[u8],
 ) -> usize
-    requires { ⌜ (length (now buf) ≤ 65536) × (len + 4 + length (now name) + length (now password) ≤ length (now buf)) × (count < length (now marks)) ⌝ }
+    requires { ⌜ (length (now buf) ≤ 65536) × (len + 4 + length (now name) + length (now password) ≤ length (now buf)) × (count < length (now slots)) ⌝ }
     ensures size { λ r. ⌜ r ≡ len + 4 + length (now (name .entry)) + length (now (password .entry)) ⌝ }
-    ensures outside { λ r. ⌜ Outside (now (buf .entry)) (now (buf .exit)) r (now (marks .entry)) (now (marks .exit)) (count + 1) ⌝ }
-    ensures held { λ r. ⌜ ((ks : List Principal) → Principals ks (take len (now (buf .entry))) count (now (marks .entry)) → T (isName (now (name .entry)))
-        → Principals (ks ++ (record { name = now (name .entry); password = some (now (password .entry)) } ∷ [])) (take r (now (buf .exit))) (count + 1) (now (marks .exit))) ⌝ }
+    ensures outside { λ r. ⌜ Outside (now (buf .entry)) (now (buf .exit)) r (now (slots .entry)) (now (slots .exit)) (count + 1) ⌝ }
+    ensures held { λ r. ⌜ ((ks : List Principal) → Principals ks (take len (now (buf .entry))) count (now (slots .entry)) → T (isName (now (name .entry)))
+        → Principals (ks ++ (record { name = now (name .entry); password = some (now (password .entry)) } ∷ [])) (take r (now (buf .exit))) (count + 1) (now (slots .exit))) ⌝ }
 {
     let body = head(buf, len, b'P', name);
     copy(buf, body, password);
     let end = body + password.len();
     buf[end] = b'\n';
-    note(marks, count, name, len);
+    note(slots, count, name, len);
     end + 1
 }

@@ -18,31 +18,31 @@ use super::splice::shift;
 use super::splice::splice;
 use store::content::Password;
 use store::content::password_of;
-use store::mark::nth;
+use store::index::nth;
 
-// A record gets `src` in place of its bytes from `from` up to `to`, and the marks of later records move.
+// A record gets `src` in place of its bytes from `from` up to `to`, and the slots of later records move.
 fn rewrite(
     buf: &mut [u8],
     len: usize,
-    marks: &mut [u32],
+    slots: &mut [u32],
     count: usize,
     number: usize,
     from: usize,
     to: usize,
     src: &[u8],
 ) -> usize
-    requires { ⌜ (length (now buf) ≤ 65536) × (len ≤ length (now buf)) × SomeSpot (take len (now buf)) count (now marks) number from to
+    requires { ⌜ (length (now buf) ≤ 65536) × (len ≤ length (now buf)) × SomeSpot (take len (now buf)) count (now slots) number from to
         × (from + length (now src) + (len - to) ≤ length (now buf)) ⌝ }
     ensures size { λ r. ⌜ r ≡ from + length (now (src .entry)) + (len - to) ⌝ }
-    ensures outside { λ r. ⌜ Outside (now (buf .entry)) (now (buf .exit)) r (now (marks .entry)) (now (marks .exit)) count ⌝ }
-    ensures held { λ r. ⌜ ((rows : List Row) (row : Row) → Rows rows (take len (now (buf .entry))) count (now (marks .entry))
-        → Respelled rows number from to (now (src .entry)) row → Rows (set rows number row) (take r (now (buf .exit))) count (now (marks .exit))) ⌝ }
+    ensures outside { λ r. ⌜ Outside (now (buf .entry)) (now (buf .exit)) r (now (slots .entry)) (now (slots .exit)) count ⌝ }
+    ensures held { λ r. ⌜ ((rows : List Row) (row : Row) → Rows rows (take len (now (buf .entry))) count (now (slots .entry))
+        → Respelled rows number from to (now (src .entry)) row → Rows (set rows number row) (take r (now (buf .exit))) count (now (slots .exit))) ⌝ }
 {
     let n = splice(buf, len, from, to, src);
     let old = (to - from) as u32;
     let new = src.len() as u32;
     let next = number + 1;
-    shift(marks, next, count, old, new);
+    shift(slots, next, count, old, new);
     n
 }
 
@@ -50,55 +50,55 @@ fn rewrite(
 pub fn set_value(
     buf: &mut [u8],
     len: usize,
-    marks: &mut [u32],
+    slots: &mut [u32],
     count: usize,
     number: usize,
     value: &[u8],
 ) -> usize
-    requires { ⌜ (length (now buf) ≤ 65536) × (len ≤ length (now buf)) × SomeValue (take len (now buf)) count (now marks) number (now value) (length (now buf)) ⌝ }
-    ensures outside { λ r. ⌜ Outside (now (buf .entry)) (now (buf .exit)) r (now (marks .entry)) (now (marks .exit)) count ⌝ }
-    ensures held { λ r. ⌜ ((vs : List Variable) (x : Name) (v : Value) → Variables vs (take len (now (buf .entry))) count (now (marks .entry))
-        → number ≡ position (variableNames vs) x → now (value .entry) ≡ valueText v → Variables (put x v vs) (take r (now (buf .exit))) count (now (marks .exit))) ⌝ }
+    requires { ⌜ (length (now buf) ≤ 65536) × (len ≤ length (now buf)) × SomeValue (take len (now buf)) count (now slots) number (now value) (length (now buf)) ⌝ }
+    ensures outside { λ r. ⌜ Outside (now (buf .entry)) (now (buf .exit)) r (now (slots .entry)) (now (slots .exit)) count ⌝ }
+    ensures held { λ r. ⌜ ((vs : List Variable) (x : Name) (v : Value) → Variables vs (take len (now (buf .entry))) count (now (slots .entry))
+        → number ≡ position (variableNames vs) x → now (value .entry) ≡ valueText v → Variables (put x v vs) (take r (now (buf .exit))) count (now (slots .exit))) ⌝ }
 {
-    let place = nth(&buf[..len], marks, count, number);
+    let place = nth(&buf[..len], slots, count, number);
     let mid = place.mid;
     let from = mid + 1;
     let to = place.end;
-    rewrite(buf, len, marks, count, number, from, to, value)
+    rewrite(buf, len, slots, count, number, from, to, value)
 }
 
 // A list gets more elements at its end: their text.
 pub fn append_value(
     buf: &mut [u8],
     len: usize,
-    marks: &mut [u32],
+    slots: &mut [u32],
     count: usize,
     number: usize,
     more: &[u8],
 ) -> usize
-    requires { ⌜ (length (now buf) ≤ 65536) × (len ≤ length (now buf)) × SomeElements (take len (now buf)) count (now marks) number (now more) (length (now buf)) ⌝ }
-    ensures outside { λ r. ⌜ Outside (now (buf .entry)) (now (buf .exit)) r (now (marks .entry)) (now (marks .exit)) count ⌝ }
-    ensures held { λ r. ⌜ ((vs : List Variable) (x : Name) (es fs : List Element) → Variables vs (take len (now (buf .entry))) count (now (marks .entry))
+    requires { ⌜ (length (now buf) ≤ 65536) × (len ≤ length (now buf)) × SomeElements (take len (now buf)) count (now slots) number (now more) (length (now buf)) ⌝ }
+    ensures outside { λ r. ⌜ Outside (now (buf .entry)) (now (buf .exit)) r (now (slots .entry)) (now (slots .exit)) count ⌝ }
+    ensures held { λ r. ⌜ ((vs : List Variable) (x : Name) (es fs : List Element) → Variables vs (take len (now (buf .entry))) count (now (slots .entry))
         → number ≡ position (variableNames vs) x → valueIn vs x ≡ some (list es) → now (more .entry) ≡ joined elementText fs
-        → Variables (put x (list (es ++ fs)) vs) (take r (now (buf .exit))) count (now (marks .exit))) ⌝ }
+        → Variables (put x (list (es ++ fs)) vs) (take r (now (buf .exit))) count (now (slots .exit))) ⌝ }
 {
-    let place = nth(&buf[..len], marks, count, number);
+    let place = nth(&buf[..len], slots, count, number);
     let end = place.end;
-    rewrite(buf, len, marks, count, number, end, end, more)
+    rewrite(buf, len, slots, count, number, end, end, more)
 }
 
 // The line of a principal without a password becomes that of one whose password is empty.
-fn open_line(buf: &mut [u8], len: usize, marks: &mut [u32], count: usize, number: usize) -> usize
-    requires { ⌜ (length (now buf) ≤ 65536) × (len + 1 ≤ length (now buf)) × SomeBare (take len (now buf)) count (now marks) number ⌝ }
+fn open_line(buf: &mut [u8], len: usize, slots: &mut [u32], count: usize, number: usize) -> usize
+    requires { ⌜ (length (now buf) ≤ 65536) × (len + 1 ≤ length (now buf)) × SomeBare (take len (now buf)) count (now slots) number ⌝ }
     ensures size { λ r. ⌜ r ≡ len + 1 ⌝ }
-    ensures outside { λ r. ⌜ Outside (now (buf .entry)) (now (buf .exit)) r (now (marks .entry)) (now (marks .exit)) count ⌝ }
-    ensures held { λ r. ⌜ ((ks : List Principal) → Principals ks (take len (now (buf .entry))) count (now (marks .entry)) → principalAt ks number .password ≡ none
-        → Principals (withPassword ks number []) (take r (now (buf .exit))) count (now (marks .exit))) ⌝ }
+    ensures outside { λ r. ⌜ Outside (now (buf .entry)) (now (buf .exit)) r (now (slots .entry)) (now (slots .exit)) count ⌝ }
+    ensures held { λ r. ⌜ ((ks : List Principal) → Principals ks (take len (now (buf .entry))) count (now (slots .entry)) → principalAt ks number .password ≡ none
+        → Principals (withPassword ks number []) (take r (now (buf .exit))) count (now (slots .exit))) ⌝ }
 {
-    let place = nth(&buf[..len], marks, count, number);
+    let place = nth(&buf[..len], slots, count, number);
     let start = place.start;
     let mid = place.mid;
-    let n = rewrite(buf, len, marks, count, number, mid, mid, b"\t");
+    let n = rewrite(buf, len, slots, count, number, mid, mid, b"\t");
     buf[start] = b'P';
     n
 }
@@ -107,53 +107,53 @@ fn open_line(buf: &mut [u8], len: usize, marks: &mut [u32], count: usize, number
 fn write_password(
     buf: &mut [u8],
     len: usize,
-    marks: &mut [u32],
+    slots: &mut [u32],
     count: usize,
     number: usize,
     password: &[u8],
 ) -> usize
-    requires { ⌜ (length (now buf) ≤ 65536) × (len ≤ length (now buf)) × SomeKept (take len (now buf)) count (now marks) number (now password) (length (now buf)) ⌝ }
-    ensures outside { λ r. ⌜ Outside (now (buf .entry)) (now (buf .exit)) r (now (marks .entry)) (now (marks .exit)) count ⌝ }
-    ensures held { λ r. ⌜ ((ks : List Principal) (old : Text) → Principals ks (take len (now (buf .entry))) count (now (marks .entry)) → principalAt ks number .password ≡ some old
-        → Principals (withPassword ks number (now (password .entry))) (take r (now (buf .exit))) count (now (marks .exit))) ⌝ }
+    requires { ⌜ (length (now buf) ≤ 65536) × (len ≤ length (now buf)) × SomeKept (take len (now buf)) count (now slots) number (now password) (length (now buf)) ⌝ }
+    ensures outside { λ r. ⌜ Outside (now (buf .entry)) (now (buf .exit)) r (now (slots .entry)) (now (slots .exit)) count ⌝ }
+    ensures held { λ r. ⌜ ((ks : List Principal) (old : Text) → Principals ks (take len (now (buf .entry))) count (now (slots .entry)) → principalAt ks number .password ≡ some old
+        → Principals (withPassword ks number (now (password .entry))) (take r (now (buf .exit))) count (now (slots .exit))) ⌝ }
 {
-    let place = nth(&buf[..len], marks, count, number);
+    let place = nth(&buf[..len], slots, count, number);
     let mid = place.mid;
     let from = mid + 1;
     let line = place.end;
     let to = line - 1;
-    rewrite(buf, len, marks, count, number, from, to, password)
+    rewrite(buf, len, slots, count, number, from, to, password)
 }
 
 // A principal's password is `password`.
 pub fn set_password(
     buf: &mut [u8],
     len: usize,
-    marks: &mut [u32],
+    slots: &mut [u32],
     count: usize,
     number: usize,
     password: &[u8],
 ) -> usize
     requires { ⌜ (length (now buf) ≤ 65536) × (len ≤ length (now buf))
-        × SomePassword (take len (now buf)) count (now marks) number (now password) (length (now buf)) ⌝ }
-    ensures outside { λ r. ⌜ Outside (now (buf .entry)) (now (buf .exit)) r (now (marks .entry)) (now (marks .exit)) count ⌝ }
-    ensures held { λ r. ⌜ ((ks : List Principal) (p : Name) → Principals ks (take len (now (buf .entry))) count (now (marks .entry)) → T (distinct (principalNames ks))
+        × SomePassword (take len (now buf)) count (now slots) number (now password) (length (now buf)) ⌝ }
+    ensures outside { λ r. ⌜ Outside (now (buf .entry)) (now (buf .exit)) r (now (slots .entry)) (now (slots .exit)) count ⌝ }
+    ensures held { λ r. ⌜ ((ks : List Principal) (p : Name) → Principals ks (take len (now (buf .entry))) count (now (slots .entry)) → T (distinct (principalNames ks))
         → number ≡ position (principalNames ks) p
-        → Principals (map (changed p (now (password .entry))) ks) (take r (now (buf .exit))) count (now (marks .exit))) ⌝ }
+        → Principals (map (changed p (now (password .entry))) ks) (take r (now (buf .exit))) count (now (slots .exit))) ⌝ }
 {
-    let p = password_of(&buf[..len], marks, count, number);
+    let p = password_of(&buf[..len], slots, count, number);
     match p {
         Password::Kept { start: _, end: _ } => write_password(
             buf,
             len,
-            marks,
+            slots,
             count,
             number,
             password,
         ),
         Password::Absent => {
-            let n = open_line(buf, len, marks, count, number);
-            write_password(buf, n, marks, count, number, password)
+            let n = open_line(buf, len, slots, count, number);
+            write_password(buf, n, slots, count, number, password)
         }
     }
 }

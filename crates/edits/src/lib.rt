@@ -1,6 +1,6 @@
-// Changes of the running state's text: records changed in place and records added, each by one splice, with the marks that move.
+// Changes of the running state's text: records changed in place and records added, each by one splice, with the slots that move.
 ghost use mathlib.Core.Path.{_≡_};
 
 pub mod add; // records added
 pub mod change; // records changed
-pub mod splice; // bytes put in the place of others, and marks moved with them
+pub mod splice; // bytes put in the place of others, and slots moved with them

@@ -1,8 +1,8 @@
-// Bytes put in the place of others, and marks moved with them.
+// Bytes put in the place of others, and slots moved with them.
 ghost use mathlib.Core.Path.{_≡_};
 ghost use Prim.Native.Nat.{ℕ, _+_, _-_, _≤_, _<_};
 ghost use lib.ListN.{length, getD};
-ghost use Rattle.store.specs.Held.{part};
+ghost use Rattle.text.specs.Parts.{part};
 ghost use Rattle.edits.specs.Splices.{over, spliced, shifted};
 
 // Copies a text over a part of another.
@@ -87,18 +87,18 @@ pub fn splice(buf: &mut [u8], len: usize, from: usize, to: usize, src: &[u8]) ->
     at + (len - to)
 }
 
-// Marks from `from` up to `to` of records that moved: `new` up, `old` down. Nothing moved where the two are the same.
-pub fn shift(marks: &mut [u32], from: usize, to: usize, old: u32, new: u32)
-    requires { ⌜ (from ≤ to) × (to ≤ length (now marks)) × ((j : ℕ) → from ≤ j → j < to → (old ≤ getD (now marks) j 0) × (getD (now marks) j 0 - old + new < 4294967296)) ⌝ }
-    ensures { λ _. ⌜ now (marks .exit) ≡ shifted (now (marks .entry)) from to old new ⌝ }
+// Slots from `from` up to `to` of records that moved: `new` up, `old` down. Nothing moved where the two are the same.
+pub fn shift(slots: &mut [u32], from: usize, to: usize, old: u32, new: u32)
+    requires { ⌜ (from ≤ to) × (to ≤ length (now slots)) × ((j : ℕ) → from ≤ j → j < to → (old ≤ getD (now slots) j 0) × (getD (now slots) j 0 - old + new < 4294967296)) ⌝ }
+    ensures { λ _. ⌜ now (slots .exit) ≡ shifted (now (slots .entry)) from to old new ⌝ }
 {
     if old == new {
         return;
     }
     let mut i = from;
     while i < to {
-        let m = marks[i];
-        marks[i] = m - old + new;
+        let m = slots[i];
+        slots[i] = m - old + new;
         i += 1;
     }
 }

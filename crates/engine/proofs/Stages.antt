@@ -18,19 +18,20 @@ use Rattle.language.specs.Run.{End, refusal, completed, lineCount}
 use Rattle.language.proofs.Parsing.ValidPrograms.{isEnding}
 use Rattle.language.proofs.Parsing.Parsing.{commandRoom}
 use Rattle.language.proofs.Parsing.Printing.{inner-short}
-use Rattle.language.proofs.Meaning.Printed.{count-append}
-use Rattle.commands.specs.declared.command.Command as Read
+use Rattle.language.proofs.Meaning.Printed.{count-append, few-lines as lines-short}
+use Rattle.command_readers.specs.declared.command.Command as Read
 use Rattle.parser.specs.declared.Rest.{Rest}
 use Rattle.parser.specs.declared.Rest.the-variants as Follows
 use Rattle.parser.specs.Bodies.{bodyFrom, restFrom, First}
 use Rattle.values.specs.Writing.{Written}
 use Rattle.values.proofs.Pieces.{_▸_, written-none}
-use Rattle.running.specs.declared.Layout.{Layout}
-use Rattle.running.specs.Sessions.{Slices, Running}
+use Rattle.session.specs.declared.Layout.{Layout}
+use Rattle.session.specs.Sessions.{Slices, Running}
 use Rattle.engine.specs.declared.Performed.{Performed}
-use Rattle.engine.specs.Commands.{SomeCommand, Advances}
+use Rattle.command_readers.specs.Commands.{SomeCommand}
+use Rattle.engine.specs.Commands.{Advances}
 use Rattle.engine.specs.Ends.{RestWithin, unlessBroken, endOn, Completes, Ends}
-use Rattle.engine.proofs.Spoken.{one-line, lines-short}
+use Rattle.language.proofs.Meaning.LineCounts.{line-one}
 
 -- ---- lines in front of an end
 
@@ -121,7 +122,7 @@ module _ {s : Session} {t : Text} {at : ℕ} {before : Text} {l : Layout} {b : S
 
       pub one-more : lines + 1 ≡ lineCount (S .so-far ++ A .effect .line)
       one-more =
-          let one : lineCount (A .effect .line) ≡ 1 = one-line (S .session) (S .running .ready) (F .command) (F .is-valid) (A .effect) (A .is-step) in
+          let one : lineCount (A .effect .line) ≡ 1 = line-one (S .session) (S .running .ready) (F .command) (F .is-valid) (A .effect) (A .is-step) in
           omega (arith, S .counted, one, count-append (S .so-far) (A .effect .line))
 
 pub some-command : {t : Text} {p : ℕ} {c : Read.Command} {rest : Rest} → First t p c rest → SomeCommand t c

@@ -13,8 +13,8 @@ use Rattle.language.specs.Run.{End, refusal, completed, perform, lineCount}
 use Rattle.values.specs.Writing.{Written}
 use Rattle.parser.specs.declared.Rest.{Rest}
 use Rattle.parser.specs.declared.Rest.the-variants as Follows
-use Rattle.running.specs.declared.Layout.{Layout}
-use Rattle.running.specs.Sessions.{Slices, Running}
+use Rattle.session.specs.declared.Layout.{Layout}
+use Rattle.session.specs.Sessions.{Slices, Running}
 use Rattle.engine.specs.declared.Performed.{Performed}
 use Rattle.engine.specs.declared.Performed.the-variants.{Broken, Denied, Failed, Full, Completed}
 

@@ -4,7 +4,7 @@ pub mod command; // one command, and the line that it prints
 use command::Outcome;
 use parser::Read;
 use parser::Rest;
-use running::Layout;
+use session::Layout;
 ghost use mathlib.Core.Path.{_≡_};
 ghost use Prim.Native.Nat.{_≤_};
 ghost use lib.ListN.{length};
@@ -12,7 +12,7 @@ ghost use Rattle.language.specs.Text.{present};
 ghost use Rattle.language.specs.Programs.{longest};
 ghost use Rattle.language.specs.Values.{Session};
 ghost use Rattle.parser.specs.Bodies.{bodyFrom, restFrom};
-ghost use Rattle.running.specs.Sessions.{Running, SomeRunning, slices};
+ghost use Rattle.session.specs.Sessions.{Running, SomeRunning, slices};
 ghost use Rattle.engine.specs.Ends.{RestWithin, endOn, unlessBroken, Ends};
 
 // How a program ends: its text turned out to be none; or it is refused, or completed with the session that it leaves, the bytes that it
@@ -40,15 +40,15 @@ fn refused(text: &[u8], rest: Rest, how: Performed) -> Performed
 }
 
 // The commands of the lines from `at` on, each done as it is read, to the first that cannot be. The scratch buffers are room for values and
-// marks.
+// slots.
 pub fn perform(
-    people: &mut [u8],
-    people_marks: &mut [u32],
+    principals: &mut [u8],
+    principal_slots: &mut [u32],
     vars: &mut [u8],
-    var_marks: &mut [u32],
+    variable_slots: &mut [u32],
     locals: &mut [u8],
-    local_marks: &mut [u32],
-    standing: &mut [u64],
+    local_slots: &mut [u32],
+    assertions: &mut [u64],
     value: &mut [u8],
     labels: &mut [u32],
     start: Layout,
@@ -56,11 +56,11 @@ pub fn perform(
     at: usize,
     output: &mut [u8],
 ) -> Performed
-    requires { ⌜ SomeRunning start (slices (now people) (now «people_marks») (now vars) (now «var_marks») (now locals) (now «local_marks») (now standing)) ⌝ }
+    requires { ⌜ SomeRunning start (slices (now principals) (now «principal_slots») (now vars) (now «variable_slots») (now locals) (now «local_slots») (now assertions)) ⌝ }
     requires { ⌜ (length (now value) ≡ 45056) × (length (now labels) ≡ 4096) ⌝ }
     requires { ⌜ (at ≤ length (now text)) × (length (now text) ≤ longest) × (length (now output) ≡ 65536) ⌝ }
-    ensures { λ r. ⌜ ((s : Session) → Running s start (slices (now (people .entry)) (now («people_marks» .entry)) (now (vars .entry)) (now («var_marks» .entry)) (now (locals .entry)) (now («local_marks» .entry)) (now (standing .entry)))
-        → Ends r (endOn s (bodyFrom (now (text .entry)) at)) (slices (now (people .exit)) (now («people_marks» .exit)) (now (vars .exit)) (now («var_marks» .exit)) (now (locals .exit)) (now («local_marks» .exit)) (now (standing .exit))) (now (output .entry)) (now (output .exit))) ⌝ }
+    ensures { λ r. ⌜ ((s : Session) → Running s start (slices (now (principals .entry)) (now («principal_slots» .entry)) (now (vars .entry)) (now («variable_slots» .entry)) (now (locals .entry)) (now («local_slots» .entry)) (now (assertions .entry)))
+        → Ends r (endOn s (bodyFrom (now (text .entry)) at)) (slices (now (principals .exit)) (now («principal_slots» .exit)) (now (vars .exit)) (now («variable_slots» .exit)) (now (locals .exit)) (now («local_slots» .exit)) (now (assertions .exit))) (now (output .entry)) (now (output .exit))) ⌝ }
 {
     let mut l = start;
     let mut p = at;
@@ -72,13 +72,13 @@ pub fn perform(
             return Performed::Broken;
         };
         let done = command::carry_out(
-            people,
-            people_marks,
+            principals,
+            principal_slots,
             vars,
-            var_marks,
+            variable_slots,
             locals,
-            local_marks,
-            standing,
+            local_slots,
+            assertions,
             value,
             labels,
             l,

@@ -5,7 +5,7 @@ use Prim.Native.Nat.{ℕ, _+_, _*_, _-_, _≤_, _<_}
 use native.Mathlib.Omega.{arith}
 use mathlib.Core.Bool.{Bool, true, false, not}
 use mathlib.Core.Option.{Option, none, some}
-use mathlib.Core.List.{List, [], _∷_, _++_, map}
+use mathlib.Core.List.{List, [], _∷_, _++_}
 use lib.Dec.{T}
 use lib.ListN.{length, take, drop, set, length-append, length-map, length-take, length-drop}
 use lib.Seq.{length-take-le, drop-append-le}
@@ -17,7 +17,8 @@ use Rattle.language.specs.Encode.{fieldText}
 use Rattle.language.specs.Valid.{validField}
 use Rattle.language.proofs.Logic.Tests.{both, and, all-append, distinct-last}
 use Rattle.language.proofs.StateText.Clean.{name-length}
-use Rattle.store.specs.Held.{part, mark}
+use Rattle.store.specs.Held.{slot}
+use Rattle.text.specs.Parts.{part}
 use Rattle.store.specs.Rows.{Row, Rows, rowText, rowNames}
 use Rattle.edits.proofs.Splicing.{part-take}
 use Rattle.values.specs.Writing.{Written}
@@ -30,16 +31,13 @@ use Rattle.evaluate.specs.Drafts.{labels, spelling, Drafted, Extends}
 use Rattle.evaluate.specs.declared.draft.Added.{Added}
 use Rattle.evaluate.specs.declared.draft.Draft.{Draft}
 use Rattle.evaluate.proofs.Labels.{row-added}
+use Rattle.language.proofs.Logic.Lists.{map-last}
 
 -- ---- sums and names of one more
 
 pub sum-last : {A : Type 0} (f : A → ℕ) (l : List A) (a : A) → sum f (l ++ (a ∷ [])) ≡ sum f l + f a
 sum-last f [] a = omega arith
 sum-last f (b ∷ l) a = omega (arith, sum-last f l a)
-
-map-last : {A B : Type 0} (f : A → B) (l : List A) (a : A) → map f (l ++ (a ∷ [])) ≡ map f l ++ (f a ∷ [])
-map-last f [] a = refl
-map-last f (b ∷ l) a = ap (λ r. f b ∷ r) (map-last f l a)
 
 -- each field takes four bytes of the program at the least
 four-each : (fs : List Field) → T (all validField fs) → 4 * length fs ≤ spelling fs
@@ -50,7 +48,7 @@ four-each (f ∷ fs) h =
 
 -- ---- how far a draft has come
 
-module _ (fs : List Field) (out : Text) (marks : List ℕ) (d : Draft) (D : Drafted fs out marks d) where
+module _ (fs : List Field) (out : Text) (slots : List ℕ) (d : Draft) (D : Drafted fs out slots d) where
   pub count-is : d .count ≡ length fs
   count-is = omega (arith, D .held .counted, length-map (D .rows) (λ (r : Row). r .name), ap length (D .named), length-map fs (λ (f : Field). f .label))
 
@@ -72,9 +70,9 @@ module _ (fs : List Field) (out : Text) (marks : List ℕ) (d : Draft) (D : Draf
       (full : n ≤ 8192 + 2 + (spelling fs + (length (f .label) + 3)))
       (text : length (f .text) ≤ 65536)
       (as-field : w ≤ 8192 → rowText r ≡ fieldText f)
-      (room : d .count < length marks)
+      (room : d .count < length slots)
       (m : ℕ)
-      (mark-is : m ≡ mark (f .label) (d .end - 2)) where
+      (slot-is : m ≡ slot (f .label) (d .end - 2)) where
     rows-part : part after 2 n ≡ part out 2 (d .end) ++ rowText r
     rows-part =
         let size : length (take (d .end) out) ≡ d .end = length-take-le (d .end) out (D .within) in
@@ -89,16 +87,16 @@ module _ (fs : List Field) (out : Text) (marks : List ℕ) (d : Draft) (D : Draf
     labels-are : labels (fs ++ (f ∷ [])) ≡ labels fs ++ (f .label ∷ [])
     labels-are = map-last (λ (g : Field). g .label) fs f
 
-    rows-held : Rows (D .rows ++ (r ∷ [])) (part after 2 n) (d .count + 1) (set marks (d .count) m)
+    rows-held : Rows (D .rows ++ (r ∷ [])) (part after 2 n) (d .count + 1) (set slots (d .count) m)
     rows-held =
         let named : T (isName (r .name)) = subst (λ (x : Name). T (isName x)) (sym name-is) (both (isName (f .label)) (isString (f .text)) valid .0) in
         let small : length (part out 2 (d .end)) + length (rowText r) ≤ 65536 = omega (arith, rows-length, full, W .ends) in
-        let H = row-added (D .rows) (part out 2 (d .end)) (d .count) marks (D .held) r named room small in
-        subst (λ (t : Text). Rows (D .rows ++ (r ∷ [])) t (d .count + 1) (set marks (d .count) m)) (sym rows-part)
-        (subst (λ (k : ℕ). Rows (D .rows ++ (r ∷ [])) (part out 2 (d .end) ++ rowText r) (d .count + 1) (set marks (d .count) k))
-        (ap (λ (x : Name). mark x (length (part out 2 (d .end)))) name-is ∙ ap (mark (f .label)) rows-length ∙ sym mark-is) H)
+        let H = row-added (D .rows) (part out 2 (d .end)) (d .count) slots (D .held) r named room small in
+        subst (λ (t : Text). Rows (D .rows ++ (r ∷ [])) t (d .count + 1) (set slots (d .count) m)) (sym rows-part)
+        (subst (λ (k : ℕ). Rows (D .rows ++ (r ∷ [])) (part out 2 (d .end) ++ rowText r) (d .count + 1) (set slots (d .count) k))
+        (ap (λ (x : Name). slot x (length (part out 2 (d .end)))) name-is ∙ ap (slot (f .label)) rows-length ∙ sym slot-is) H)
 
-    row-drafted : Drafted (fs ++ (f ∷ [])) after (set marks (d .count) m) (record { end = n; count = d .count + 1; weight = w })
+    row-drafted : Drafted (fs ++ (f ∷ [])) after (set slots (d .count) m) (record { end = n; count = d .count + 1; weight = w })
     row-drafted = record {
       rows = D .rows ++ (r ∷ []);
       held = rows-held;
@@ -125,26 +123,26 @@ module _ (fs : List Field) (out : Text) (marks : List ℕ) (d : Draft) (D : Draf
       (new : T (member x (labels fs)) → ⊥)
       (weight : w ≡ d .weight + 1 + length x + length t)
       (fits : spelling fs + length x + 3 ≤ 16384)
-      (room : 4096 ≤ length marks)
-      (mark-is : m ≡ mark x (d .end - 2)) where
+      (room : 4096 ≤ length slots)
+      (slot-is : m ≡ slot x (d .end - 2)) where
     valid : T (validField (record { label = x; text = t }))
     valid = and (isName x) (isString t) is-name is-string
 
     -- its label alone, where all is too heavy
     pub label-added : Written out (d .end) (70 ∷ 9 ∷ (x ++ 10 ∷ [])) n after → 8192 < w
-        → Drafted (fs ++ (record { label = x; text = t } ∷ [])) after (set marks (d .count) m) (record { end = n; count = d .count + 1; weight = w })
+        → Drafted (fs ++ (record { label = x; text = t } ∷ [])) after (set slots (d .count) m) (record { end = n; count = d .count + 1; weight = w })
     label-added W h =
         let l : n ≡ d .end + (length x + 3) = omega (arith, W .ends, length-append x (10 ∷ [])) in
         row-drafted (record { label = x; text = t }) (record { letter = 70; name = x; body = none }) n w after W refl valid new weight fits
-        (omega (arith, l, D .long, weight)) (omega (arith, l, D .full)) size (λ k. absurd (omega (arith, h, k))) (omega (arith, few, room, fits)) m mark-is
+        (omega (arith, l, D .long, weight)) (omega (arith, l, D .full)) size (λ k. absurd (omega (arith, h, k))) (omega (arith, few, room, fits)) m slot-is
 
     -- its whole line
     pub line-added : Written out (d .end) (fieldText (record { label = x; text = t })) n after → w ≤ 8192
-        → Drafted (fs ++ (record { label = x; text = t } ∷ [])) after (set marks (d .count) m) (record { end = n; count = d .count + 1; weight = w })
+        → Drafted (fs ++ (record { label = x; text = t } ∷ [])) after (set slots (d .count) m) (record { end = n; count = d .count + 1; weight = w })
     line-added W h =
         let l : n ≡ d .end + (length x + length t + 4) = omega (arith, W .ends, field-length (record { label = x; text = t })) in
         row-drafted (record { label = x; text = t }) (record { letter = 70; name = x; body = some (t ++ (10 ∷ [])) }) n w after W refl valid new weight fits
-        (omega (arith, l, D .long, weight)) (omega (arith, l, D .long, weight, h)) size (λ k. refl) (omega (arith, few, room, fits)) m mark-is
+        (omega (arith, l, D .long, weight)) (omega (arith, l, D .long, weight, h)) size (λ k. refl) (omega (arith, few, room, fits)) m slot-is
 
   -- ---- whether a label is new
 
@@ -164,8 +162,8 @@ module _ (fs : List Field) (out : Text) (marks : List ℕ) (d : Draft) (D : Draf
 
 -- ---- the start
 
-pub first-line : (out after : Text) (marks : List ℕ) (n : ℕ) → Written out 0 (82 ∷ 10 ∷ []) n after → Drafted [] after marks (record { end = n; count = 0; weight = 0 })
-first-line out after marks n W =
+pub first-line : (out after : Text) (slots : List ℕ) (n : ℕ) → Written out 0 (82 ∷ 10 ∷ []) n after → Drafted [] after slots (record { end = n; count = 0; weight = 0 })
+first-line out after slots n W =
     let e : n ≡ 2 = W .ends in
     let z : part after 2 n ≡ [] = ap (λ (k : ℕ). take k (drop 2 after)) (let q : n - 2 ≡ 0 = omega arith in q) in
     record {
@@ -173,7 +171,7 @@ first-line out after marks n W =
       held = record {
         is-text = z;
         counted = refl;
-        marked = refl;
+        indexed = refl;
         named = tt;
         small = omega (arith, ap length z);
       };
@@ -194,9 +192,9 @@ first-line out after marks n W =
 pub part-short : (t : Text) (n k : ℕ) → length t ≤ 65536 → length (take n (drop k t)) ≤ 65536
 part-short t n k h = omega (arith, length-take n (drop k t), length-drop k t)
 
-pub extends-as : (fs : List Field) (x : Name) (t : Text) (r : Added) (out : Text) (marks : List ℕ) {f g : Found} → f ≡ g
-    → Extends fs x (textAt t g) r out marks → Extends fs x (textAt t f) r out marks
-extends-as fs x t r out marks e h = subst (λ (f : Found). Extends fs x (textAt t f) r out marks) (sym e) h
+pub extends-as : (fs : List Field) (x : Name) (t : Text) (r : Added) (out : Text) (slots : List ℕ) {f g : Found} → f ≡ g
+    → Extends fs x (textAt t g) r out slots → Extends fs x (textAt t f) r out slots
+extends-as fs x t r out slots e h = subst (λ (f : Found). Extends fs x (textAt t f) r out slots) (sym e) h
 
-pub extends-by : (fs : List Field) (x : Name) (r : Added) (out : Text) (marks : List ℕ) {o p : Option Text} → o ≡ p → Extends fs x o r out marks → Extends fs x p r out marks
-extends-by fs x r out marks e h = subst (λ (o : Option Text). Extends fs x o r out marks) e h
+pub extends-by : (fs : List Field) (x : Name) (r : Added) (out : Text) (slots : List ℕ) {o p : Option Text} → o ≡ p → Extends fs x o r out slots → Extends fs x p r out slots
+extends-by fs x r out slots e h = subst (λ (o : Option Text). Extends fs x o r out slots) e h

@@ -16,7 +16,7 @@ use Rattle.language.specs.Syntax.{Name, Binding}
 use Rattle.language.specs.State.{Field, fields, Value, single}
 use Rattle.language.specs.Values.{Session, asString, operandValue, fieldValue, value}
 use Rattle.language.specs.Valid.{validField}
-use Rattle.language.proofs.Logic.Tests.{both, and-three, one-of, any-right, left-of, ==-sym, true-of}
+use Rattle.language.proofs.Logic.Tests.{both, and-three, one-of, any-right, left-of, ==-sym, true-of, false-of}
 use Rattle.language.proofs.Parsing.ValidPrograms.{validBinding}
 use Rattle.syntax.specs.Values.{recordAt, before, withField}
 use Rattle.syntax.proofs.Reading.{no-some}
@@ -25,6 +25,7 @@ use Rattle.evaluate.specs.Drafts.{labels, spelling, Drafted, Extends}
 use Rattle.evaluate.specs.declared.draft.Draft.{Draft}
 use Rattle.evaluate.specs.declared.draft.Added.the-variants as Is
 use Rattle.evaluate.proofs.Spelling.{roomOf}
+use Rattle.language.proofs.Logic.Lists.{map-append}
 
 -- ---- the value of a record whose first fields are fs
 
@@ -57,10 +58,6 @@ field-string s b = go (operandValue s (b .operand))
     go : (o : Option Value) → _>>=_ {B = Field} o (λ v. _>>=_ {B = Field} (asString v) (λ t. some (record { label = b .label; text = t }))) ≡ withLabel (b .label) (stringIn o)
     go none = refl
     go (some v) = text (asString v)
-
-map-append : {A B : Type 0} (f : A → B) (l m : List A) → map f (l ++ m) ≡ map f l ++ map f m
-map-append f [] m = refl
-map-append f (a ∷ l) m = ap (λ r. f a ∷ r) (map-append f l m)
 
 -- a name that is there already
 repeated : (l : List Name) (x : Name) (m : List Name) → T (member x l) → T (distinct (l ++ (x ∷ m))) → ⊥
@@ -97,34 +94,30 @@ module _ (s : Session) (fs : List Field) (b : Binding) (bs : List Binding) (us :
       f = record { label = b .label; text = t }
 
       never : (gs : List Field) → distinct (labels ((fs ++ (f ∷ [])) ++ gs)) ≡ false
-      never gs = no (distinct (labels ((fs ++ (f ∷ [])) ++ gs)))
+      never gs = false-of (distinct (labels ((fs ++ (f ∷ [])) ++ gs)))
           (λ d. repeated (labels fs) (b .label) (labels gs) h (subst (λ (l : List Name). T (distinct l)) (ap labels (append-assoc fs (f ∷ []) gs) ∙ map-append (λ (g : Field). g .label) fs (f ∷ gs)) d))
-        where
-          no : (c : Bool) → (T c → ⊥) → c ≡ false
-          no true k = absurd (k tt)
-          no false k = refl
 
       go : (o : Option (List Field)) → closed (fs ++ (f ∷ [])) o ≡ none
       go none = refl
       go (some gs) = ap (λ (c : Bool). if_then_else_ {A = Option Value} c (some (single (fields ((fs ++ (f ∷ [])) ++ gs)))) none) (never gs)
 
   -- what adding the field says of the whole
-  pub not-added : (out : Text) (marks : List ℕ) → Extends fs (b .label) (stringIn (operandValue s (b .operand))) Is.No out marks → finish s fs (some (b ∷ bs, us)) ≡ none
-  not-added out marks x = go (stringIn (operandValue s (b .operand))) refl x
+  pub not-added : (out : Text) (slots : List ℕ) → Extends fs (b .label) (stringIn (operandValue s (b .operand))) Is.No out slots → finish s fs (some (b ∷ bs, us)) ≡ none
+  not-added out slots x = go (stringIn (operandValue s (b .operand))) refl x
     where
-      go : (o : Option Text) → stringIn (operandValue s (b .operand)) ≡ o → Extends fs (b .label) o Is.No out marks → finish s fs (some (b ∷ bs, us)) ≡ none
+      go : (o : Option Text) → stringIn (operandValue s (b .operand)) ≡ o → Extends fs (b .label) o Is.No out slots → finish s fs (some (b ∷ bs, us)) ≡ none
       go none e x = field-none e
       go (some t) e x = field-twice t e x
 
-  pub record Further (out : Text) (marks : List ℕ) (d : Draft) : Type 0 where
+  pub record Further (out : Text) (slots : List ℕ) (d : Draft) : Type 0 where
     pub text : Text
-    pub drafted : Drafted (fs ++ (record { label = b .label; text = text } ∷ [])) out marks d
+    pub drafted : Drafted (fs ++ (record { label = b .label; text = text } ∷ [])) out slots d
     pub goes-on : finish s fs (some (b ∷ bs, us)) ≡ finish s (fs ++ (record { label = b .label; text = text } ∷ [])) (some (bs, us))
 
-  pub was-added : (out : Text) (marks : List ℕ) (d : Draft) → Extends fs (b .label) (stringIn (operandValue s (b .operand))) (Is.Done d) out marks → Further out marks d
-  was-added out marks d x = go (stringIn (operandValue s (b .operand))) refl x
+  pub was-added : (out : Text) (slots : List ℕ) (d : Draft) → Extends fs (b .label) (stringIn (operandValue s (b .operand))) (Is.Done d) out slots → Further out slots d
+  was-added out slots d x = go (stringIn (operandValue s (b .operand))) refl x
     where
-      go : (o : Option Text) → stringIn (operandValue s (b .operand)) ≡ o → Extends fs (b .label) o (Is.Done d) out marks → Further out marks d
+      go : (o : Option Text) → stringIn (operandValue s (b .operand)) ≡ o → Extends fs (b .label) o (Is.Done d) out slots → Further out slots d
       go none e x = absurd x
       go (some t) e x = record { text = t; drafted = x; goes-on = field-next t e }
 
@@ -135,7 +128,7 @@ all-read s fs us d =
     ap (λ (l : List Field). if_then_else_ {A = Option Value} (distinct (labels l)) (some (single (fields l))) none) (append-nil fs)
     ∙ ap (λ (c : Bool). if_then_else_ {A = Option Value} c (some (single (fields fs))) none) (true-of (distinct (labels fs)) d)
 
-module _ (fs : List Field) (out : Text) (marks : List ℕ) (d : Draft) (D : Drafted fs out marks d) (n : 0 < length fs) where
+module _ (fs : List Field) (out : Text) (slots : List ℕ) (d : Draft) (D : Drafted fs out slots d) (n : 0 < length fs) where
   pub record-light : d .weight ≤ 8192 → Written (some (single (fields fs))) out (d .end) (d .weight)
   record-light h = record {
     value = single (fields fs);
@@ -155,9 +148,9 @@ module _ (fs : List Field) (out : Text) (marks : List ℕ) (d : Draft) (D : Draf
 -- ---- where the loop stands
 
 -- the fields before place p are written, and the others stand from there on
-pub record Going (s : Session) (t : Text) (at p : ℕ) (out : Text) (marks : List ℕ) (d : Draft) : Type 0 where
+pub record Going (s : Session) (t : Text) (at p : ℕ) (out : Text) (slots : List ℕ) (d : Draft) : Type 0 where
   pub written : List Field
-  pub drafted : Drafted written out marks d
+  pub drafted : Drafted written out slots d
   pub rest : List Binding
   pub others : List Token
   pub here : recordAt t p ≡ some (rest, others)

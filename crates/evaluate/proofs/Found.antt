@@ -38,7 +38,7 @@ found-valid (v ∷ vs) x h =
     let (h₁, h₂) = both (validVariable v) (all validVariable vs) h in
     if-where IsValid (v .name == x) (some (v .value)) (valueIn vs x) (λ t. both (isName (v .name)) (validValue (v .value)) h₁ .1) (λ t. found-valid vs x h₂)
 
-module _ {s : Session} {shared : Text} {marks : List ℕ} {count : ℕ} {locals : Text} {lmarks : List ℕ} {lcount : ℕ} (S : Scope s shared marks count locals lmarks lcount) (x : Name) where
+module _ {s : Session} {shared : Text} {slots : List ℕ} {count : ℕ} {locals : Text} {lslots : List ℕ} {lcount : ℕ} (S : Scope s shared slots count locals lslots lcount) (x : Name) where
   pub lookup-valid : Where IsValid (lookup s x)
   lookup-valid =
       orElse-where IsValid (valueIn (s .locals) x) (valueIn (s .store .variables) x) (found-valid (s .locals) x (S .locals-valid)) (found-valid (s .store .variables) x (S .shared-valid))
@@ -63,8 +63,8 @@ bytes-in (v ∷ vs) x = go (v .name == x) (bytes-in vs x)
         omega (arith, length-append (variableText (v .name) (v .value)) (joined (λ v. variableText (v .name) (v .value)) vs), ap length (variable-text (v .name) (v .value)), length-append (v .name) (9 ∷ u))
     go false h = omega (arith, h, length-append (variableText (v .name) (v .value)) (joined (λ v. variableText (v .name) (v .value)) vs))
 
-pub read-short : {s : Session} {shared : Text} {marks : List ℕ} {count : ℕ} {locals : Text} {lmarks : List ℕ} {lcount : ℕ}
-    → Scope s shared marks count locals lmarks lcount → (x : Name) (r : Text) → r ≡ valueBytes (lookup s x) → length r ≤ 65536
+pub read-short : {s : Session} {shared : Text} {slots : List ℕ} {count : ℕ} {locals : Text} {lslots : List ℕ} {lcount : ℕ}
+    → Scope s shared slots count locals lslots lcount → (x : Name) (r : Text) → r ≡ valueBytes (lookup s x) → length r ≤ 65536
 read-short {s} S x r e =
     let l : length (valueBytes (valueIn (s .locals) x)) ≤ 65536 = omega (arith, bytes-in (s .locals) x, S .locals-held .small, ap length (S .locals-held .is-text)) in
     let h : length (valueBytes (valueIn (s .store .variables) x)) ≤ 65536 = omega (arith, bytes-in (s .store .variables) x, S .shared-held .small, ap length (S .shared-held .is-text)) in

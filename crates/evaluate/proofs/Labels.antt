@@ -1,7 +1,7 @@
 -- Rows one more, and a label among their names.
 -- Assumes nothing.
 use mathlib.Core.Path.{_≡_, refl, sym, ap, _∙_}
-use Prim.Native.Nat.{ℕ, suc, _+_, _*_, _-_, _%_, _≤_, _<_}
+use Prim.Native.Nat.{ℕ, suc, _+_, _-_, _≤_, _<_}
 use native.Mathlib.Nat.{not-suc-le-zero, le-of-suc-le-suc}
 use native.Mathlib.Numerals.{add-one}
 use native.Mathlib.Omega.{arith}
@@ -13,23 +13,17 @@ use lib.Seq.{take-suc-set, take-take}
 use Rattle.language.specs.Text.{Text, if_then_else_, _==_, member, joined}
 use Rattle.language.specs.Syntax.{Name}
 use Rattle.language.specs.Identifiers.{isName}
-use Rattle.language.proofs.Logic.Tests.{and, all-append, ==-sym}
-use Rattle.store.specs.Held.{mark, marksFrom}
+use Rattle.language.proofs.Logic.Tests.{and, all-append, ==-sym, same-test}
+use Rattle.store.specs.Held.{slot, slotsFrom}
 use Rattle.store.specs.Rows.{Row, Rows, rowText, rowNames, position, place}
-use Rattle.store.specs.declared.mark.Found.the-variants.{At, Missing}
+use Rattle.store.specs.declared.index.Found.the-variants.{At, Missing}
 use Rattle.store.proofs.Records.{joined-append}
 use Rattle.store.proofs.Answers.{answered, unanswered}
 
 -- ---- a name among names
 
 same-sym : (x y : Name) → (x == y) ≡ (y == x)
-same-sym x y = go (x == y) (y == x) (==-sym x y) (==-sym y x)
-  where
-    go : (a b : Bool) → (T a → T b) → (T b → T a) → a ≡ b
-    go true true f g = refl
-    go true false f g = absurd (f tt)
-    go false true f g = absurd (g tt)
-    go false false f g = refl
+same-sym x y = same-test (x == y) (y == x) (==-sym x y) (==-sym y x)
 
 there : (l : List Name) (x : Name) → position l x < length l → member x l ≡ true
 there [] x h = absurd (not-suc-le-zero h)
@@ -58,39 +52,39 @@ row-missing rows x q =
 
 -- ---- a row more
 
-marks-last : (at : ℕ) (l : List Row) (r : Row)
-    → marksFrom (λ r. r .name) rowText at (l ++ (r ∷ [])) ≡ marksFrom (λ r. r .name) rowText at l ++ (mark (r .name) (at + length (joined rowText l)) ∷ [])
-marks-last at [] r = ap (λ (n : ℕ). mark (r .name) n ∷ []) (omega arith)
-marks-last at (a ∷ l) r =
-    ap (λ (m : List ℕ). mark (a .name) at ∷ m)
-    (marks-last (at + length (rowText a)) l r
-    ∙ ap (λ (n : ℕ). marksFrom (λ r. r .name) rowText (at + length (rowText a)) l ++ (mark (r .name) n ∷ [])) (omega (arith, length-append (rowText a) (joined rowText l))))
+slots-last : (at : ℕ) (l : List Row) (r : Row)
+    → slotsFrom (λ r. r .name) rowText at (l ++ (r ∷ [])) ≡ slotsFrom (λ r. r .name) rowText at l ++ (slot (r .name) (at + length (joined rowText l)) ∷ [])
+slots-last at [] r = ap (λ (n : ℕ). slot (r .name) n ∷ []) (omega arith)
+slots-last at (a ∷ l) r =
+    ap (λ (m : List ℕ). slot (a .name) at ∷ m)
+    (slots-last (at + length (rowText a)) l r
+    ∙ ap (λ (n : ℕ). slotsFrom (λ r. r .name) rowText (at + length (rowText a)) l ++ (slot (r .name) n ∷ [])) (omega (arith, length-append (rowText a) (joined rowText l))))
 
-module _ (rows : List Row) (t : Text) (count : ℕ) (marks : List ℕ) (H : Rows rows t count marks) where
-  pub row-added : (r : Row) → T (isName (r .name)) → count < length marks → length t + length (rowText r) ≤ 65536
-      → Rows (rows ++ (r ∷ [])) (t ++ rowText r) (count + 1) (set marks count (mark (r .name) (length t)))
+module _ (rows : List Row) (t : Text) (count : ℕ) (slots : List ℕ) (H : Rows rows t count slots) where
+  pub row-added : (r : Row) → T (isName (r .name)) → count < length slots → length t + length (rowText r) ≤ 65536
+      → Rows (rows ++ (r ∷ [])) (t ++ rowText r) (count + 1) (set slots count (slot (r .name) (length t)))
   row-added r n c l = record {
     is-text =
         ap (λ (u : Text). u ++ rowText r) (H .is-text)
         ∙ sym (joined-append rowText rows (r ∷ []) ∙ ap (λ (u : Text). joined rowText rows ++ u) (append-nil (rowText r)));
     counted = omega (arith, H .counted, length-append rows (r ∷ []));
-    marked =
-        rw (add-one) (take-suc-set marks count (mark (r .name) (length t)) c)
-        ∙ ap (λ (m : List ℕ). m ++ (mark (r .name) (length t) ∷ [])) (H .marked)
-        ∙ ap (λ (n : ℕ). marksFrom (λ r. r .name) rowText 0 rows ++ (mark (r .name) n ∷ [])) (ap length (H .is-text))
-        ∙ sym (marks-last 0 rows r ∙ ap (λ (n : ℕ). marksFrom (λ r. r .name) rowText 0 rows ++ (mark (r .name) n ∷ [])) (omega arith));
+    indexed =
+        rw (add-one) (take-suc-set slots count (slot (r .name) (length t)) c)
+        ∙ ap (λ (m : List ℕ). m ++ (slot (r .name) (length t) ∷ [])) (H .indexed)
+        ∙ ap (λ (n : ℕ). slotsFrom (λ r. r .name) rowText 0 rows ++ (slot (r .name) n ∷ [])) (ap length (H .is-text))
+        ∙ sym (slots-last 0 rows r ∙ ap (λ (n : ℕ). slotsFrom (λ r. r .name) rowText 0 rows ++ (slot (r .name) n ∷ [])) (omega arith));
     named = all-append (λ (r : Row). isName (r .name)) rows (r ∷ []) (H .named) (and (isName (r .name)) true n tt);
     small = omega (arith, length-append t (rowText r));
   }
 
-  -- the marks that count
-  pub marks-part : Rows rows t count (take (count - 0) (drop 0 marks))
-  marks-part =
+  -- the slots that count
+  pub slots-part : Rows rows t count (take (count - 0) (drop 0 slots))
+  slots-part =
       let e : count - 0 ≡ count = omega arith in
       record {
         is-text = H .is-text;
         counted = H .counted;
-        marked = ap (λ (n : ℕ). take count (take n marks)) e ∙ take-take count count marks (omega arith) ∙ H .marked;
+        indexed = ap (λ (n : ℕ). take count (take n slots)) e ∙ take-take count count slots (omega arith) ∙ H .indexed;
         named = H .named;
         small = H .small;
       }

@@ -13,7 +13,7 @@ use Rattle.language.specs.State as S
 use Rattle.language.specs.State.{Field, Element, Value, Variable, valueIn}
 use Rattle.language.specs.Values.{Session, isDefined, lookup, asFields, asString, asElement, textOf, operandValue, fieldValue, value}
 use Rattle.language.specs.Commands.{withLocals, replaced}
-use Rattle.language.proofs.Logic.Tests.{==→≡, ==-refl}
+use Rattle.language.proofs.Logic.Tests.{==→≡, ==-refl, false-of}
 use Rattle.syntax.proofs.Reading.{no-some}
 
 -- ---- the value of a name
@@ -23,11 +23,7 @@ last-first [] w x h = refl
 last-first (v ∷ l) w x h = go (v .name == w .name) refl h (last-first l w x)
   where
     absent : (v .name == w .name) ≡ false → v .name ≡ x → (w .name == x) ≡ false
-    absent e q = no (w .name == x) (λ t. subst T (sym (ap (λ (y : Name). v .name == y) (==→≡ (w .name) x t ∙ sym q)) ∙ e) (==-refl (v .name)))
-      where
-        no : (c : Bool) → (T c → ⊥) → c ≡ false
-        no true k = absurd (k tt)
-        no false k = refl
+    absent e q = false-of (w .name == x) (λ t. subst T (sym (ap (λ (y : Name). v .name == y) (==→≡ (w .name) x t ∙ sym q)) ∙ e) (==-refl (v .name)))
 
     inner : (c : Bool) → (v .name == x) ≡ c → (v .name == w .name) ≡ false → valueIn (l ++ (w ∷ [])) x ≡ valueIn (w ∷ l) x
         → (if c then some (v .value) else valueIn (l ++ (w ∷ [])) x) ≡ (if w .name == x then some (w .value) else if c then some (v .value) else valueIn l x)

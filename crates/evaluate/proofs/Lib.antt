@@ -11,4 +11,3 @@ pub mod Expressions
 pub mod LastLocal
 pub mod Permission
 pub mod Readers
-pub mod Fresh

@@ -16,26 +16,26 @@ use Rattle.language.specs.Values.{Session}
 use Rattle.language.specs.Chains.{has}
 use Rattle.language.proofs.StateText.Names.{valued-is}
 use Rattle.store.specs.Rows.{variableRow, place}
-use Rattle.store.specs.declared.mark.Found.the-variants.{At, Missing}
+use Rattle.store.specs.declared.index.Found.the-variants.{At, Missing}
 use Rattle.store.proofs.Answers.{FoundVariable, variable-found, variable-missing}
-use Rattle.numbers.specs.Numbers.{code, people, variables, numbered, Asks}
-use Rattle.numbers.proofs.Few.{few-people, few-variables, few-assertions}
+use Rattle.named_rights.specs.Numbers.{code, principalsOf, variables, numbered, Asks}
+use Rattle.named_rights.proofs.Few.{few-names, few-variables, few-assertions}
 use Rattle.evaluate.specs.Permits.{Sends, allowedOn}
 
-module _ {s : Session} {shared : Text} {marks : List ℕ} {count : ℕ} {standing : List ℕ} {n m sender : ℕ} (W : Sends s shared marks count standing n m sender) where
+module _ {s : Session} {shared : Text} {slots : List ℕ} {count : ℕ} {assertions : List ℕ} {n m sender : ℕ} (W : Sends s shared slots count assertions n m sender) where
   -- the numbers fit
-  pub few-standing : n ≤ 2048
-  few-standing =
+  pub few-asserted : n ≤ 2048
+  few-asserted =
       let e : n ≡ length (s .store .assertions) =
-      sym (length-take-le n standing (W .standing-held .within)) ∙ ap length (W .standing-held .are) ∙ length-map (s .store .assertions) (numbered (people (s .store)) (variables (s .store))) in
+      sym (length-take-le n assertions (W .assertions-held .within)) ∙ ap length (W .assertions-held .are) ∙ length-map (s .store .assertions) (numbered (principalsOf (s .store)) (variables (s .store))) in
       omega (arith, few-assertions (s .store) (W .is-valid))
 
   pub few-principals : m ≤ 4096
-  few-principals = omega (arith, W .everyone, few-people (s .store) (W .is-valid))
+  few-principals = omega (arith, W .everyone, few-names (s .store) (W .is-valid))
 
   module _ (x : Name) (k b e : ℕ) (q : At k b e ≡ place (map variableRow (s .store .variables)) x) where
     F : FoundVariable (s .store .variables) shared x k b e
-    F = variable-found (s .store .variables) shared count marks (W .shared-held) x k b e q
+    F = variable-found (s .store .variables) shared count slots (W .shared-held) x k b e q
 
     pub number-fits : k < 65536
     number-fits = omega (arith, F .below, few-variables (s .store) (W .is-valid), length-map (s .store .variables) (λ (v : Variable). v .name))

@@ -15,6 +15,7 @@ use Rattle.syntax.specs.Values.{recordAt, withField}
 use Rattle.evaluate.specs.Results.{SomeRecord}
 use Rattle.evaluate.specs.Permits.{allowedOn, unread}
 use Rattle.evaluate.proofs.Fieldwise.{Next, next-field}
+use Rattle.language.proofs.Logic.Lists.{any-joined}
 
 -- ---- one name, and names in a row
 
@@ -30,20 +31,12 @@ one-name s x b e = go (isShared s x) (has (s .store) read x (s .sender)) refl �
     go true h q = two (has (s .store) read x (s .sender))
     go false h q = refl
 
-any-append : {A : Type 0} (f : A → Bool) (l m : List A) → any f (l ++ m) ≡ (any f l || any f m)
-any-append f [] m = refl
-any-append f (a ∷ l) m = go (f a) (any-append f l m)
-  where
-    go : (b : Bool) → any f (l ++ m) ≡ (any f l || any f m) → (b || any f (l ++ m)) ≡ ((b || any f l) || any f m)
-    go true h = refl
-    go false h = h
-
 reads-append : (s : Session) (xs ys : List Name) → reads s (xs ++ ys) ≡ reads s xs ++ reads s ys
 reads-append s [] ys = refl
 reads-append s (x ∷ xs) ys = ap (λ (l : List Need). need s (read ∷ []) x ++ l) (reads-append s xs ys) ∙ sym (append-assoc (need s (read ∷ []) x) (reads s xs) (reads s ys))
 
 unread-append : (s : Session) (xs ys : List Name) → unread s (xs ++ ys) ≡ (unread s xs || unread s ys)
-unread-append s xs ys = ap (any (λ n. not (met s n))) (reads-append s xs ys) ∙ any-append (λ n. not (met s n)) (reads s xs) (reads s ys)
+unread-append s xs ys = ap (any (λ n. not (met s n))) (reads-append s xs ys) ∙ any-joined (λ n. not (met s n)) (reads s xs) (reads s ys)
 
 -- ---- fields
 

@@ -25,8 +25,8 @@ use Rattle.evaluate.proofs.Drafting.{sum-last}
 use Rattle.evaluate.proofs.Spelling.{roomOf, record-room}
 use Rattle.evaluate.proofs.Fieldwise.{finish, Going, Next, next-field, not-added, Further, was-added, all-read}
 
-pub going-start : (s : Session) (t : Text) (at : ℕ) (out : Text) (marks : List ℕ) (d : Draft) → SomeRecord t at → length t ≤ 16384 → Drafted [] out marks d → Going s t at at out marks d
-going-start s t at out marks d R l D = record {
+pub going-start : (s : Session) (t : Text) (at : ℕ) (out : Text) (slots : List ℕ) (d : Draft) → SomeRecord t at → length t ≤ 16384 → Drafted [] out slots d → Going s t at at out slots d
+going-start s t at out slots d R l D = record {
   written = [];
   drafted = D;
   rest = R .bindings;
@@ -38,14 +38,14 @@ going-start s t at out marks d R l D = record {
 }
 
 -- all fields are written
-pub record Whole (o : Option Value) (out : Text) (marks : List ℕ) (d : Draft) : Type 0 where
+pub record Whole (o : Option Value) (out : Text) (slots : List ℕ) (d : Draft) : Type 0 where
   pub written : List Field
-  pub drafted : Drafted written out marks d
+  pub drafted : Drafted written out slots d
   pub some-field : 0 < length written
   pub is-value : o ≡ some (single (fields written))
 
 -- the field b at p, and the place n past it
-module _ (s : Session) (t : Text) (at p : ℕ) (out : Text) (marks : List ℕ) (d : Draft) (G : Going s t at p out marks d)
+module _ (s : Session) (t : Text) (at p : ℕ) (out : Text) (slots : List ℕ) (d : Draft) (G : Going s t at p out slots d)
     (b : Binding) (more : Bool) (n : ℕ) (e : withField t b more n ≡ recordAt t p) where
   N : Next t b more n (G .rest) (G .others)
   N = next-field t b more n (G .rest) (G .others) (e ∙ G .here)
@@ -59,7 +59,7 @@ module _ (s : Session) (t : Text) (at p : ℕ) (out : Text) (marks : List ℕ) (
   pub label-room : spelling (G .written) + length (b .label) + 3 ≤ 16384
   label-room = omega (arith, G .room, ap roomOf (N .is-rest))
 
-  pub some-draft : SomeDraft out marks d (b .label)
+  pub some-draft : SomeDraft out slots d (b .label)
   some-draft = record {
     fields-written = G .written;
     drafted = G .drafted;
@@ -70,13 +70,13 @@ module _ (s : Session) (t : Text) (at p : ℕ) (out : Text) (marks : List ℕ) (
   rest-is : finish s [] (recordAt t at) ≡ finish s (G .written) (some (b ∷ N .after, G .others))
   rest-is = G .total ∙ ap (finish s (G .written)) (G .here) ∙ ap (λ (l : List Binding). finish s (G .written) (some (l, G .others))) (N .is-rest)
 
-  module _ (out′ : Text) (marks′ : List ℕ) where
-    pub ends : Extends (G .written) (b .label) (stringIn (operandValue s (b .operand))) Is.No out′ marks′ → finish s [] (recordAt t at) ≡ none
-    ends x = rest-is ∙ not-added s (G .written) b (N .after) (G .others) out′ marks′ x
+  module _ (out′ : Text) (slots′ : List ℕ) where
+    pub ends : Extends (G .written) (b .label) (stringIn (operandValue s (b .operand))) Is.No out′ slots′ → finish s [] (recordAt t at) ≡ none
+    ends x = rest-is ∙ not-added s (G .written) b (N .after) (G .others) out′ slots′ x
 
-    module _ (d′ : Draft) (x : Extends (G .written) (b .label) (stringIn (operandValue s (b .operand))) (Is.Done d′) out′ marks′) where
-      F : Further s (G .written) b (N .after) (G .others) out′ marks′ d′
-      F = was-added s (G .written) b (N .after) (G .others) out′ marks′ d′ x
+    module _ (d′ : Draft) (x : Extends (G .written) (b .label) (stringIn (operandValue s (b .operand))) (Is.Done d′) out′ slots′) where
+      F : Further s (G .written) b (N .after) (G .others) out′ slots′ d′
+      F = was-added s (G .written) b (N .after) (G .others) out′ slots′ d′ x
 
       now-written : List Field
       now-written = G .written ++ (record { label = b .label; text = F .text } ∷ [])
@@ -85,7 +85,7 @@ module _ (s : Session) (t : Text) (at p : ℕ) (out : Text) (marks : List ℕ) (
       unfolding now-written
       spelling-is = sum-last (λ (f : Field). length (f .label) + 3) (G .written) (record { label = b .label; text = F .text })
 
-      pub goes-on : more ≡ true → Going s t at n out′ marks′ d′
+      pub goes-on : more ≡ true → Going s t at n out′ slots′ d′
       unfolding now-written
       goes-on m = record {
         written = now-written;
@@ -98,7 +98,7 @@ module _ (s : Session) (t : Text) (at p : ℕ) (out : Text) (marks : List ℕ) (
         are-valid = head-valid .1;
       }
 
-      pub is-whole : more ≡ false → Whole (finish s [] (recordAt t at)) out′ marks′ d′
+      pub is-whole : more ≡ false → Whole (finish s [] (recordAt t at)) out′ slots′ d′
       unfolding now-written
       is-whole m = record {
         written = now-written;

@@ -1,4 +1,4 @@
--- A record that is written field by field. Its fields are rows of text with marks, so that a label is looked for as a name is.
+-- A record that is written field by field. Its fields are rows of text with slots, so that a label is looked for as a name is.
 use mathlib.Core.Path.{_≡_}
 use Prim.Native.Nat.{ℕ, _+_, _*_, _≤_}
 use mathlib.Core.Option.{Option, none, some}
@@ -13,7 +13,7 @@ use Rattle.language.specs.State.{Field, fields}
 use Rattle.language.specs.Weight.{limit, elementWeight}
 use Rattle.language.specs.Encode.{elementText}
 use Rattle.language.specs.Valid.{validField}
-use Rattle.store.specs.Held.{part}
+use Rattle.text.specs.Parts.{part}
 use Rattle.store.specs.Rows.{Row, Rows, rowNames}
 use Rattle.evaluate.specs.declared.draft.Draft.{Draft}
 use Rattle.evaluate.specs.declared.draft.Added.{Added}
@@ -27,9 +27,9 @@ abbrev pub spelling : List Field → ℕ
 spelling fs = sum (λ f. length (f .label) + 3) fs
 
 -- the fields fs are written: past the record's first line each has a row with its label, and while they are light the rows are their text
-pub record Drafted (fs : List Field) (out : Text) (marks : List ℕ) (d : Draft) : Type 0 where
+pub record Drafted (fs : List Field) (out : Text) (slots : List ℕ) (d : Draft) : Type 0 where
   pub rows : List Row
-  pub held : Rows rows (part out 2 (d .end)) (d .count) marks
+  pub held : Rows rows (part out 2 (d .end)) (d .count) slots
   pub named : rowNames rows ≡ labels fs
   pub are-valid : T (all validField fs)
   pub are-distinct : T (distinct (labels fs))
@@ -43,20 +43,20 @@ pub record Drafted (fs : List Field) (out : Text) (marks : List ℕ) (d : Draft)
   pub heavy : d .weight ≤ 65536 * spelling fs
 
 -- some fields are written, and the program has room for one of that label more
-pub record SomeDraft (out : Text) (marks : List ℕ) (d : Draft) (label : Name) : Type 0 where
+pub record SomeDraft (out : Text) (slots : List ℕ) (d : Draft) (label : Name) : Type 0 where
   pub fields-written : List Field
-  pub drafted : Drafted fields-written out marks d
+  pub drafted : Drafted fields-written out slots d
   pub room : spelling fields-written + length label + 3 ≤ longest
   pub is-name : T (isName label)
 
 -- what was lent
-pub record Lent (out : Text) (marks : List ℕ) : Type 0 where
+pub record Lent (out : Text) (slots : List ℕ) : Type 0 where
   pub out-size : 32768 ≤ length out
-  pub marks-size : 4096 ≤ length marks
+  pub slots-size : 4096 ≤ length slots
 
 -- what becomes of the fields fs when one is added, whose text is o where it has one
 abbrev pub Extends : List Field → Name → Option Text → Added → Text → List ℕ → Type 0
-Extends fs x (some t) (Is.Done d) out marks = Drafted (fs ++ (record { label = x; text = t } ∷ [])) out marks d
-Extends fs x (some t) Is.No out marks = T (member x (labels fs))
-Extends fs x none (Is.Done d) out marks = ⊥
-Extends fs x none Is.No out marks = Unit {0}
+Extends fs x (some t) (Is.Done d) out slots = Drafted (fs ++ (record { label = x; text = t } ∷ [])) out slots d
+Extends fs x (some t) Is.No out slots = T (member x (labels fs))
+Extends fs x none (Is.Done d) out slots = ⊥
+Extends fs x none Is.No out slots = Unit {0}

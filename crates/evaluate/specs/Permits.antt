@@ -13,21 +13,21 @@ use Rattle.language.specs.Valid.{validStore}
 use Rattle.language.specs.Commands.{met, reads}
 use Rattle.store.specs.Held.{Variables}
 use Rattle.store.specs.Rows.{position}
-use Rattle.numbers.specs.Numbers as Numbers
+use Rattle.named_rights.specs.Numbers as Numbers
 
--- the shared variables' text, the standing assertions as numbers, how many principals there are and the number of the sender are those of
+-- the shared variables' text, the assertions that stand as numbers, how many principals there are and the number of the sender are those of
 -- the session s, whose store is valid
-pub record Sends (s : Session) (shared : Text) (marks : List ℕ) (count : ℕ) (standing : List ℕ) (n people sender : ℕ) : Type 0 where
-  pub shared-held : Variables (s .store .variables) shared count marks
-  pub standing-held : Numbers.Standing (s .store) n standing
-  pub everyone : people ≡ length (Numbers.people (s .store))
-  pub sender-known : T (member (s .sender) (Numbers.people (s .store)))
-  pub sender-is : sender ≡ position (Numbers.people (s .store)) (s .sender)
+pub record Sends (s : Session) (shared : Text) (slots : List ℕ) (count : ℕ) (assertions : List ℕ) (n principals sender : ℕ) : Type 0 where
+  pub shared-held : Variables (s .store .variables) shared count slots
+  pub assertions-held : Numbers.Standing (s .store) n assertions
+  pub everyone : principals ≡ length (Numbers.principalsOf (s .store))
+  pub sender-known : T (member (s .sender) (Numbers.principalsOf (s .store)))
+  pub sender-is : sender ≡ position (Numbers.principalsOf (s .store)) (s .sender)
   pub is-valid : T (validStore (s .store))
 
-pub record SomeSender (shared : Text) (marks : List ℕ) (count : ℕ) (standing : List ℕ) (n people sender : ℕ) : Type 0 where
+pub record SomeSender (shared : Text) (slots : List ℕ) (count : ℕ) (assertions : List ℕ) (n principals sender : ℕ) : Type 0 where
   pub session : Session
-  pub sends : Sends session shared marks count standing n people sender
+  pub sends : Sends session shared slots count assertions n principals sender
 
 -- the sender has the right r on x, or x is no shared variable and asks for none
 abbrev pub allowedOn : Session → Right → Name → Bool

@@ -11,17 +11,17 @@ use Rattle.language.specs.Valid.{validVariable}
 use Rattle.store.specs.Held.{Variables}
 use Rattle.values.specs.Encoding.{Holds}
 
--- `shared` and `locals`, with their marks, hold the variables of the session s, all of them valid
-pub record Scope (s : Session) (shared : Text) (marks : List ℕ) (count : ℕ) (locals : Text) (lmarks : List ℕ) (lcount : ℕ) : Type 0 where
-  pub shared-held : Variables (s .store .variables) shared count marks
-  pub locals-held : Variables (s .locals) locals lcount lmarks
+-- `shared` and `locals`, with their slots, hold the variables of the session s, all of them valid
+pub record Scope (s : Session) (shared : Text) (slots : List ℕ) (count : ℕ) (locals : Text) (lslots : List ℕ) (lcount : ℕ) : Type 0 where
+  pub shared-held : Variables (s .store .variables) shared count slots
+  pub locals-held : Variables (s .locals) locals lcount lslots
   pub shared-valid : T (all validVariable (s .store .variables))
   pub locals-valid : T (all validVariable (s .locals))
 
 -- those of some session
-pub record SomeScope (shared : Text) (marks : List ℕ) (count : ℕ) (locals : Text) (lmarks : List ℕ) (lcount : ℕ) : Type 0 where
+pub record SomeScope (shared : Text) (slots : List ℕ) (count : ℕ) (locals : Text) (lslots : List ℕ) (lcount : ℕ) : Type 0 where
   pub session : Session
-  pub scope : Scope session shared marks count locals lmarks lcount
+  pub scope : Scope session shared slots count locals lslots lcount
 
 -- t is what reading a name gives: the text of its value, or nothing where it has none
 abbrev pub ReadAs : Option Value → Text → Type 0

@@ -1,5 +1,5 @@
-// A record that is written field by field, with a mark for each label.
-use store::mark::Found as Label;
+// A record that is written field by field, with a slot for each label.
+use store::index::Found as Label;
 use values::Found;
 ghost use mathlib.Core.Path.{_≡_};
 ghost use mathlib.Core.Bool.{not};
@@ -12,7 +12,7 @@ ghost use Rattle.language.specs.Text.{member};
 ghost use Rattle.language.specs.Programs.{longest};
 ghost use Rattle.language.specs.State.{Field};
 ghost use Rattle.language.specs.Identifiers.{isString};
-ghost use Rattle.store.specs.Held.{mark};
+ghost use Rattle.store.specs.Held.{slot};
 ghost use Rattle.store.specs.Rows.{Row, Rows, SomeRows, rowNames};
 ghost use Rattle.values.specs.Writing.{Written};
 ghost use Rattle.values.specs.Answers.{textAt, Placed};
@@ -32,9 +32,9 @@ pub enum Added {
 }
 
 // A record without fields.
-pub fn start(out: &mut [u8], marks: &[u32]) -> Draft
-    requires { ⌜ Lent (now out) (now marks) ⌝ }
-    ensures { λ r. ⌜ Drafted [] (now (out .exit)) (now (marks .entry)) r ⌝ }
+pub fn start(out: &mut [u8], slots: &[u32]) -> Draft
+    requires { ⌜ Lent (now out) (now slots) ⌝ }
+    ensures { λ r. ⌜ Drafted [] (now (out .exit)) (now (slots .entry)) r ⌝ }
 {
     let end = values::put_record(out, 0);
     Draft {
@@ -55,11 +55,11 @@ fn put_label(out: &mut [u8], at: usize, label: &[u8]) -> usize
 }
 
 // Whether no row has that label.
-fn is_new(rows: &[u8], marks: &[u32], count: usize, label: &[u8]) -> bool
-    requires { ⌜ SomeRows (now rows) count (now marks) ⌝ }
-    ensures { λ r. ⌜ ((l : List Row) → Rows l (now (rows .entry)) count (now (marks .entry)) → r ≡ not (member (now (label .entry)) (rowNames l))) ⌝ }
+fn is_new(rows: &[u8], slots: &[u32], count: usize, label: &[u8]) -> bool
+    requires { ⌜ SomeRows (now rows) count (now slots) ⌝ }
+    ensures { λ r. ⌜ ((l : List Row) → Rows l (now (rows .entry)) count (now (slots .entry)) → r ≡ not (member (now (label .entry)) (rowNames l))) ⌝ }
 {
-    let found = store::mark::find(rows, marks, count, label);
+    let found = store::index::find(rows, slots, count, label);
     match found {
         Label::At {
             number: _,
@@ -70,27 +70,27 @@ fn is_new(rows: &[u8], marks: &[u32], count: usize, label: &[u8]) -> bool
     }
 }
 
-// The mark of a row that starts at a place.
-fn mark_of(label: &[u8], at: usize) -> u32
+// The slot of a row that starts at a place.
+fn slot_of(label: &[u8], at: usize) -> u32
     requires { ⌜ at < 65536 ⌝ }
-    ensures { λ r. ⌜ r ≡ mark (now (label .entry)) at ⌝ }
+    ensures { λ r. ⌜ r ≡ slot (now (label .entry)) at ⌝ }
 {
-    store::mark::print(label) * 65536 + at as u32
+    store::index::hash(label) * 65536 + at as u32
 }
 
 // Adds a field, unless its label is there already.
-pub fn add(out: &mut [u8], marks: &mut [u32], d: Draft, label: &[u8], text: &[u8]) -> Added
-    requires { ⌜ Lent (now out) (now marks) × SomeDraft (now out) (now marks) d (now label) ⌝ }
+pub fn add(out: &mut [u8], slots: &mut [u32], d: Draft, label: &[u8], text: &[u8]) -> Added
+    requires { ⌜ Lent (now out) (now slots) × SomeDraft (now out) (now slots) d (now label) ⌝ }
     requires { ⌜ T (isString (now text)) × (length (now text) ≤ 65536) ⌝ }
-    ensures { λ r. ⌜ ((fs : List Field) → Drafted fs (now (out .entry)) (now (marks .entry)) d → spelling fs + length (now (label .entry)) + 3 ≤ longest
-        → Extends fs (now (label .entry)) (some (now (text .entry))) r (now (out .exit)) (now (marks .exit))) ⌝ }
+    ensures { λ r. ⌜ ((fs : List Field) → Drafted fs (now (out .entry)) (now (slots .entry)) d → spelling fs + length (now (label .entry)) + 3 ≤ longest
+        → Extends fs (now (label .entry)) (some (now (text .entry))) r (now (out .exit)) (now (slots .exit))) ⌝ }
 {
     let end = d.end;
     let count = d.count;
-    if !is_new(&out[2..end], &marks[0..count], count, label) {
+    if !is_new(&out[2..end], &slots[0..count], count, label) {
         return Added::No;
     }
-    marks[count] = mark_of(label, end - 2);
+    slots[count] = slot_of(label, end - 2);
     let weight = d.weight + 1 + label.len() + text.len();
     if 8192 < weight {
         let next = put_label(out, end, label);
@@ -111,22 +111,22 @@ pub fn add(out: &mut [u8], marks: &mut [u32], d: Draft, label: &[u8], text: &[u8
 // Adds a field whose text was found in a value, or was not.
 pub fn add_found(
     out: &mut [u8],
-    marks: &mut [u32],
+    slots: &mut [u32],
     d: Draft,
     label: &[u8],
     value: &[u8],
     found: Found,
 ) -> Added
-    requires { ⌜ Lent (now out) (now marks) × SomeDraft (now out) (now marks) d (now label) ⌝ }
+    requires { ⌜ Lent (now out) (now slots) × SomeDraft (now out) (now slots) d (now label) ⌝ }
     requires { ⌜ Placed (now value) found × MaybeString (textAt (now value) found) × (length (now value) ≤ 65536) ⌝ }
-    ensures { λ r. ⌜ ((fs : List Field) → Drafted fs (now (out .entry)) (now (marks .entry)) d → spelling fs + length (now (label .entry)) + 3 ≤ longest
-        → Extends fs (now (label .entry)) (textAt (now (value .entry)) found) r (now (out .exit)) (now (marks .exit))) ⌝ }
+    ensures { λ r. ⌜ ((fs : List Field) → Drafted fs (now (out .entry)) (now (slots .entry)) d → spelling fs + length (now (label .entry)) + 3 ≤ longest
+        → Extends fs (now (label .entry)) (textAt (now (value .entry)) found) r (now (out .exit)) (now (slots .exit))) ⌝ }
 {
     match found {
         Found::At(s) => {
             let a = s.start;
             let b = s.end;
-            add(out, marks, d, label, &value[a..b])
+            add(out, slots, d, label, &value[a..b])
         }
         Found::Missing => Added::No,
     }

@@ -31,36 +31,36 @@ fn put_empty(out: &mut [u8]) -> Evaluated
 }
 
 // The value of the expression that the program's text says at the places e, written from the start of `out` on; whatever the rights.
-// `labels` is room for the marks of a record's labels.
+// `labels` is room for the slots of a record's labels.
 pub fn value<'a>(
     shared: &'a [u8],
-    marks: &[u32],
+    slots: &[u32],
     count: usize,
     locals: &'a [u8],
-    lmarks: &[u32],
+    lslots: &[u32],
     lcount: usize,
     text: &[u8],
     e: Expr,
     out: &mut [u8],
     labels: &mut [u32],
 ) -> Evaluated
-    requires { ⌜ SomeScope (now shared) (now marks) count (now locals) (now lmarks) lcount ⌝ }
+    requires { ⌜ SomeScope (now shared) (now slots) count (now locals) (now lslots) lcount ⌝ }
     requires { ⌜ SomeExpr (now text) e × (length (now text) ≤ longest) ⌝ }
     requires { ⌜ Lent (now out) (now labels) ⌝ }
-    ensures { λ r. ⌜ ((s : Values.Session) (x : Syntax.Expr) → Scope s (now (shared .entry)) (now (marks .entry)) count (now (locals .entry)) (now (lmarks .entry)) lcount
+    ensures { λ r. ⌜ ((s : Values.Session) (x : Syntax.Expr) → Scope s (now (shared .entry)) (now (slots .entry)) count (now (locals .entry)) (now (lslots .entry)) lcount
         → exprMeant (now (text .entry)) e ≡ some x → Valued r (Values.value s x) (now (out .exit))) ⌝ }
 {
     match e {
         Expr::Single(v) => {
-            operand::put_operand(shared, marks, count, locals, lmarks, lcount, text, v, out)
+            operand::put_operand(shared, slots, count, locals, lslots, lcount, text, v, out)
         }
         Expr::Empty => put_empty(out),
         Expr::Record(at) => record::put_fields(
             shared,
-            marks,
+            slots,
             count,
             locals,
-            lmarks,
+            lslots,
             lcount,
             text,
             at,

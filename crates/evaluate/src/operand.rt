@@ -87,19 +87,19 @@ fn put_found(value: &[u8], found: Found, out: &mut [u8]) -> Evaluated
 // Writes the value of an operand.
 pub fn put_operand<'a>(
     shared: &'a [u8],
-    marks: &[u32],
+    slots: &[u32],
     count: usize,
     locals: &'a [u8],
-    lmarks: &[u32],
+    lslots: &[u32],
     lcount: usize,
     text: &[u8],
     v: Operand,
     out: &mut [u8],
 ) -> Evaluated
-    requires { ⌜ SomeScope (now shared) (now marks) count (now locals) (now lmarks) lcount ⌝ }
+    requires { ⌜ SomeScope (now shared) (now slots) count (now locals) (now lslots) lcount ⌝ }
     requires { ⌜ OperandWithin (now text) v × T (validOperand (operandMeant (now text) v)) ⌝ }
     requires { ⌜ 32768 ≤ length (now out) ⌝ }
-    ensures { λ r. ⌜ ((s : Session) → Scope s (now (shared .entry)) (now (marks .entry)) count (now (locals .entry)) (now (lmarks .entry)) lcount
+    ensures { λ r. ⌜ ((s : Session) → Scope s (now (shared .entry)) (now (slots .entry)) count (now (locals .entry)) (now (lslots .entry)) lcount
         → Valued r (operandValue s (operandMeant (now (text .entry)) v)) (now (out .exit))) ⌝ }
 {
     match v {
@@ -108,10 +108,10 @@ pub fn put_operand<'a>(
             let b = x.end;
             let value = store::content::read(
                 shared,
-                marks,
+                slots,
                 count,
                 locals,
-                lmarks,
+                lslots,
                 lcount,
                 &text[a..b],
             );
@@ -122,10 +122,10 @@ pub fn put_operand<'a>(
             let b = x.end;
             let value = store::content::read(
                 shared,
-                marks,
+                slots,
                 count,
                 locals,
-                lmarks,
+                lslots,
                 lcount,
                 &text[a..b],
             );

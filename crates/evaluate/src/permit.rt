@@ -1,5 +1,5 @@
 // Whether the sender of a program may do something with a name, and may read all that an expression evaluates.
-use store::mark::Found;
+use store::index::Found;
 use syntax::value::Expr;
 use syntax::value::FieldRead;
 use syntax::value::Operand;
@@ -12,33 +12,33 @@ ghost use Rattle.language.specs.Syntax.{Right, Binding};
 ghost use Rattle.language.specs.Syntax as Syntax;
 ghost use Rattle.language.specs.Values.{Session, operandNames, bindingNames, names};
 ghost use Rattle.syntax.specs.Values.{operandMeant, OperandWithin, recordAt, exprMeant};
-ghost use Rattle.numbers.specs.Numbers.{code};
+ghost use Rattle.named_rights.specs.Numbers.{code};
 ghost use Rattle.evaluate.specs.Results.{SomeExpr, SomeRecord};
 ghost use Rattle.evaluate.specs.Permits.{Sends, SomeSender, allowedOn, unread};
 
 // Whether the sender may do to `name` what the right allows. A name that is no shared variable asks for no right.
 pub fn allowed(
     shared: &[u8],
-    marks: &[u32],
+    slots: &[u32],
     count: usize,
-    standing: &[u64],
+    assertions: &[u64],
     n: usize,
-    people: usize,
+    principals: usize,
     sender: usize,
     name: &[u8],
     right: u16,
 ) -> bool
-    requires { ⌜ SomeSender (now shared) (now marks) count (now standing) n people sender ⌝ }
-    ensures { λ b. ⌜ ((s : Session) (r : Right) → Sends s (now (shared .entry)) (now (marks .entry)) count (now (standing .entry)) n people sender
+    requires { ⌜ SomeSender (now shared) (now slots) count (now assertions) n principals sender ⌝ }
+    ensures { λ b. ⌜ ((s : Session) (r : Right) → Sends s (now (shared .entry)) (now (slots .entry)) count (now (assertions .entry)) n principals sender
         → right ≡ code r → b ≡ allowedOn s r (now (name .entry))) ⌝ }
 {
-    let found = store::mark::find(shared, marks, count, name);
+    let found = store::index::find(shared, slots, count, name);
     match found {
         Found::At {
             number,
             start: _,
             end: _,
-        } => numbers::may(standing, n, people, number, right, sender),
+        } => named_rights::may(assertions, n, principals, number, right, sender),
         Found::Missing => true,
     }
 }
@@ -46,17 +46,17 @@ pub fn allowed(
 // Whether the sender may read the name that an operand evaluates.
 fn operand_readable(
     shared: &[u8],
-    marks: &[u32],
+    slots: &[u32],
     count: usize,
-    standing: &[u64],
+    assertions: &[u64],
     n: usize,
-    people: usize,
+    principals: usize,
     sender: usize,
     text: &[u8],
     v: Operand,
 ) -> bool
-    requires { ⌜ SomeSender (now shared) (now marks) count (now standing) n people sender × OperandWithin (now text) v ⌝ }
-    ensures { λ b. ⌜ ((s : Session) → Sends s (now (shared .entry)) (now (marks .entry)) count (now (standing .entry)) n people sender
+    requires { ⌜ SomeSender (now shared) (now slots) count (now assertions) n principals sender × OperandWithin (now text) v ⌝ }
+    ensures { λ b. ⌜ ((s : Session) → Sends s (now (shared .entry)) (now (slots .entry)) count (now (assertions .entry)) n principals sender
         → unread s (operandNames (operandMeant (now (text .entry)) v)) ≡ not b) ⌝ }
 {
     match v {
@@ -65,11 +65,11 @@ fn operand_readable(
             let b = x.end;
             allowed(
                 shared,
-                marks,
+                slots,
                 count,
-                standing,
+                assertions,
                 n,
-                people,
+                principals,
                 sender,
                 &text[a..b],
                 0,
@@ -80,11 +80,11 @@ fn operand_readable(
             let b = x.end;
             allowed(
                 shared,
-                marks,
+                slots,
                 count,
-                standing,
+                assertions,
                 n,
-                people,
+                principals,
                 sender,
                 &text[a..b],
                 0,
@@ -97,17 +97,17 @@ fn operand_readable(
 // Whether the sender may read all names that the fields evaluate which stand from `at` on.
 fn fields_readable(
     shared: &[u8],
-    marks: &[u32],
+    slots: &[u32],
     count: usize,
-    standing: &[u64],
+    assertions: &[u64],
     n: usize,
-    people: usize,
+    principals: usize,
     sender: usize,
     text: &[u8],
     at: usize,
 ) -> bool
-    requires { ⌜ SomeSender (now shared) (now marks) count (now standing) n people sender × SomeRecord (now text) at ⌝ }
-    ensures { λ b. ⌜ ((s : Session) (bs : List Binding) (us : List Token) → Sends s (now (shared .entry)) (now (marks .entry)) count (now (standing .entry)) n people sender
+    requires { ⌜ SomeSender (now shared) (now slots) count (now assertions) n principals sender × SomeRecord (now text) at ⌝ }
+    ensures { λ b. ⌜ ((s : Session) (bs : List Binding) (us : List Token) → Sends s (now (shared .entry)) (now (slots .entry)) count (now (assertions .entry)) n principals sender
         → recordAt (now (text .entry)) at ≡ some (bs, us) → unread s (bindingNames bs) ≡ not b) ⌝ }
 {
     let mut p = at;
@@ -116,7 +116,17 @@ fn fields_readable(
         let FieldRead::Found(_, v, more, next) = field else {
             return true;
         };
-        if !operand_readable(shared, marks, count, standing, n, people, sender, text, v) {
+        if !operand_readable(
+            shared,
+            slots,
+            count,
+            assertions,
+            n,
+            principals,
+            sender,
+            text,
+            v,
+        ) {
             return false;
         }
         if !more {
@@ -129,27 +139,27 @@ fn fields_readable(
 // Whether the sender may read all names that an expression evaluates.
 pub fn readable(
     shared: &[u8],
-    marks: &[u32],
+    slots: &[u32],
     count: usize,
-    standing: &[u64],
+    assertions: &[u64],
     n: usize,
-    people: usize,
+    principals: usize,
     sender: usize,
     text: &[u8],
     e: Expr,
 ) -> bool
-    requires { ⌜ SomeSender (now shared) (now marks) count (now standing) n people sender × SomeExpr (now text) e ⌝ }
-    ensures { λ b. ⌜ ((s : Session) (x : Syntax.Expr) → Sends s (now (shared .entry)) (now (marks .entry)) count (now (standing .entry)) n people sender
+    requires { ⌜ SomeSender (now shared) (now slots) count (now assertions) n principals sender × SomeExpr (now text) e ⌝ }
+    ensures { λ b. ⌜ ((s : Session) (x : Syntax.Expr) → Sends s (now (shared .entry)) (now (slots .entry)) count (now (assertions .entry)) n principals sender
         → exprMeant (now (text .entry)) e ≡ some x → unread s (names x) ≡ not b) ⌝ }
 {
     match e {
         Expr::Single(v) => operand_readable(
             shared,
-            marks,
+            slots,
             count,
-            standing,
+            assertions,
             n,
-            people,
+            principals,
             sender,
             text,
             v,
@@ -157,11 +167,11 @@ pub fn readable(
         Expr::Empty => true,
         Expr::Record(at) => fields_readable(
             shared,
-            marks,
+            slots,
             count,
-            standing,
+            assertions,
             n,
-            people,
+            principals,
             sender,
             text,
             at,

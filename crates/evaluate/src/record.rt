@@ -29,10 +29,10 @@ ghost use Rattle.evaluate.specs.Drafts.{Drafted, SomeDraft, Lent, Extend
 // Adds the field of a program's label and operand.
 fn add_field<'a>(
     shared: &'a [u8],
-    marks: &[u32],
+    slots: &[u32],
     count: usize,
     locals: &'a [u8],
-    lmarks: &[u32],
+    lslots: &[u32],
     lcount: usize,
     text: &[u8],
     x: Span,
@@ -41,10 +41,10 @@ fn add_field<'a>(
     labels: &mut [u32],
     d: Draft,
 ) -> Added
-    requires { ⌜ SomeScope (now shared) (now marks) count (now locals) (now lmarks) lcount ⌝ }
+    requires { ⌜ SomeScope (now shared) (now slots) count (now locals) (now lslots) lcount ⌝ }
     requires { ⌜ Within (now text) x × OperandWithin (now text) v × T (validOperand (operandMeant (now text) v)) × (length (now text) ≤ longest) ⌝ }
     requires { ⌜ Lent (now out) (now labels) × SomeDraft (now out) (now labels) d (part (now text) x) ⌝ }
-    ensures { λ r. ⌜ ((s : Session) (fs : List Field) → Scope s (now (shared .entry)) (now (marks .entry)) count (now (locals .entry)) (now (lmarks .entry)) lcount
+    ensures { λ r. ⌜ ((s : Session) (fs : List Field) → Scope s (now (shared .entry)) (now (slots .entry)) count (now (locals .entry)) (now (lslots .entry)) lcount
         → Drafted fs (now (out .entry)) (now (labels .entry)) d → spelling fs + length (part (now (text .entry)) x) + 3 ≤ longest
         → Extends fs (part (now (text .entry)) x) (stringIn (operandValue s (operandMeant (now (text .entry)) v))) r (now (out .exit)) (now (labels .exit))) ⌝ }
 {
@@ -56,10 +56,10 @@ fn add_field<'a>(
             let f = n.end;
             let value = store::content::read(
                 shared,
-                marks,
+                slots,
                 count,
                 locals,
-                lmarks,
+                lslots,
                 lcount,
                 &text[e..f],
             );
@@ -71,10 +71,10 @@ fn add_field<'a>(
             let f = n.end;
             let value = store::content::read(
                 shared,
-                marks,
+                slots,
                 count,
                 locals,
-                lmarks,
+                lslots,
                 lcount,
                 &text[e..f],
             );
@@ -93,7 +93,7 @@ fn add_field<'a>(
 
 // What a record is whose fields are all written.
 fn finished(d: Draft) -> Evaluated
-    ensures { λ r. ⌜ ((fs : List Field) (out : Text) (marks : List ℕ) → Drafted fs out marks d → 0 < length fs → Valued r (some (single (fields fs))) out) ⌝ }
+    ensures { λ r. ⌜ ((fs : List Field) (out : Text) (slots : List ℕ) → Drafted fs out slots d → 0 < length fs → Valued r (some (single (fields fs))) out) ⌝ }
 {
     let weight = d.weight;
     if 8192 < weight {
@@ -105,20 +105,20 @@ fn finished(d: Draft) -> Evaluated
 // Writes the value of the record whose fields stand from `at` on.
 pub fn put_fields<'a>(
     shared: &'a [u8],
-    marks: &[u32],
+    slots: &[u32],
     count: usize,
     locals: &'a [u8],
-    lmarks: &[u32],
+    lslots: &[u32],
     lcount: usize,
     text: &[u8],
     at: usize,
     out: &mut [u8],
     labels: &mut [u32],
 ) -> Evaluated
-    requires { ⌜ SomeScope (now shared) (now marks) count (now locals) (now lmarks) lcount ⌝ }
+    requires { ⌜ SomeScope (now shared) (now slots) count (now locals) (now lslots) lcount ⌝ }
     requires { ⌜ SomeRecord (now text) at × (length (now text) ≤ longest) ⌝ }
     requires { ⌜ Lent (now out) (now labels) ⌝ }
-    ensures { λ r. ⌜ ((s : Session) (bs : List Binding) (us : List Token) → Scope s (now (shared .entry)) (now (marks .entry)) count (now (locals .entry)) (now (lmarks .entry)) lcount
+    ensures { λ r. ⌜ ((s : Session) (bs : List Binding) (us : List Token) → Scope s (now (shared .entry)) (now (slots .entry)) count (now (locals .entry)) (now (lslots .entry)) lcount
         → recordAt (now (text .entry)) at ≡ some (bs, us) → Valued r (value s (Syntax.fields bs)) (now (out .exit))) ⌝ }
 {
     let mut d = crate::draft::start(out, labels);
@@ -130,10 +130,10 @@ pub fn put_fields<'a>(
         };
         let added = add_field(
             shared,
-            marks,
+            slots,
             count,
             locals,
-            lmarks,
+            lslots,
             lcount,
             text,
             x,

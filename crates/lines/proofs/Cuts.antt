@@ -14,9 +14,10 @@ use Rattle.language.specs.Bytes.{class, isLetter, wordByte}
 use Rattle.language.specs.Identifiers.{baseKeywords, isWord, isName}
 use borrow.Author.Tests.{lt-leb, le-leb}
 use Rattle.language.proofs.Logic.Tests.{both, and, true-of}
-use Rattle.language.proofs.StateText.Clean.{letter-word}
+use Rattle.language.proofs.StateText.Clean.{name-word}
 use Rattle.text.proofs.Runs.{take-run}
-use Rattle.lines.specs.Cuts.{part, Field}
+use Rattle.lines.specs.Cuts.{Field}
+use Rattle.text.specs.Parts.{part}
 
 -- a part, the byte after it, and the rest
 pub split : (t : Text) (at e : ℕ) → at ≤ e → e < length t → drop at t ≡ part t at e ++ getD t e 0 ∷ drop (e + 1) t
@@ -83,15 +84,6 @@ module _ (p : ℕ → Bool) where
             is-fine = subst (λ (l : Text). T (all p l)) (sym f) (front-all (drop at t));
             here = split t at e (omega arith) h ∙ ap (λ (b : ℕ). part t at e ++ b ∷ drop (e + 1) t) s;
           }
-
--- a name is a run of letters, digits and underscores
-pub name-word : (x : Text) → T (isName x) → T (all wordByte x)
-name-word [] h = tt
-name-word (b ∷ x) h =
-    let (h₁, h₂) = both (isWord (b ∷ x) && leb (length (b ∷ x)) 255) (not (member (b ∷ x) baseKeywords)) h in
-    let (w, l) = both (isWord (b ∷ x)) (leb (length (b ∷ x)) 255) h₁ in
-    let (w₁, w₂) = both (isLetter (class b)) (all wordByte x) w in
-    and (wordByte b) (all wordByte x) (letter-word (class b) w₁) w₂
 
 -- a field of a sort g whose texts are of an alphabet p, which the byte after it is not
 module _ (p : ℕ → Bool) (g : Text → Bool) (covers : (x : Text) → T (g x) → T (all p x)) (stop : ℕ) (outside : p stop ≡ false) (t : Text) (at e : ℕ) where

@@ -12,9 +12,10 @@ use lib.Seq.{drop-cons, length-take-le, getD-take, getD-drop}
 use borrow.Author.Tests.{le-ltb, lt-ltb, ltb-true, ltb-false, lt-leb}
 use Rattle.language.specs.Text.{Text, if_then_else_, all, digits, decimal}
 use Rattle.language.specs.Decode.{number}
-use Rattle.language.proofs.Logic.Tests.{both, and, all-append, true-of}
-use Rattle.language.proofs.StateText.Clean.{decimal-number, digits-length}
-use Rattle.lines.specs.Cuts.{isDigit, part, Field, Worth, Digits}
+use Rattle.language.proofs.Logic.Tests.{both, and, all-append, true-of, and-false}
+use Rattle.language.proofs.StateText.Clean.{decimal-number, digits-length, number-append}
+use Rattle.lines.specs.Cuts.{isDigit, Field, Worth, Digits}
+use Rattle.text.specs.Parts.{part}
 use Rattle.lines.proofs.Cuts.{unique}
 
 pub all-at : (p : ℕ → Bool) (w : Text) (i : ℕ) → i < length w → T (all p w) → T (p (getD w i 0))
@@ -33,10 +34,6 @@ range-digit b l u = and (leb 48 b) (leb b 57) (le→leb 48 b l) (le→leb b 57 u
 pub number-grows : (n : ℕ) (t : Text) → n ≤ number n t
 number-grows n [] = omega arith
 number-grows n (b ∷ t) = let h : n * 10 + (b - 48) ≤ number (n * 10 + (b - 48)) t = number-grows (n * 10 + (b - 48)) t in omega arith
-
-number-last : (a d : ℕ) (t : Text) → number a (t ++ d ∷ []) ≡ number a t * 10 + (d - 48)
-number-last a d [] = refl
-number-last a d (b ∷ t) = number-last (a * 10 + (b - 48)) d t
 
 pub number-step : (n : ℕ) (w : Text) (i : ℕ) → i < length w → number n (drop i w) ≡ number (n * 10 + (getD w i 0 - 48)) (drop (i + 1) w)
 number-step n w i h = rw (add-one, drop-cons w i 0 h)
@@ -160,7 +157,7 @@ digits-back (suc k) (b ∷ u) c l h f = go (cut-last b u) (λ v d l' h' f'. digi
         let ih' : digits k (number 0 w) ≡ w = ap (λ (y : Text). digits k (number 0 y)) e ∙ ih ∙ sym e in
         let (x, y) = digit-range c (ds .1) in
         let one : 1 ≤ number 0 w = positive b u (both (isDigit b) (all isDigit u) (ds .0) .0) not-zero in
-        step (number 0 (w ++ c ∷ [])) (number 0 w) (c - 48) (number-last 0 c w) (omega arith) one ih' (omega arith)
+        step (number 0 (w ++ c ∷ [])) (number 0 w) (c - 48) (number-append 0 c w) (omega arith) one ih' (omega arith)
 
 pub decimal-back : (w : Text) → T (all isDigit w) → Spelled w → decimal (number 0 w) ≡ w
 decimal-back [] h s = absurd (omega (arith, s .some))
@@ -176,11 +173,7 @@ pub digit-low : (b : ℕ) → b < 48 → isDigit b ≡ false
 digit-low b h = ap (λ (c : Bool). c && leb b 57) (lt-leb 48 b h)
 
 pub digit-high : (b : ℕ) → 57 < b → isDigit b ≡ false
-digit-high b h = ap (λ (c : Bool). leb 48 b && c) (lt-leb b 57 h) ∙ no (leb 48 b)
-  where
-    no : (c : Bool) → (c && false) ≡ false
-    no true = refl
-    no false = refl
+digit-high b h = ap (λ (c : Bool). leb 48 b && c) (lt-leb b 57 h) ∙ and-false (leb 48 b)
 
 pub digit-in : (b : ℕ) → 48 ≤ b → b ≤ 57 → isDigit b ≡ true
 digit-in b l u = true-of (isDigit b) (range-digit b l u)

@@ -12,10 +12,7 @@ use Rattle.lines.specs.declared.Cut.{Cut}
 use Rattle.lines.specs.declared.Cut.the-variants as Of
 use Rattle.lines.specs.declared.Number.{Number}
 use Rattle.lines.specs.declared.Number.the-variants as Counted
-
--- the bytes from place s up to place e, which `&text[s..e]` denotes
-abbrev pub part : Text → ℕ → ℕ → Text
-part t s e = take (e - s) (drop s t)
+use Rattle.text.specs.Parts.{part}
 
 -- at place `at` stands a field that passes the test; it ends at e, where the byte `stop` stands
 pub record Field (fine : Text → Bool) (stop : ℕ) (t : Text) (at e : ℕ) : Type 0 where

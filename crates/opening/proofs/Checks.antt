@@ -8,15 +8,11 @@ use Rattle.language.specs.Valid.{valid}
 use Rattle.language.proofs.StateText.RoundTrip.{decode-holds}
 use Rattle.validate.specs.Checked.{Understood}
 use Rattle.validate.specs.declared.Parts.{Parts}
-use Rattle.opening.specs.Logins.{SomeState}
 use Rattle.opening.specs.Beginnings.{SomeValid}
 
-module _ (t : Text) (marks-p marks-v standing : List ℕ) (p : Parts) (U : Understood t marks-p marks-v standing p) where
+module _ (t : Text) (slots-p slots-v assertions : List ℕ) (p : Parts) (U : Understood t slots-p slots-v assertions p) where
   pub checked-valid : T (valid (U .state))
   checked-valid = decode-holds t (U .state) .0 (U .decoded) .is-valid
 
-  pub checked-some : SomeState t marks-p p
-  checked-some = record { marks-v = marks-v; standing = standing; state = U .state; represents = U .represents }
-
-  pub checked-some-valid : SomeValid t marks-p marks-v standing p
+  pub checked-some-valid : SomeValid t slots-p slots-v assertions p
   checked-some-valid = record { state = U .state; is-valid = checked-valid; represents = U .represents }

@@ -14,23 +14,24 @@ use Rattle.language.specs.Valid.{wellFormed, validStore, valid}
 use Rattle.language.specs.Run.{login, right, begin}
 use Rattle.language.proofs.Logic.Tests.{both}
 use Rattle.language.proofs.Meaning.ValidRuns.{begin-ready}
-use Rattle.store.specs.Held.{part, Principals, Variables}
+use Rattle.store.specs.Held.{Principals, Variables}
+use Rattle.text.specs.Parts.{part}
 use Rattle.store.specs.Rows.{position}
 use Rattle.values.specs.Writing.{Written}
 use Rattle.values.proofs.Pieces.{written-take, written-length}
-use Rattle.numbers.specs.Numbers.{people}
-use Rattle.numbers.proofs.Few.{store-shape}
+use Rattle.named_rights.specs.Numbers.{principalsOf}
+use Rattle.named_rights.proofs.Few.{store-shape}
 use Rattle.validate.specs.Checked.{Represents}
 use Rattle.validate.specs.declared.Parts.{Parts}
-use Rattle.running.specs.declared.Layout.{Layout}
-use Rattle.running.specs.Sessions.{slices, Sized, Running}
-use Rattle.running.proofs.PeopleText.{people-text}
+use Rattle.session.specs.declared.Layout.{Layout}
+use Rattle.session.specs.Sessions.{slices, Sized, Running}
+use Rattle.session.proofs.PrincipalsText.{principals-text}
 
 -- where the parts of the session stand, when m bytes of principals and n of variables were copied
 abbrev pub firstLayout : Parts → ℕ → ℕ → ℕ → Layout
 firstLayout q sender m n = record {
-  «people_len» = m;
-  people = q .people;
+  «principals_len» = m;
+  principals = q .principals;
   «vars_len» = n;
   vars = q .vars;
   «locals_len» = 0;
@@ -42,7 +43,7 @@ firstLayout q sender m n = record {
   «is_open» = q .«open»;
 }
 
-module _ (t : Text) (marks-p marks-v standing : List ℕ) (q : Parts) (s : State) (R : Represents t marks-p marks-v standing q s) (v : T (valid s)) where
+module _ (t : Text) (slots-p slots-v assertions : List ℕ) (q : Parts) (s : State) (R : Represents t slots-p slots-v assertions q s) (v : T (valid s)) where
   store-valid : T (validStore (s .store))
   store-valid = both (leb (s .count) lastCount) (validStore (s .store)) v .1
 
@@ -52,36 +53,36 @@ module _ (t : Text) (marks-p marks-v standing : List ℕ) (q : Parts) (s : State
       omega (arith, R .weighed)
 
   -- the principals' text fits its buffer
-  pub people-fit : length (part t (q .«people_from») (q .«people_to»)) ≤ 20992
-  people-fit =
+  pub principals-fit : length (part t (q .«principals_from») (q .«principals_to»)) ≤ 20992
+  principals-fit =
       let G = store-shape (s .store) store-valid in
-      omega (arith, light, R .weighed, ap length (R .principals .is-text), people-text (s .store .principals) (G .order) (G .principals-valid) (G .principals-distinct))
+      omega (arith, light, R .weighed, ap length (R .principals .is-text), principals-text (s .store .principals) (G .order) (G .principals-valid) (G .principals-distinct))
 
-  module _ (people-before people-after vars-before vars-after locals : Text) (local-marks : List ℕ) (m n : ℕ)
-      (sizes : Sized (slices people-before marks-p vars-before marks-v locals local-marks standing))
-      (w : Written people-before 0 (part t (q .«people_from») (q .«people_to»)) m people-after)
+  module _ (principals-before principals-after vars-before vars-after locals : Text) (local-slots : List ℕ) (m n : ℕ)
+      (sizes : Sized (slices principals-before slots-p vars-before slots-v locals local-slots assertions))
+      (w : Written principals-before 0 (part t (q .«principals_from») (q .«principals_to»)) m principals-after)
       (x : Written vars-before 0 (part t (q .«vars_from») (q .«vars_to»)) n vars-after) where
-    sized-after : Sized (slices people-after marks-p vars-after marks-v locals local-marks standing)
+    sized-after : Sized (slices principals-after slots-p vars-after slots-v locals local-slots assertions)
     sized-after = record {
-      people-size = written-length w ∙ sizes .people-size;
-      people-marks-size = sizes .people-marks-size;
+      principals-size = written-length w ∙ sizes .principals-size;
+      principal-slots-size = sizes .principal-slots-size;
       vars-size = written-length x ∙ sizes .vars-size;
-      var-marks-size = sizes .var-marks-size;
+      variable-slots-size = sizes .variable-slots-size;
       locals-size = sizes .locals-size;
-      local-marks-size = sizes .local-marks-size;
-      standing-size = sizes .standing-size;
+      local-slots-size = sizes .local-slots-size;
+      assertions-size = sizes .assertions-size;
     }
 
-    pub begun : (p : Program) (sender : ℕ) → login (s .store) p ≡ right → sender ≡ position (people (s .store)) (p .sender)
-        → Running (begin (s .store) p) (firstLayout q sender m n) (slices people-after marks-p vars-after marks-v locals local-marks standing)
+    pub begun : (p : Program) (sender : ℕ) → login (s .store) p ≡ right → sender ≡ position (principalsOf (s .store)) (p .sender)
+        → Running (begin (s .store) p) (firstLayout q sender m n) (slices principals-after slots-p vars-after slots-v locals local-slots assertions)
     begun p sender e k = record {
       sized = sized-after;
       ready = begin-ready (s .store) p store-valid e;
-      principals = subst (λ (l : Text). Principals (s .store .principals) l (q .people) marks-p) (sym (written-take w)) (R .principals);
-      people-within = omega (arith, w .fits, written-length w);
-      variables = subst (λ (l : Text). Variables (s .store .variables) l (q .vars) marks-v) (sym (written-take x)) (R .variables);
+      principals = subst (λ (l : Text). Principals (s .store .principals) l (q .principals) slots-p) (sym (written-take w)) (R .principals);
+      principals-within = omega (arith, w .fits, written-length w);
+      variables = subst (λ (l : Text). Variables (s .store .variables) l (q .vars) slots-v) (sym (written-take x)) (R .variables);
       vars-within = omega (arith, x .fits, written-length x);
-      local-variables = record { is-text = refl; counted = refl; marked = refl; named = tt; small = omega arith };
+      local-variables = record { is-text = refl; counted = refl; indexed = refl; named = tt; small = omega arith };
       locals-within = omega arith;
       assertions = R .assertions;
       delegator = R .delegator;

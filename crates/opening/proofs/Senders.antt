@@ -10,7 +10,7 @@ use Rattle.language.specs.State.{Store, named}
 use Rattle.language.specs.Run.{Login, mistaken, right, opens, loginAs}
 use Rattle.store.specs.Rows.{place, principalRow}
 use Rattle.store.specs.Contents.{principalAt}
-use Rattle.store.specs.declared.mark.Found.the-variants.{At, Missing}
+use Rattle.store.specs.declared.index.Found.the-variants.{At, Missing}
 use Rattle.store.proofs.Answers.{principal-found, principal-missing}
 use Rattle.opening.specs.Logins.{LoginMeant}
 use Rattle.opening.specs.declared.Login.the-variants as Is

@@ -9,7 +9,7 @@ use Rattle.validate.specs.Checked.{Represents}
 use Rattle.validate.specs.declared.Parts.{Parts}
 
 -- the parts and the tables say some valid state
-pub record SomeValid (t : Text) (marks-p marks-v standing : List ℕ) (p : Parts) : Type 0 where
+pub record SomeValid (t : Text) (slots-p slots-v assertions : List ℕ) (p : Parts) : Type 0 where
   pub state : State
   pub is-valid : T (valid state)
-  pub represents : Represents t marks-p marks-v standing p state
+  pub represents : Represents t slots-p slots-v assertions p state

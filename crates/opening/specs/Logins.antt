@@ -8,7 +8,7 @@ use Rattle.language.specs.State.{Principal, Store, State, named}
 use Rattle.language.specs.Run.{unknown, mistaken, right, loginAs}
 use Rattle.store.specs.Held.{Principals}
 use Rattle.store.specs.Rows.{position}
-use Rattle.numbers.specs.Numbers.{people}
+use Rattle.named_rights.specs.Numbers.{principalsOf}
 use Rattle.validate.specs.Checked.{Represents}
 use Rattle.validate.specs.declared.Parts.{Parts}
 use Rattle.opening.specs.declared.Login.{Login}
@@ -18,16 +18,16 @@ use Rattle.opening.specs.declared.Login.the-variants.{Unknown, Mistaken,
 abbrev pub LoginMeant : Login → Store → Name → Text → Type 0
 LoginMeant Unknown s x w = loginAs w (named (s .principals) x) ≡ unknown
 LoginMeant Mistaken s x w = loginAs w (named (s .principals) x) ≡ mistaken
-LoginMeant (Right k) s x w = (loginAs w (named (s .principals) x) ≡ right) × (k ≡ position (people s) x)
+LoginMeant (Right k) s x w = (loginAs w (named (s .principals) x) ≡ right) × (k ≡ position (principalsOf s) x)
 
--- the text and the marks hold some principals
-pub record SomePrincipals (t : Text) (count : ℕ) (marks : List ℕ) : Type 0 where
+-- the text and the slots hold some principals
+pub record SomePrincipals (t : Text) (count : ℕ) (slots : List ℕ) : Type 0 where
   pub principals : List Principal
-  pub held : Principals principals t count marks
+  pub held : Principals principals t count slots
 
--- the parts and the marks of the principals say some state
-pub record SomeState (t : Text) (marks-p : List ℕ) (p : Parts) : Type 0 where
-  pub marks-v : List ℕ
-  pub standing : List ℕ
+-- the parts and the slots of the principals say some state
+pub record SomeState (t : Text) (slots-p : List ℕ) (p : Parts) : Type 0 where
+  pub slots-v : List ℕ
+  pub assertions : List ℕ
   pub state : State
-  pub represents : Represents t marks-p marks-v standing p state
+  pub represents : Represents t slots-p slots-v assertions p state

@@ -1,9 +1,9 @@
 // The start of a run: who sends the program, and the session that it works on, a copy of the state's texts.
-use running::Layout;
+use session::Layout;
 use store::content::Password;
 use store::content::password_of;
-use store::mark::Found;
-use store::mark::find;
+use store::index::Found;
+use store::index::find;
 use text::same_bytes;
 use validate::Parts;
 use values::copy_in;
@@ -18,9 +18,9 @@ ghost use Rattle.language.specs.Run as Run;
 ghost use Rattle.store.specs.Held.{Principals};
 ghost use Rattle.store.specs.Rows.{position};
 ghost use Rattle.store.specs.Contents.{principalAt};
-ghost use Rattle.numbers.specs.Numbers as Numbers;
+ghost use Rattle.named_rights.specs.Numbers as Numbers;
 ghost use Rattle.validate.specs.Checked.{Represents};
-ghost use Rattle.running.specs.Sessions.{slices, Sized, Running};
+ghost use Rattle.session.specs.Sessions.{slices, Sized, Running};
 ghost use Rattle.opening.specs.Logins.{LoginMeant, SomePrincipals, SomeState};
 ghost use Rattle.opening.specs.Beginnings.{SomeValid};
 
@@ -32,14 +32,14 @@ pub enum Login {
 }
 
 // Whether a principal's password is kept and is the one given.
-fn opens(people: &[u8], marks: &[u32], count: usize, number: usize, password: &[u8]) -> bool
-    requires { ⌜ SomePrincipals (now people) count (now marks) × (number < count) ⌝ }
-    ensures { λ r. ⌜ ((ks : List Principal) → Principals ks (now (people .entry)) count (now (marks .entry))
+fn opens(principals: &[u8], slots: &[u32], count: usize, number: usize, password: &[u8]) -> bool
+    requires { ⌜ SomePrincipals (now principals) count (now slots) × (number < count) ⌝ }
+    ensures { λ r. ⌜ ((ks : List Principal) → Principals ks (now (principals .entry)) count (now (slots .entry))
         → r ≡ Run.opens (now (password .entry)) (principalAt ks number .password)) ⌝ }
 {
-    let kept = password_of(people, marks, count, number);
+    let kept = password_of(principals, slots, count, number);
     match kept {
-        Password::Kept { start, end } => same_bytes(password, &people[start..end]),
+        Password::Kept { start, end } => same_bytes(password, &principals[start..end]),
         Password::Absent => false,
     }
 }
@@ -47,27 +47,27 @@ fn opens(people: &[u8], marks: &[u32], count: usize, number: usize, password: &[
 // Who the sender of a program is.
 pub fn log_in(
     state: &[u8],
-    people_marks: &[u32],
+    principal_slots: &[u32],
     parts: Parts,
     name: &[u8],
     password: &[u8],
 ) -> Login
-    requires { ⌜ SomeState (now state) (now «people_marks») parts ⌝ }
-    ensures { λ r. ⌜ ((var-marks standing : List ℕ) (s : State) → Represents (now (state .entry)) (now («people_marks» .entry)) var-marks standing parts s
+    requires { ⌜ SomeState (now state) (now «principal_slots») parts ⌝ }
+    ensures { λ r. ⌜ ((variable-slots assertions : List ℕ) (s : State) → Represents (now (state .entry)) (now («principal_slots» .entry)) variable-slots assertions parts s
         → LoginMeant r (s .store) (now (name .entry)) (now (password .entry))) ⌝ }
 {
-    let from = parts.people_from;
-    let to = parts.people_to;
-    let count = parts.people;
-    let people = &state[from..to];
-    let found = find(people, people_marks, count, name);
+    let from = parts.principals_from;
+    let to = parts.principals_to;
+    let count = parts.principals;
+    let principals = &state[from..to];
+    let found = find(principals, principal_slots, count, name);
     match found {
         Found::At {
             number,
             start: _,
             end: _,
         } => {
-            if opens(people, people_marks, count, number, password) {
+            if opens(principals, principal_slots, count, number, password) {
                 return Login::Right(number);
             }
             Login::Mistaken
@@ -79,31 +79,31 @@ pub fn log_in(
 // The session that a program of a sender begins with: the state's texts copied to the starts of lent buffers, and no locals.
 pub fn begin(
     state: &[u8],
-    people_marks: &[u32],
-    var_marks: &[u32],
-    standing: &[u64],
+    principal_slots: &[u32],
+    variable_slots: &[u32],
+    assertions: &[u64],
     parts: Parts,
     sender: usize,
-    people: &mut [u8],
+    principals: &mut [u8],
     vars: &mut [u8],
     locals: &[u8],
-    local_marks: &[u32],
+    local_slots: &[u32],
 ) -> Layout
-    requires { ⌜ SomeValid (now state) (now «people_marks») (now «var_marks») (now standing) parts ⌝ }
-    requires { ⌜ Sized (slices (now people) (now «people_marks») (now vars) (now «var_marks») (now locals) (now «local_marks») (now standing)) ⌝ }
-    ensures { λ r. ⌜ ((s : State) (p : Program) → Represents (now (state .entry)) (now («people_marks» .entry)) (now («var_marks» .entry)) (now (standing .entry)) parts s
-        → T (valid s) → Run.login (s .store) p ≡ Run.right → sender ≡ position (Numbers.people (s .store)) (p .sender)
-        → Running (Run.begin (s .store) p) r (slices (now (people .exit)) (now («people_marks» .entry)) (now (vars .exit)) (now («var_marks» .entry)) (now (locals .entry)) (now («local_marks» .entry)) (now (standing .entry)))) ⌝ }
+    requires { ⌜ SomeValid (now state) (now «principal_slots») (now «variable_slots») (now assertions) parts ⌝ }
+    requires { ⌜ Sized (slices (now principals) (now «principal_slots») (now vars) (now «variable_slots») (now locals) (now «local_slots») (now assertions)) ⌝ }
+    ensures { λ r. ⌜ ((s : State) (p : Program) → Represents (now (state .entry)) (now («principal_slots» .entry)) (now («variable_slots» .entry)) (now (assertions .entry)) parts s
+        → T (valid s) → Run.login (s .store) p ≡ Run.right → sender ≡ position (Numbers.principalsOf (s .store)) (p .sender)
+        → Running (Run.begin (s .store) p) r (slices (now (principals .exit)) (now («principal_slots» .entry)) (now (vars .exit)) (now («variable_slots» .entry)) (now (locals .entry)) (now («local_slots» .entry)) (now (assertions .entry)))) ⌝ }
 {
-    let people_from = parts.people_from;
-    let people_to = parts.people_to;
+    let principals_from = parts.principals_from;
+    let principals_to = parts.principals_to;
     let vars_from = parts.vars_from;
     let vars_to = parts.vars_to;
-    let people_len = copy_in(people, 0, &state[people_from..people_to]);
+    let principals_len = copy_in(principals, 0, &state[principals_from..principals_to]);
     let vars_len = copy_in(vars, 0, &state[vars_from..vars_to]);
     Layout {
-        people_len,
-        people: parts.people,
+        principals_len,
+        principals: parts.principals,
         vars_len,
         vars: parts.vars,
         locals_len: 0,

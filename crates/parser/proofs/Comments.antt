@@ -11,6 +11,7 @@ use borrow.Author.Tests.{eq-eqb, ne-eqb, eqb-true}
 use Rattle.language.specs.Text.{Text, if_then_else_, all, front}
 use Rattle.language.specs.Bytes.{commentByte}
 use Rattle.language.specs.Programs.{isComment}
+use Rattle.language.proofs.Logic.Tests.{and-false}
 
 eqb-suc : (m n : ℕ) → eqb (suc m) (suc n) ≡ eqb m n
 eqb-suc m n = go (eqb m n) refl
@@ -47,11 +48,7 @@ no-slash (b ∷ c ∷ cs) n = rw (ne-eqb b 47 n)
 pub one-slash : (t : Text) → (getD t 1 0 ≡ 47 → ⊥) → isComment t ≡ false
 one-slash [] n = refl
 one-slash (b ∷ []) n = refl
-one-slash (b ∷ c ∷ cs) n = rw (ne-eqb c 47 n) (go (eqb b 47))
-  where
-    go : (t : Bool) → (t && false) ≡ false
-    go true = refl
-    go false = refl
+one-slash (b ∷ c ∷ cs) n = rw (ne-eqb c 47 n) (and-false (eqb b 47))
 
 pub slashes : (t : Text) (e : ℕ) → 2 ≤ length t → getD t 0 0 ≡ 47 → getD t 1 0 ≡ 47 → e ≡ 2 + length (front commentByte (drop 2 t)) → eqb e (length t) ≡ isComment t
 slashes [] e h p q r = absurd (omega arith)

@@ -2,7 +2,7 @@
 -- Assumes nothing.
 use mathlib.Core.Path.{_≡_, refl, sym, ap, _∙_}
 use mathlib.Core.List.{List, [], _∷_}
-use mathlib.Core.Bool.{Bool, true, false, not, _&&_}
+use mathlib.Core.Bool.{Bool, true, false, not}
 use Prim.Native.Nat.{ℕ, zero, suc, _+_, _≤_}
 use native.Mathlib.Omega.{arith}
 use lib.Dec.{eqb, leb}
@@ -14,6 +14,7 @@ use Rattle.language.specs.Identifiers.{keywords, longestName}
 use Rattle.language.specs.Tokens.{Token, Lexeme, gap, end, token, bad, sign, ident, text, tokens, lex, lead, lexeme, quotedBy, comment, pair}
 use Rattle.text.specs.Meaning.{isNot}
 use Rattle.text.proofs.Runs.{run-le}
+use Rattle.language.proofs.Logic.Tests.{and-false}
 
 -- the first line
 abbrev pub line : List ℕ → List ℕ
@@ -22,10 +23,6 @@ line = front (isNot 10)
 if-same : {A : Type 0} (t : Bool) (a : A) → (if t then a else a) ≡ a
 if-same true a = refl
 if-same false a = refl
-
-and-false : (t : Bool) → (t && false) ≡ false
-and-false true = refl
-and-false false = refl
 
 -- a run of bytes that are no newline ends in the line
 run-line : (p : ℕ → Bool) → p 10 ≡ false → (xs : List ℕ) → front p (line xs) ≡ front p xs

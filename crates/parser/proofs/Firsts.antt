@@ -18,18 +18,15 @@ use Rattle.language.proofs.Parsing.ValidPrograms.{isEnding}
 use Rattle.language.proofs.Parsing.Lexing.{room, tokens-valid, lex-room}
 use Rattle.language.proofs.Parsing.Reading.{leastRoom, Inner, Ending, command-reads, ending-reads, whole-reads}
 use Rattle.text.specs.Meaning.{isNot}
-use Rattle.commands.specs.declared.command.Command as Places
-use Rattle.commands.specs.Commands.{commandMeant, CommandWithin}
+use Rattle.command_readers.specs.declared.command.Command as Places
+use Rattle.command_readers.specs.Commands.{commandMeant, CommandWithin}
 use Rattle.parser.specs.Lines.{lexedFrom, ahead, lineLength}
 use Rattle.parser.specs.declared.Rest.the-variants.{At, End}
 use Rattle.parser.specs.Bodies.{isEmpty, bodyFrom, First}
 use Rattle.parser.proofs.FirstLine.{lex-line}
 use Rattle.parser.proofs.Wholes.{command-meant}
 use Rattle.parser.proofs.Bodies.{command-body, ending-body, neither-body, ending-more}
-
-is-true : (b : Bool) → T b → b ≡ true
-is-true true h = refl
-is-true false h = absurd h
+use Rattle.language.proofs.Logic.Tests.{true-of}
 
 is-false : (b : Bool) → T (not b) → b ≡ false
 is-false true h = absurd h
@@ -76,7 +73,7 @@ module _ (t : Text) (at s n : ℕ) (later : at ≤ s) (past : s + lineLength t s
               meant = q;
               within = w;
               is-valid = K .0 .0;
-              is-last = is-true (isEnding k) (K .0 .1);
+              is-last = true-of (isEnding k) (K .0 .1);
               placed = omega (arith, K .1, tokens-short);
               all = from-here (ending-body (lex (drop s t)) (lexedFrom t n) k (e ∙ q) z);
             }

@@ -9,11 +9,13 @@ use Rattle.language.specs.Tokens.{Token}
 use Rattle.language.specs.Syntax as Syntax
 use Rattle.language.specs.Grammar.{spent, the, anyName, anyString, anyLogin}
 use Rattle.syntax.specs.Values.{exprMeant, ExprWithin, recordAt}
-use Rattle.commands.specs.Commands.{commandMeant, CommandWithin}
+use Rattle.command_readers.specs.Commands.{commandMeant, CommandWithin}
 use Rattle.syntax.specs.declared.value.Expr.{Expr}
 use Rattle.syntax.specs.declared.value.Expr.the-variants.{Single, Empty, Record}
-use Rattle.commands.specs.declared.command.Command.{Command}
-use Rattle.commands.specs.declared.command.Command.the-variants.{CreatePrincipal, ChangePassword, Set, Append, Local, Foreach, SetDelegation, DeleteDelegation, DefaultDelegator, Exit, Return}
+use Rattle.command_readers.specs.declared.command.Command.{Command}
+use Rattle.command_readers.specs.declared.command.Command.the-variants.{Administer, Variable}
+use Rattle.command_readers.specs.declared.command.Administration.the-variants.{CreatePrincipal, ChangePassword, SetDelegation, DeleteDelegation, DefaultDelegator, Exit}
+use Rattle.command_readers.specs.declared.command.VariableCommand.the-variants.{Set, Append, Local, Foreach, Return}
 use Rattle.parser.specs.Lines.{isNil}
 
 -- ---- the line's end after what was read
@@ -51,14 +53,14 @@ expr-meant t Empty h = refl
 expr-meant t (Record p) h = bound (recordAt t p) (λ r. Syntax.fields (r .0)) (h .1)
 
 pub command-meant : (t : Text) (c : Command) → CommandWithin t c → present (commandMeant t c) ≡ true
-command-meant t (CreatePrincipal p s) h = refl
-command-meant t (ChangePassword p s) h = refl
-command-meant t (Set x e) h = bound (exprMeant t e) (λ v. Syntax.set _ v) (expr-meant t e (h .1))
-command-meant t (Append x e) h = bound (exprMeant t e) (λ v. Syntax.append-to _ v) (expr-meant t e (h .1))
-command-meant t (Local x e) h = bound (exprMeant t e) (λ v. Syntax.local _ v) (expr-meant t e (h .1))
-command-meant t (Foreach y x e) h = bound (exprMeant t e) (λ v. Syntax.foreach _ _ v) (expr-meant t e (h .2))
-command-meant t (SetDelegation x q r p) h = refl
-command-meant t (DeleteDelegation x q r p) h = refl
-command-meant t (DefaultDelegator p) h = refl
-command-meant t Exit h = refl
-command-meant t (Return e) h = bound (exprMeant t e) (λ v. Syntax.return v) (expr-meant t e h)
+command-meant t (Administer (CreatePrincipal p s)) h = refl
+command-meant t (Administer (ChangePassword p s)) h = refl
+command-meant t (Variable (Set x e)) h = bound (exprMeant t e) (λ v. Syntax.set _ v) (expr-meant t e (h .1))
+command-meant t (Variable (Append x e)) h = bound (exprMeant t e) (λ v. Syntax.append-to _ v) (expr-meant t e (h .1))
+command-meant t (Variable (Local x e)) h = bound (exprMeant t e) (λ v. Syntax.local _ v) (expr-meant t e (h .1))
+command-meant t (Variable (Foreach y x e)) h = bound (exprMeant t e) (λ v. Syntax.foreach _ _ v) (expr-meant t e (h .2))
+command-meant t (Administer (SetDelegation x q r p)) h = refl
+command-meant t (Administer (DeleteDelegation x q r p)) h = refl
+command-meant t (Administer (DefaultDelegator p)) h = refl
+command-meant t (Administer Exit) h = refl
+command-meant t (Variable (Return e)) h = bound (exprMeant t e) (λ v. Syntax.return v) (expr-meant t e h)

@@ -14,8 +14,8 @@ use Rattle.language.specs.Programs.{body, longest}
 use Rattle.language.proofs.Parsing.ValidPrograms.{validCommand, isEnding}
 use Rattle.language.proofs.Parsing.Parsing.{commandRoom}
 use Rattle.text.specs.Meaning.{part, Within}
-use Rattle.commands.specs.declared.command.Command as Places
-use Rattle.commands.specs.Commands.{commandMeant, CommandWithin}
+use Rattle.command_readers.specs.declared.command.Command as Places
+use Rattle.command_readers.specs.Commands.{commandMeant, CommandWithin}
 use Rattle.parser.specs.declared.Head.{Head}
 use Rattle.parser.specs.declared.Head.the-variants.{Login, No}
 use Rattle.parser.specs.declared.Rest.{Rest}

@@ -18,7 +18,7 @@ use Rattle.parser.specs.declared.line.Line.{Line}
 use Rattle.parser.specs.declared.line.Line.the-variants.{Comment, Stars, Tokens, Broken}
 use Rattle.parser.specs.declared.line.Step.{Step}
 use Rattle.parser.specs.declared.line.Step.the-variants as StepIs
-use Rattle.commands.specs.Commands.{commandMeant, CommandWithin}
+use Rattle.command_readers.specs.Commands.{commandMeant, CommandWithin}
 
 abbrev pub isNil : List Token → Bool
 isNil [] = true

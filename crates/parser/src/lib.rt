@@ -1,7 +1,7 @@
 // Whole programs: the login of a text, its commands in turn, and whether they are those of a program to its end.
 pub mod line;
 
-use commands::command::Command;
+use command_readers::command::Command;
 use line::LineRead;
 use line::LoginRead;
 use line::Step;

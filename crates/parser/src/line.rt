@@ -1,6 +1,6 @@
 // Whole lines: what a line that is no comment holds, and where the next one starts.
-use commands::command::Command;
-use commands::command::CommandRead;
+use command_readers::command::Command;
+use command_readers::command::CommandRead;
 use syntax::reader::Found;
 use syntax::reader::Next;
 use syntax::token::Token;
@@ -40,7 +40,7 @@ pub fn command_line(text: &[u8], at: usize) -> LineRead
     ensures meant { λ r. ⌜ lineReadMeant (now (text .entry)) r ≡ whole anyCommand (lex (drop at (now (text .entry)))) ⌝ }
     ensures placed { λ r. ⌜ LineWithin (now (text .entry)) r ⌝ }
 {
-    let command = commands::command::command_at(text, at);
+    let command = command_readers::command::command_at(text, at);
     let CommandRead::Found(c, n) = command else {
         return LineRead::No;
     };
@@ -55,7 +55,7 @@ pub fn ending_line(text: &[u8], at: usize) -> LineRead
     ensures meant { λ r. ⌜ lineReadMeant (now (text .entry)) r ≡ whole anyEnding (lex (drop at (now (text .entry)))) ⌝ }
     ensures placed { λ r. ⌜ LineWithin (now (text .entry)) r ⌝ }
 {
-    let ending = commands::command::ending_at(text, at);
+    let ending = command_readers::command::ending_at(text, at);
     let CommandRead::Found(c, n) = ending else {
         return LineRead::No;
     };

@@ -17,10 +17,12 @@ use Rattle.parser.specs.declared.Rest.{Rest}
 use Rattle.parser.specs.declared.Rest.the-variants.{At, End}
 use Rattle.parser.specs.Bodies.{bodyFrom, withBody, restFrom, First}
 use Rattle.syntax.proofs.Reading.{no-some}
-use Rattle.commands.specs.Commands.{commandMeant}
+use Rattle.command_readers.specs.Commands.{commandMeant}
 use Rattle.syntax.specs.Values.{exprMeant}
-use Rattle.commands.specs.declared.command.Command.{Command}
-use Rattle.commands.specs.declared.command.Command.the-variants.{CreatePrincipal, ChangePassword, Set, Append, Local, Foreach, SetDelegation, DeleteDelegation, DefaultDelegator, Return, Exit}
+use Rattle.command_readers.specs.declared.command.Command.{Command}
+use Rattle.command_readers.specs.declared.command.Command.the-variants.{Administer, Variable}
+use Rattle.command_readers.specs.declared.command.Administration.the-variants.{CreatePrincipal, ChangePassword, SetDelegation, DeleteDelegation, DefaultDelegator, Exit}
+use Rattle.command_readers.specs.declared.command.VariableCommand.the-variants.{Set, Append, Local, Foreach, Return}
 use Rattle.parser_c.specs.Kinds.{kindOf, code, SomeCommands, Listed, notParsed, Answers}
 
 the : {d c : Syntax.Command} → some d ≡ some c → d ≡ c
@@ -37,17 +39,17 @@ bound (some v) f n c g h = g v ∙ ap kindOf (the h)
 
 -- a command by its places has the kind of the command that they mean
 pub code-kind : (t : Text) (k : Command) (c : Syntax.Command) → commandMeant t k ≡ some c → code k ≡ kindOf c
-code-kind t (CreatePrincipal p s) c h = ap kindOf (the h)
-code-kind t (ChangePassword p s) c h = ap kindOf (the h)
-code-kind t (Set x e) c h = bound (exprMeant t e) (Syntax.set (part t x)) 3 c (λ v. refl) h
-code-kind t (Append x e) c h = bound (exprMeant t e) (Syntax.append-to (part t x)) 4 c (λ v. refl) h
-code-kind t (Local x e) c h = bound (exprMeant t e) (Syntax.local (part t x)) 5 c (λ v. refl) h
-code-kind t (Foreach y x e) c h = bound (exprMeant t e) (Syntax.foreach (part t y) (part t x)) 6 c (λ v. refl) h
-code-kind t (SetDelegation x q r p) c h = ap kindOf (the h)
-code-kind t (DeleteDelegation x q r p) c h = ap kindOf (the h)
-code-kind t (DefaultDelegator p) c h = ap kindOf (the h)
-code-kind t Exit c h = ap kindOf (the h)
-code-kind t (Return e) c h = bound (exprMeant t e) Syntax.return 10 c (λ v. refl) h
+code-kind t (Administer (CreatePrincipal p s)) c h = ap kindOf (the h)
+code-kind t (Administer (ChangePassword p s)) c h = ap kindOf (the h)
+code-kind t (Variable (Set x e)) c h = bound (exprMeant t e) (Syntax.set (part t x)) 3 c (λ v. refl) h
+code-kind t (Variable (Append x e)) c h = bound (exprMeant t e) (Syntax.append-to (part t x)) 4 c (λ v. refl) h
+code-kind t (Variable (Local x e)) c h = bound (exprMeant t e) (Syntax.local (part t x)) 5 c (λ v. refl) h
+code-kind t (Variable (Foreach y x e)) c h = bound (exprMeant t e) (Syntax.foreach (part t y) (part t x)) 6 c (λ v. refl) h
+code-kind t (Administer (SetDelegation x q r p)) c h = ap kindOf (the h)
+code-kind t (Administer (DeleteDelegation x q r p)) c h = ap kindOf (the h)
+code-kind t (Administer (DefaultDelegator p)) c h = ap kindOf (the h)
+code-kind t (Administer Exit) c h = ap kindOf (the h)
+code-kind t (Variable (Return e)) c h = bound (exprMeant t e) Syntax.return 10 c (λ v. refl) h
 
 -- n kinds are listed, and the walk has come to place p
 pub record Going (t : Text) (at : ℕ) (old now : Text) (p n : ℕ) : Type 0 where

@@ -9,8 +9,12 @@ use Rattle.language.specs.Syntax as Syntax
 use Rattle.language.specs.Syntax.{create-principal, change-password, set, append-to, local, foreach, set-delegation, delete-delegation, default-delegator, exit, return}
 use Rattle.language.specs.Programs.{parse}
 use Rattle.parser.specs.Bodies.{bodyFrom}
-use Rattle.commands.specs.declared.command.Command.{Command}
-use Rattle.commands.specs.declared.command.Command.the-variants.{CreatePrincipal, ChangePassword, Set, Append, Local, Foreach, SetDelegation, DeleteDelegation, DefaultDelegator, Return, Exit}
+use Rattle.command_readers.specs.declared.command.Command.{Command}
+use Rattle.command_readers.specs.declared.command.Command.the-variants.{Administer, Variable}
+use Rattle.command_readers.specs.declared.command.Administration.{Administration}
+use Rattle.command_readers.specs.declared.command.Administration.the-variants.{CreatePrincipal, ChangePassword, SetDelegation, DeleteDelegation, DefaultDelegator, Exit}
+use Rattle.command_readers.specs.declared.command.VariableCommand.{VariableCommand}
+use Rattle.command_readers.specs.declared.command.VariableCommand.the-variants.{Set, Append, Local, Foreach, Return}
 
 abbrev pub kindOf : Syntax.Command → ℕ
 kindOf (create-principal p t) = 1
@@ -26,18 +30,24 @@ kindOf (return e) = 10
 kindOf exit = 11
 
 -- of a command by its places
+abbrev pub administrationCode : Administration → ℕ
+administrationCode (CreatePrincipal p s) = 1
+administrationCode (ChangePassword p s) = 2
+administrationCode (SetDelegation t q r p) = 7
+administrationCode (DeleteDelegation t q r p) = 8
+administrationCode (DefaultDelegator p) = 9
+administrationCode Exit = 11
+
+abbrev pub variableCode : VariableCommand → ℕ
+variableCode (Set x e) = 3
+variableCode (Append x e) = 4
+variableCode (Local x e) = 5
+variableCode (Foreach y x e) = 6
+variableCode (Return e) = 10
+
 abbrev pub code : Command → ℕ
-code (CreatePrincipal p s) = 1
-code (ChangePassword p s) = 2
-code (Set x e) = 3
-code (Append x e) = 4
-code (Local x e) = 5
-code (Foreach y x e) = 6
-code (SetDelegation t q r p) = 7
-code (DeleteDelegation t q r p) = 8
-code (DefaultDelegator p) = 9
-code (Return e) = 10
-code Exit = 11
+code (Administer c) = administrationCode c
+code (Variable c) = variableCode c
 
 -- the commands of a program stand from the line at `at` on
 pub record SomeCommands (t : Text) (at : ℕ) : Type 0 where

@@ -1,5 +1,7 @@
 // What a program's text says, for programs in other languages: whether it parses, how many commands it has, and of which kind each is.
-use commands::command::Command;
+use command_readers::command::Administration;
+use command_readers::command::Command;
+use command_readers::command::VariableCommand;
 use parser::Head;
 use parser::Read;
 use parser::Rest;
@@ -10,27 +12,43 @@ ghost use Prim.Native.Nat.{_≤_};
 ghost use lib.ListN.{length};
 ghost use Rattle.language.specs.Syntax as Syntax;
 ghost use Rattle.parser.specs.Bodies.{bodyFrom};
-ghost use Rattle.parser_c.specs.Kinds.{code, SomeCommands, Listed, Reported};
+ghost use Rattle.parser_c.specs.Kinds.{administrationCode, variableCode, code, SomeCommands, Listed, Reported};
 
 const NO: u64 = 65536;
 
 const REFUSED: u64 = 65537;
 
+fn administration_kind(c: Administration) -> u8
+    ensures { λ r. ⌜ r ≡ administrationCode c ⌝ }
+{
+    match c {
+        Administration::CreatePrincipal(_, _) => 1,
+        Administration::ChangePassword(_, _) => 2,
+        Administration::SetDelegation(_, _, _, _) => 7,
+        Administration::DeleteDelegation(_, _, _, _) => 8,
+        Administration::DefaultDelegator(_) => 9,
+        Administration::Exit => 11,
+    }
+}
+
+fn variable_kind(c: VariableCommand) -> u8
+    ensures { λ r. ⌜ r ≡ variableCode c ⌝ }
+{
+    match c {
+        VariableCommand::Set(_, _) => 3,
+        VariableCommand::Append(_, _) => 4,
+        VariableCommand::Local(_, _) => 5,
+        VariableCommand::Foreach(_, _, _) => 6,
+        VariableCommand::Return(_) => 10,
+    }
+}
+
 fn kind(c: Command) -> u8
     ensures { λ r. ⌜ r ≡ code c ⌝ }
 {
     match c {
-        Command::CreatePrincipal(_, _) => 1,
-        Command::ChangePassword(_, _) => 2,
-        Command::Set(_, _) => 3,
-        Command::Append(_, _) => 4,
-        Command::Local(_, _) => 5,
-        Command::Foreach(_, _, _) => 6,
-        Command::SetDelegation(_, _, _, _) => 7,
-        Command::DeleteDelegation(_, _, _, _) => 8,
-        Command::DefaultDelegator(_) => 9,
-        Command::Return(_) => 10,
-        Command::Exit => 11,
+        Command::Administer(a) => administration_kind(a),
+        Command::Variable(v) => variable_kind(v),
     }
 }
 

@@ -19,40 +19,40 @@ use Rattle.language.proofs.Parsing.ValidPrograms.{validCommand}
 use Rattle.language.proofs.StateText.Names.{named-is}
 use Rattle.language.proofs.Meaning.Adding.{added-names, added-there}
 use Rattle.store.specs.Rows.{position}
-use Rattle.numbers.specs.Numbers.{people}
-use Rattle.running.specs.declared.Layout.{Layout}
-use Rattle.running.specs.Sessions.{Slices, Running}
-use Rattle.running.specs.Endings.{Succeeds}
-use Rattle.running.proofs.Steps.{is-denied, is-failed, is-full, is-done}
-use Rattle.running.proofs.Scoping.{everyone}
+use Rattle.named_rights.specs.Numbers.{principalsOf}
+use Rattle.session.specs.declared.Layout.{Layout}
+use Rattle.session.specs.Sessions.{Slices, Running}
+use Rattle.session.specs.Endings.{Succeeds}
+use Rattle.session.proofs.Steps.{is-denied, is-failed, is-full, is-done}
+use Rattle.session.proofs.Scoping.{everyone}
 use Rattle.delegations.proofs.Lists.{entering-grows}
-use Rattle.principals.specs.Creating.{New, Gives}
+use Rattle.creation.specs.Creating.{New, Gives}
 use Rattle.principals.proofs.Denials.{others-denied, admin-may}
 use Rattle.principals.proofs.Finding.{is-missing, is-there}
-use Rattle.principals.proofs.Adding.{position-new}
+use Rattle.creation.proofs.Adding.{position-new}
 
 module _ (s : Session) (l : Layout) (b : Slices) (R : Running s l b) (p t : Text) where
   pub create-denied : (l .sender ≡ 0 → ⊥) → step s (create-principal p t) ≡ refused DENIED
   create-denied h = is-denied s (create-principal p t) (others-denied s l b R h)
 
-  module _ (n : ℕ) (n-is : n ≡ position (people (s .store)) p) (by-admin : l .sender ≡ 0) where
+  module _ (n : ℕ) (n-is : n ≡ position (principalsOf (s .store)) p) (by-admin : l .sender ≡ 0) where
     abbrev after : Session
     after = withStore s (created (s .store) p t)
 
     abbrev out : Effect
     out = record { after = after; values = []; line = status "CREATE_PRINCIPAL" }
 
-    pub create-failed : n < l .people → step s (create-principal p t) ≡ refused FAILED
+    pub create-failed : n < l .principals → step s (create-principal p t) ≡ refused FAILED
     create-failed h =
         is-failed s (create-principal p t) (admin-may s l b R by-admin)
         (ap (λ (c : Bool). given (not c) >> done "CREATE_PRINCIPAL" [] after) (is-there s l b R p n n-is h))
 
-    module _ (new : n ≡ l .people) where
+    module _ (new : n ≡ l .principals) where
       does : effect s (create-principal p t) ≡ some out
       does = ap (λ (c : Bool). given (not c) >> done "CREATE_PRINCIPAL" [] after) (is-missing s l b R p n n-is new)
 
-      pub create-new : T (validCommand (create-principal p t)) → New s l b (b .people) (b .people-marks) p t
-      create-new v = record { running = R; people-are = refl; marks-are = refl; unknown = is-missing s l b R p n n-is new; is-valid = v }
+      pub create-new : T (validCommand (create-principal p t)) → New s l b (b .principals) (b .principal-slots) p t
+      create-new v = record { running = R; principals-are = refl; slots-are = refl; unknown = is-missing s l b R p n n-is new; is-valid = v }
 
       pub create-full : limit < sessionWeight after → step s (create-principal p t) ≡ refused FULL
       create-full w = is-full s (create-principal p t) out (admin-may s l b R by-admin) does (lt-ltb limit (sessionWeight after) w)
@@ -70,16 +70,16 @@ module _ (s : Session) (l : Layout) (b : Slices) (R : Running s l b) (p t : Text
 
       -- the default delegator and the new principal, by number
       pub create-gives : (k : Layout) (c : Slices) → Running (withStore s (withPrincipal (s .store) p t)) k c
-          → Gives (withStore s (withPrincipal (s .store) p t)) k c (k .delegator) (l .people) (s .store .delegator) p
+          → Gives (withStore s (withPrincipal (s .store) p t)) k c (k .delegator) (l .principals) (s .store .delegator) p
       create-gives k c K =
           let one : Principal = record { name = p; password = some t } in
-          let names : people (withPrincipal (s .store) p t) ≡ people (s .store) ++ (p ∷ []) = added-names (s .store .principals) one in
-          let last : position (people (s .store)) p ≡ length (people (s .store)) = sym n-is ∙ new ∙ everyone s l b R in
+          let names : principalsOf (withPrincipal (s .store) p t) ≡ principalsOf (s .store) ++ (p ∷ []) = added-names (s .store .principals) one in
+          let last : position (principalsOf (s .store)) p ≡ length (principalsOf (s .store)) = sym n-is ∙ new ∙ everyone s l b R in
           record {
             running = K;
             giver = record { known = named-is (s .store .delegator) (s .store .principals ++ (one ∷ [])) (K .ready .is-good .store-shape .delegator-known); number = K .delegator };
             taker = record {
               known = named-is p (s .store .principals ++ (one ∷ [])) (added-there (s .store .principals) one);
-              number = everyone s l b R ∙ sym (ap (λ (ns : List Name). position ns p) names ∙ position-new (people (s .store)) p last);
+              number = everyone s l b R ∙ sym (ap (λ (ns : List Name). position ns p) names ∙ position-new (principalsOf (s .store)) p last);
             };
           }

@@ -12,10 +12,10 @@ use Rattle.language.specs.State.{admin}
 use Rattle.language.specs.Values.{Session}
 use Rattle.language.specs.Commands.{isNone}
 use Rattle.store.specs.Rows.{position}
-use Rattle.numbers.specs.Numbers.{people}
-use Rattle.running.specs.declared.Layout.{Layout}
-use Rattle.running.specs.Sessions.{Slices, Running}
-use Rattle.running.proofs.Admin.{sender-is, sender-admin}
+use Rattle.named_rights.specs.Numbers.{principalsOf}
+use Rattle.session.specs.declared.Layout.{Layout}
+use Rattle.session.specs.Sessions.{Slices, Running}
+use Rattle.session.proofs.Admin.{sender-is, sender-admin}
 
 one : (a : Bool) → (not a && true) || false ≡ not a
 one true = refl
@@ -39,7 +39,7 @@ module _ (s : Session) (l : Layout) (b : Slices) (R : Running s l b) where
   admin-may h = one (s .sender == admin) ∙ ap not (sender-admin s l b R ∙ eq-eqb (l .sender) 0 h)
 
   -- reserved to admin and to p, whose number is k
-  module _ (p : Name) (k : ℕ) (e : k ≡ position (people (s .store)) p) where
+  module _ (p : Name) (k : ℕ) (e : k ≡ position (principalsOf (s .store)) p) where
     sends : (s .sender == p) ≡ eqb (l .sender) k
     sends = sender-is s l b R p ∙ ap (eqb (l .sender)) (sym e)
 

@@ -18,10 +18,10 @@ use Rattle.store.specs.Contents.{principalAt, PasswordAt}
 use Rattle.store.specs.declared.content.Password.the-variants.{Kept}
 use Rattle.store.proofs.Holders.{principals-rows}
 use Rattle.store.proofs.Answers.{principal-names}
-use Rattle.numbers.specs.Numbers.{people}
-use Rattle.running.specs.declared.Layout.{Layout}
-use Rattle.running.specs.Sessions.{Slices, Running}
-use Rattle.running.proofs.Admin.{principal-exists}
+use Rattle.named_rights.specs.Numbers.{principalsOf}
+use Rattle.session.specs.declared.Layout.{Layout}
+use Rattle.session.specs.Sessions.{Slices, Running}
+use Rattle.session.proofs.Admin.{principal-exists}
 use Rattle.store.proofs.Positions.{position-most}
 
 pub part-length : (t : Text) (s e : ℕ) → e ≤ length t → length (take (e - s) (drop s t)) ≡ e - s
@@ -32,19 +32,19 @@ kept-weight ks t k s e A = sym (part-length t s e (A .within .1)) ∙ ap passwor
 
 -- the number of a row is that of its principal
 pub row-number : (s : Session) (l : Layout) (b : Slices) → Running s l b → (p : Name) (n : ℕ)
-    → ((rows : List Row) → Rows rows (take (l .«people_len») (b .people)) (l .people) (b .people-marks) → n ≡ position (rowNames rows) p) → n ≡ position (people (s .store)) p
+    → ((rows : List Row) → Rows rows (take (l .«principals_len») (b .principals)) (l .principals) (b .principal-slots) → n ≡ position (rowNames rows) p) → n ≡ position (principalsOf (s .store)) p
 row-number s l b R p n f =
-    f (map principalRow (s .store .principals)) (principals-rows (s .store .principals) (take (l .«people_len») (b .people)) (l .people) (b .people-marks) (R .principals))
+    f (map principalRow (s .store .principals)) (principals-rows (s .store .principals) (take (l .«principals_len») (b .principals)) (l .principals) (b .principal-slots) (R .principals))
     ∙ ap (λ (ns : List Name). position ns p) (principal-names (s .store .principals))
 
-module _ (s : Session) (l : Layout) (b : Slices) (R : Running s l b) (p : Name) (n : ℕ) (e : n ≡ position (people (s .store)) p) where
-  pub is-missing : n ≡ l .people → isPrincipal s p ≡ false
-  is-missing h = principal-exists s l b R p ∙ le-ltb (position (people (s .store)) p) (l .people) (omega (arith, e, h))
+module _ (s : Session) (l : Layout) (b : Slices) (R : Running s l b) (p : Name) (n : ℕ) (e : n ≡ position (principalsOf (s .store)) p) where
+  pub is-missing : n ≡ l .principals → isPrincipal s p ≡ false
+  is-missing h = principal-exists s l b R p ∙ le-ltb (position (principalsOf (s .store)) p) (l .principals) (omega (arith, e, h))
 
-  pub is-there : n < l .people → isPrincipal s p ≡ true
-  is-there h = principal-exists s l b R p ∙ lt-ltb (position (people (s .store)) p) (l .people) (omega (arith, e, h))
+  pub is-there : n < l .principals → isPrincipal s p ≡ true
+  is-there h = principal-exists s l b R p ∙ lt-ltb (position (principalsOf (s .store)) p) (l .principals) (omega (arith, e, h))
 
-  pub number-below : (n ≡ l .people → ⊥) → n < l .people
+  pub number-below : (n ≡ l .principals → ⊥) → n < l .principals
   number-below h =
-      let m : n ≤ l .people = omega (arith, e, position-most (people (s .store)) p, length-map (s .store .principals) (λ k. k .name), R .principals .counted) in
-      elim (decLe (l .people) n) [ yes k ↦ absurd (h (omega arith)) | no k ↦ omega arith ]
+      let m : n ≤ l .principals = omega (arith, e, position-most (principalsOf (s .store)) p, length-map (s .store .principals) (λ k. k .name), R .principals .counted) in
+      elim (decLe (l .principals) n) [ yes k ↦ absurd (h (omega arith)) | no k ↦ omega arith ]

@@ -15,11 +15,11 @@ use Rattle.language.specs.Values.{Session}
 use Rattle.language.specs.Commands.{withStore, withDelegator, closed, Effect, effect, sessionWeight, step, refused, went, DENIED, FAILED, done}
 use Rattle.language.proofs.Parsing.ValidPrograms.{validCommand}
 use Rattle.store.specs.Rows.{position}
-use Rattle.numbers.specs.Numbers.{people}
-use Rattle.running.specs.declared.Layout.{Layout}
-use Rattle.running.specs.Sessions.{Slices, Running}
-use Rattle.running.specs.Endings.{Succeeds}
-use Rattle.running.proofs.Steps.{is-denied, is-failed, is-done, after-ready}
+use Rattle.named_rights.specs.Numbers.{principalsOf}
+use Rattle.session.specs.declared.Layout.{Layout}
+use Rattle.session.specs.Sessions.{Slices, Running}
+use Rattle.session.specs.Endings.{Succeeds}
+use Rattle.session.proofs.Steps.{is-denied, is-failed, is-done, after-ready}
 use Rattle.principals.proofs.Denials.{others-denied, admin-may}
 use Rattle.principals.proofs.Finding.{is-missing, is-there}
 
@@ -27,8 +27,8 @@ use Rattle.principals.proofs.Finding.{is-missing, is-there}
 
 abbrev pub shut : Layout → Layout
 shut l = record {
-  «people_len» = l .«people_len»;
-  people = l .people;
+  «principals_len» = l .«principals_len»;
+  principals = l .principals;
   «vars_len» = l .«vars_len»;
   vars = l .vars;
   «locals_len» = l .«locals_len»;
@@ -58,7 +58,7 @@ module _ (s : Session) (l : Layout) (b : Slices) (R : Running s l b) where
           sized = R .sized;
           ready = after-ready s exit f (R .ready) tt e;
           principals = R .principals;
-          people-within = R .people-within;
+          principals-within = R .principals-within;
           variables = R .variables;
           vars-within = R .vars-within;
           local-variables = R .local-variables;
@@ -76,8 +76,8 @@ module _ (s : Session) (l : Layout) (b : Slices) (R : Running s l b) where
 
 abbrev pub delegatedBy : Layout → ℕ → Layout
 delegatedBy l n = record {
-  «people_len» = l .«people_len»;
-  people = l .people;
+  «principals_len» = l .«principals_len»;
+  principals = l .principals;
   «vars_len» = l .«vars_len»;
   vars = l .vars;
   «locals_len» = l .«locals_len»;
@@ -93,16 +93,16 @@ module _ (s : Session) (l : Layout) (b : Slices) (R : Running s l b) (p : Name) 
   pub delegator-denied : (l .sender ≡ 0 → ⊥) → step s (default-delegator p) ≡ refused DENIED
   delegator-denied h = is-denied s (default-delegator p) (others-denied s l b R h)
 
-  module _ (n : ℕ) (n-is : n ≡ position (people (s .store)) p) (by-admin : l .sender ≡ 0) where
+  module _ (n : ℕ) (n-is : n ≡ position (principalsOf (s .store)) p) (by-admin : l .sender ≡ 0) where
     abbrev after : Session
     after = withStore s (withDelegator (s .store) p)
 
-    pub delegator-failed : n ≡ l .people → step s (default-delegator p) ≡ refused FAILED
+    pub delegator-failed : n ≡ l .principals → step s (default-delegator p) ≡ refused FAILED
     delegator-failed h =
         is-failed s (default-delegator p) (admin-may s l b R by-admin)
         (ap (λ (c : Bool). given c >> done "DEFAULT_DELEGATOR" [] after) (is-missing s l b R p n n-is h))
 
-    pub delegator-done : n < l .people → T (validCommand (default-delegator p)) → Succeeds (step s (default-delegator p)) (delegatedBy l n) b
+    pub delegator-done : n < l .principals → T (validCommand (default-delegator p)) → Succeeds (step s (default-delegator p)) (delegatedBy l n) b
     delegator-done h v =
         let f : Effect = record { after = after; values = []; line = status "DEFAULT_DELEGATOR" } in
         let there : effect s (default-delegator p) ≡ some f = ap (λ (c : Bool). given c >> done "DEFAULT_DELEGATOR" [] after) (is-there s l b R p n n-is h) in
@@ -114,7 +114,7 @@ module _ (s : Session) (l : Layout) (b : Slices) (R : Running s l b) (p : Name) 
             sized = R .sized;
             ready = after-ready s (default-delegator p) f (R .ready) v e;
             principals = R .principals;
-            people-within = R .people-within;
+            principals-within = R .principals-within;
             variables = R .variables;
             vars-within = R .vars-within;
             local-variables = R .local-variables;

@@ -5,7 +5,7 @@ use Rattle.language.specs.Text.{Text}
 use Rattle.language.specs.State.{Principal}
 use Rattle.store.specs.Held.{Principals}
 
--- the text and the marks hold some principals
-pub record SomePrincipals (t : Text) (count : ℕ) (marks : List ℕ) : Type 0 where
+-- the text and the slots hold some principals
+pub record SomePrincipals (t : Text) (count : ℕ) (slots : List ℕ) : Type 0 where
   pub principals : List Principal
-  pub held : Principals principals t count marks
+  pub held : Principals principals t count slots

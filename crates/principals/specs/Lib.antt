@@ -1,3 +1,2 @@
 -- The commands about principals.
 pub mod Known
-pub mod Creating

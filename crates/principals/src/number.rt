@@ -13,16 +13,16 @@ ghost use Rattle.principals.specs.Known.{SomePrincipals};
 
 // What a principal's password weighs: its length, or nothing where there is none.
 pub fn password_weight(
-    people: &[u8],
+    principals: &[u8],
     len: usize,
-    marks: &[u32],
+    slots: &[u32],
     count: usize,
     number: usize,
 ) -> usize
-    requires { ⌜ (len ≤ length (now people)) × SomePrincipals (take len (now people)) count (now marks) × (number < count) ⌝ }
-    ensures { λ r. ⌜ ((ks : List Principal) → Principals ks (take len (now (people .entry))) count (now (marks .entry)) → r ≡ passwordWeight (principalAt ks number .password)) ⌝ }
+    requires { ⌜ (len ≤ length (now principals)) × SomePrincipals (take len (now principals)) count (now slots) × (number < count) ⌝ }
+    ensures { λ r. ⌜ ((ks : List Principal) → Principals ks (take len (now (principals .entry))) count (now (slots .entry)) → r ≡ passwordWeight (principalAt ks number .password)) ⌝ }
 {
-    let p = password_of(&people[..len], marks, count, number);
+    let p = password_of(&principals[..len], slots, count, number);
     match p {
         Password::Kept { start, end } => end - start,
         Password::Absent => 0,

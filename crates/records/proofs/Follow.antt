@@ -10,10 +10,7 @@ use lib.ListN.{length, drop}
 use Rattle.language.specs.Text.{Text, all, joined, sum}
 use Rattle.language.proofs.Logic.Tests.{both, and, three, and-three, all-append}
 use Rattle.records.specs.Sections.{Reads, Fails, lightOne, lightAll}
-
-pub sum-append : {A : Type 0} (f : A → ℕ) (l m : List A) → sum f (l ++ m) ≡ sum f l + sum f m
-sum-append f [] m = omega arith
-sum-append f (a ∷ l) m = let h : sum f (l ++ m) ≡ sum f l + sum f m = sum-append f l m in omega arith
+use Rattle.language.proofs.Logic.Lists.{sum-append}
 
 pub joined-last : {A : Type 0} (f : A → Text) (l : List A) (a : A) (r : Text) → joined f (l ++ a ∷ []) ++ r ≡ joined f l ++ (f a ++ r)
 joined-last f [] a r = ap (λ (x : Text). x ++ r) (append-nil (f a))

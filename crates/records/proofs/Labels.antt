@@ -16,14 +16,14 @@ use Rattle.language.specs.Identifiers.{isName, isString}
 use Rattle.language.specs.Valid.{validField}
 use Rattle.language.proofs.Logic.Tests.{both}
 use Rattle.language.proofs.StateText.Clean.{name-length}
-use Rattle.lines.specs.Cuts.{part}
+use Rattle.text.specs.Parts.{part}
 use Rattle.store.specs.Rows.{Row, Rows, rowText}
 use Rattle.records.specs.Sections.{Fails, lightAll, Entitled, Records, anyText, opens, offField, fieldWeight, distinctLabels}
 use Rattle.records.specs.Sections as Meant
 use Rattle.records.specs.Entering.{Entering, Entered}
 use Rattle.records.proofs.Opening.{byte-here}
 use Rattle.records.proofs.Follow.{stuck, heavy, finish}
-use Rattle.records.proofs.Marking.{Going, going-start, going-rows, entering, go-on, again, light, ahead}
+use Rattle.records.proofs.Indexing.{Going, going-start, going-rows, entering, go-on, again, light, ahead}
 
 -- a byte at a place opens what is left
 pub opens-here : (t : Text) (i c : ℕ) → getD t i 0 ≡ c → opens c (drop i t) ≡ true
@@ -58,10 +58,10 @@ field-name f = refl
 abbrev pub Filling : Text → ℕ → ℕ → List ℕ → ℕ → ℕ → ℕ → Type 0
 Filling t at w = Going (λ (f : Field). f .label) fieldText validField fieldWeight offField t at w
 
-pub fields-start : (t : Text) (at w : ℕ) (marks : List ℕ) → at ≤ length t → Filling t at w marks at 0 w
+pub fields-start : (t : Text) (at w : ℕ) (slots : List ℕ) → at ≤ length t → Filling t at w slots at 0 w
 fields-start = going-start (λ (f : Field). f .label) fieldText validField fieldWeight anyText offField (λ q h. tt) field-clear field-on
 
-module _ (t : Text) (at w : ℕ) (marks : List ℕ) (i n now : ℕ) (G : Filling t at w marks i n now) where
+module _ (t : Text) (at w : ℕ) (slots : List ℕ) (i n now : ℕ) (G : Filling t at w slots i n now) where
   pub fields-heavy : 8192 < now → Fails (joined fieldText) (lightAll validField distinctLabels fieldWeight w) offField t at
   fields-heavy h = heavy fieldText validField fieldWeight anyText offField (λ q h. tt) field-clear field-on t at w distinctLabels (G .rows) i now (G .run) h
 
@@ -88,18 +88,18 @@ module _ (t : Text) (at w : ℕ) (marks : List ℕ) (i n now : ℕ) (G : Filling
       field-ahead = ahead t (fieldText (E .one .row)) i e (E .one .reads .here) (omega arith) (E .one .reads .low) (E .one .reads .high)
 
       pub field-light : after ≤ 8192
-      field-light = light (λ (f : Field). f .label) fieldText validField fieldWeight anyText offField (λ q h. tt) field-clear field-on field-named field-two field-row field-text field-name t at w marks i n now G m e after E
+      field-light = light (λ (f : Field). f .label) fieldText validField fieldWeight anyText offField (λ q h. tt) field-clear field-on field-named field-two field-row field-text field-name t at w slots i n now G m e after E
 
-      pub field-entering : length t ≤ 65536 → 8192 ≤ w + 2 * length marks → Entering t at i m n marks
-      field-entering = entering (λ (f : Field). f .label) fieldText validField fieldWeight anyText offField (λ q h. tt) field-clear field-on field-named field-two field-row field-text field-name t at w marks i n now G m e after E
+      pub field-entering : length t ≤ 65536 → 8192 ≤ w + 2 * length slots → Entering t at i m n slots
+      field-entering = entering (λ (f : Field). f .label) fieldText validField fieldWeight anyText offField (λ q h. tt) field-clear field-on field-named field-two field-row field-text field-name t at w slots i n now G m e after E
 
-      module _ (small : length t ≤ 65536) (marks' : List ℕ) where
-        pub field-next : 8192 ≤ w + 2 * length marks → ((rows : List Row) → Rows rows (part t at i) n marks → Entered rows (part t (i + 2) m) (i - at) n marks marks' true) → Filling t at w marks' e (n + 1) after
+      module _ (small : length t ≤ 65536) (slots' : List ℕ) where
+        pub field-next : 8192 ≤ w + 2 * length slots → ((rows : List Row) → Rows rows (part t at i) n slots → Entered rows (part t (i + 2) m) (i - at) n slots slots' true) → Filling t at w slots' e (n + 1) after
         field-next h f =
-            go-on (λ (f : Field). f .label) fieldText validField fieldWeight anyText offField (λ q h. tt) field-clear field-on field-named field-two field-row field-text field-name t at w marks i n now G m e after E on h marks'
-            (f _ (going-rows (λ (f : Field). f .label) fieldText validField fieldWeight anyText offField (λ q h. tt) field-clear field-on field-named field-two field-row field-text field-name t at w marks i n now G small))
+            go-on (λ (f : Field). f .label) fieldText validField fieldWeight anyText offField (λ q h. tt) field-clear field-on field-named field-two field-row field-text field-name t at w slots i n now G m e after E on h slots'
+            (f _ (going-rows (λ (f : Field). f .label) fieldText validField fieldWeight anyText offField (λ q h. tt) field-clear field-on field-named field-two field-row field-text field-name t at w slots i n now G small))
 
-        pub field-again : ((rows : List Row) → Rows rows (part t at i) n marks → Entered rows (part t (i + 2) m) (i - at) n marks marks' false) → Fails (joined fieldText) (lightAll validField distinctLabels fieldWeight w) offField t at
+        pub field-again : ((rows : List Row) → Rows rows (part t at i) n slots → Entered rows (part t (i + 2) m) (i - at) n slots slots' false) → Fails (joined fieldText) (lightAll validField distinctLabels fieldWeight w) offField t at
         field-again f =
-            again (λ (f : Field). f .label) fieldText validField fieldWeight anyText offField (λ q h. tt) field-clear field-on field-named field-two field-row field-text field-name t at w marks i n now G m e after E on distinctLabels (λ l g. g) marks'
-            (f _ (going-rows (λ (f : Field). f .label) fieldText validField fieldWeight anyText offField (λ q h. tt) field-clear field-on field-named field-two field-row field-text field-name t at w marks i n now G small))
+            again (λ (f : Field). f .label) fieldText validField fieldWeight anyText offField (λ q h. tt) field-clear field-on field-named field-two field-row field-text field-name t at w slots i n now G m e after E on distinctLabels (λ l g. g) slots'
+            (f _ (going-rows (λ (f : Field). f .label) fieldText validField fieldWeight anyText offField (λ q h. tt) field-clear field-on field-named field-two field-row field-text field-name t at w slots i n now G small))

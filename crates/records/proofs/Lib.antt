@@ -2,7 +2,7 @@
 pub mod Opening
 pub mod Follow
 pub mod Sorts
-pub mod Marking
+pub mod Indexing
 pub mod Labels
 pub mod Values
 pub mod Variables

@@ -11,7 +11,8 @@ use lib.Seq.{drop-cons, length-take-le, getD-drop}
 use Rattle.language.specs.Text.{Text}
 use Rattle.language.specs.Identifiers.{isName}
 use Rattle.language.proofs.StateText.Clean.{name-length}
-use Rattle.lines.specs.Cuts.{part, Field}
+use Rattle.lines.specs.Cuts.{Field}
+use Rattle.text.specs.Parts.{part}
 
 -- a byte that is not 0 stands within the text
 pub inside : (t : Text) (at : ℕ) → 0 < getD t at 0 → at < length t

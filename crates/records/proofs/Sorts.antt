@@ -14,7 +14,8 @@ use Rattle.language.specs.Identifiers.{isName, isString}
 use Rattle.language.specs.Encode.{fieldText}
 use Rattle.language.specs.Valid.{validField}
 use Rattle.language.proofs.Logic.Tests.{both, and}
-use Rattle.lines.specs.Cuts.{part, Field}
+use Rattle.lines.specs.Cuts.{Field}
+use Rattle.text.specs.Parts.{part}
 use Rattle.lines.proofs.Cuts.{only, name-only}
 use Rattle.records.specs.Sections.{Reads, Fails, lightOne, anyText, stringLine, fieldWeight, One, Entitled}
 use Rattle.records.proofs.Opening.{twice, tail-of, next-here, part-length}

@@ -13,7 +13,7 @@ use Rattle.language.specs.Weight.{elementWeight, valueWeight}
 use Rattle.language.specs.Encode.{fieldText, elementText, valueText}
 use Rattle.language.specs.Identifiers.{isString}
 use Rattle.language.specs.Valid.{validField, validFields, validElement, validValue}
-use Rattle.language.proofs.Logic.Tests.{both, and, three, and-three}
+use Rattle.language.proofs.Logic.Tests.{both, and, three, and-three, not-not}
 use Rattle.records.specs.declared.Item.{Item}
 use Rattle.records.specs.declared.Item.the-variants.{Good, Bad}
 use Rattle.records.specs.Sections.{Reads, Fails, One, Records, lightOne, lightAll, anyText, opens, offField, offElement, stringLine, StringMeant, ElementMeant, ElementsMeant, ValueMeant, fieldWeight, listedWeight, distinctLabels}
@@ -21,7 +21,7 @@ use Rattle.records.proofs.Opening.{twice, tail-of, byte-here, next-here
 use Rattle.records.proofs.Sorts.{inner-fails, inner-reads, any-weaker}
 use Rattle.records.proofs.Follow.{Run, start, step, stuck, finish}
 use Rattle.records.proofs.Labels.{opens-here, opens-not}
-use Rattle.records.proofs.Marking.{ahead}
+use Rattle.records.proofs.Indexing.{ahead}
 
 -- another test that says the same
 pub reweigh : {A : Type 0} (text : A → Text) (f g : A → Bool) (clear : Text → Bool) (t : Text) (at : ℕ) (a : A) (e : ℕ)
@@ -114,10 +114,6 @@ middle : (a c : Bool) → ((not a && false) && c) ≡ false
 middle true c = refl
 middle false c = refl
 
-double : (d : Bool) → not (not d) ≡ d
-double true = refl
-double false = refl
-
 module _ (t : Text) (at : ℕ) where
   pub on-string : getD t at 0 ≡ 83 → true ≡ not (offElement (drop at t))
   on-string e = sym (ap (λ (b : Bool). not (not b && not (opens 82 (drop at t)) && not (opens 70 (drop at t)))) (opens-here t at 83 e))
@@ -131,7 +127,7 @@ module _ (t : Text) (at : ℕ) where
       let d : opens 70 (drop at t) ≡ eqb (getD t at 0) 70 = ap (λ (b : ℕ). eqb b 70) (sym (byte-here t at (drop at t) refl)) in
       sym (ap (λ (b : Bool). not (not b && not (opens 82 (drop at t)) && not (opens 70 (drop at t)))) (opens-not t at 83 s)
       ∙ ap (λ (b : Bool). not (not b && not (opens 70 (drop at t)))) (opens-not t at 82 r)
-      ∙ double (opens 70 (drop at t)) ∙ d)
+      ∙ not-not (opens 70 (drop at t)) ∙ d)
 
 element-clear : (e : Element) (q : Text) → T (offField (elementText e ++ q))
 element-clear (string u) q = tt

@@ -13,7 +13,8 @@ use Rattle.language.specs.Encode.{variableText, valueText}
 use Rattle.language.specs.Identifiers.{isName}
 use Rattle.language.specs.Valid.{validValue, validVariable}
 use Rattle.language.proofs.Logic.Tests.{both, and}
-use Rattle.lines.specs.Cuts.{part, Field}
+use Rattle.lines.specs.Cuts.{Field}
+use Rattle.text.specs.Parts.{part}
 use Rattle.lines.proofs.Cuts.{name-only}
 use Rattle.store.proofs.Holders.{variable-text}
 use Rattle.records.specs.Sections.{Fails, lightOne, One, Entitled, offElement}

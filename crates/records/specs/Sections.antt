@@ -12,7 +12,7 @@ use Rattle.language.specs.Identifiers.{isString}
 use Rattle.language.specs.Weight.{limit, elementWeight, valueWeight, variableWeight}
 use Rattle.language.specs.Encode.{fieldText, elementText, variableText, valueText}
 use Rattle.language.specs.Valid.{validField, validElement, validValue, validVariable}
-use Rattle.lines.specs.Cuts.{part}
+use Rattle.text.specs.Parts.{part}
 use Rattle.records.specs.declared.Item.{Item}
 use Rattle.records.specs.declared.Item.the-variants as Single
 use Rattle.records.specs.declared.Entry.{Entry}
@@ -72,12 +72,12 @@ abbrev pub SectionMeant : {A : Type 0} → (A → Text) → (A → Bool) → (Li
 SectionMeant text fine good weight off t at w (Many.Good e n after) = Records text fine good weight off t at w e n after
 SectionMeant text fine good weight off t at w Many.Bad = Fails (joined text) (lightAll fine good weight w) off t at
 
--- a place in a text whose places fit a mark, and marks enough for the names that may still come
-pub record Safe (t : Text) (at w : ℕ) (marks : List ℕ) : Type 0 where
+-- a place in a text whose places fit a slot, and slots enough for the names that may still come
+pub record Safe (t : Text) (at w : ℕ) (slots : List ℕ) : Type 0 where
   pub start : at ≤ length t
   pub small : length t ≤ 65536
   pub weighed : w ≤ 8193
-  pub room : 8192 ≤ w + 2 * length marks
+  pub room : 8192 ≤ w + 2 * length slots
 
 -- ---- what may follow: the first byte, 0 where nothing does
 

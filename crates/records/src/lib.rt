@@ -1,13 +1,13 @@
 // The records of the state text: fields, elements, values and variables, each read from a place on, or shown not to stand there.
 use lines::Cut;
-use store::mark::Found;
+use store::index::Found;
 use text::Alphabet;
 ghost use mathlib.Core.Path.{_≡_};
 ghost use mathlib.Core.Bool.{not};
 ghost use mathlib.Core.List.{List};
 ghost use Prim.Native.Nat.{_+_, _*_, _-_, _≤_};
 ghost use lib.ListN.{length, drop, getD};
-ghost use Rattle.lines.specs.Cuts.{part};
+ghost use Rattle.text.specs.Parts.{part};
 ghost use Rattle.store.specs.Rows.{Row, Rows};
 ghost use Rattle.records.specs.Entering.{Entering, Entered};
 ghost use Rattle.records.specs.Sections.{offElement, Safe, StringMeant, FieldMeant, FieldsMeant, ElementMeant, ElementsMeant, ValueMeant, VariableMeant};
@@ -70,23 +70,23 @@ fn field_at(text: &[u8], at: usize, w: usize) -> Entry
 }
 
 // A name that starts at i + 2 and ends at m is entered as the n-th of the records that stand from `at` up to i, if it is new.
-pub fn enter(text: &[u8], at: usize, i: usize, m: usize, marks: &mut [u32], n: usize) -> bool
-    requires { ⌜ Entering (now text) at i m n (now marks) ⌝ }
-    ensures { λ r. ⌜ ((rows : List Row) → Rows rows (part (now (text .entry)) at i) n (now (marks .entry))
-        → Entered rows (part (now (text .entry)) (i + 2) m) (i - at) n (now (marks .entry)) (now (marks .exit)) r) ⌝ }
+pub fn enter(text: &[u8], at: usize, i: usize, m: usize, slots: &mut [u32], n: usize) -> bool
+    requires { ⌜ Entering (now text) at i m n (now slots) ⌝ }
+    ensures { λ r. ⌜ ((rows : List Row) → Rows rows (part (now (text .entry)) at i) n (now (slots .entry))
+        → Entered rows (part (now (text .entry)) (i + 2) m) (i - at) n (now (slots .entry)) (now (slots .exit)) r) ⌝ }
 {
     let from = i + 2;
-    let seen = store::mark::find(&text[at..i], marks, n, &text[from..m]);
+    let seen = store::index::find(&text[at..i], slots, n, &text[from..m]);
     let Found::Missing = seen else {
         return false;
     };
-    marks[n] = store::mark::print(&text[from..m]) * 65536 + (i - at) as u32;
+    slots[n] = store::index::hash(&text[from..m]) * 65536 + (i - at) as u32;
     true
 }
 
-// Field lines with different labels. The marks of the labels go to `marks`, to tell whether one is there twice.
-fn fields(text: &[u8], at: usize, w: usize, marks: &mut [u32]) -> Section
-    requires { ⌜ Safe (now text) at w (now marks) ⌝ }
+// Field lines with different labels. The slots of the labels go to `slots`, to tell whether one is there twice.
+fn fields(text: &[u8], at: usize, w: usize, slots: &mut [u32]) -> Section
+    requires { ⌜ Safe (now text) at w (now slots) ⌝ }
     ensures { λ r. ⌜ FieldsMeant (now (text .entry)) at w r ⌝ }
 {
     let mut i = at;
@@ -97,7 +97,7 @@ fn fields(text: &[u8], at: usize, w: usize, marks: &mut [u32]) -> Section
         let Entry::Good(m, e, after) = line else {
             return Section::Bad;
         };
-        if !enter(text, at, i, m, marks, n) {
+        if !enter(text, at, i, m, slots, n) {
             return Section::Bad;
         }
         n += 1;
@@ -111,8 +111,8 @@ fn fields(text: &[u8], at: usize, w: usize, marks: &mut [u32]) -> Section
 }
 
 // A string or a record, as an element of a list or a whole value.
-fn element_at(text: &[u8], at: usize, w: usize, marks: &mut [u32]) -> Item
-    requires { ⌜ Safe (now text) at w (now marks) ⌝ }
+fn element_at(text: &[u8], at: usize, w: usize, slots: &mut [u32]) -> Item
+    requires { ⌜ Safe (now text) at w (now slots) ⌝ }
     ensures { λ r. ⌜ ElementMeant (now (text .entry)) at w r ⌝ }
 {
     let first = lines::byte_at(text, at);
@@ -128,7 +128,7 @@ fn element_at(text: &[u8], at: usize, w: usize, marks: &mut [u32]) -> Item
     if lines::byte_at(text, at + 1) != 10 {
         return Item::Bad;
     }
-    let found = fields(text, at + 2, w, marks);
+    let found = fields(text, at + 2, w, slots);
     let Section::Good(e, n, after) = found else {
         return Item::Bad;
     };
@@ -153,14 +153,14 @@ fn goes_on(text: &[u8], at: usize) -> bool
 }
 
 // The elements of a list.
-fn elements(text: &[u8], at: usize, w: usize, marks: &mut [u32]) -> Item
-    requires { ⌜ Safe (now text) at w (now marks) × (w ≤ 8192) ⌝ }
+fn elements(text: &[u8], at: usize, w: usize, slots: &mut [u32]) -> Item
+    requires { ⌜ Safe (now text) at w (now slots) × (w ≤ 8192) ⌝ }
     ensures { λ r. ⌜ ElementsMeant (now (text .entry)) at w r ⌝ }
 {
     let mut i = at;
     let mut now = w;
     while goes_on(text, i) {
-        let item = element_at(text, i, now + 1, marks);
+        let item = element_at(text, i, now + 1, slots);
         let Item::Good(e, after) = item else {
             return Item::Bad;
         };
@@ -171,22 +171,22 @@ fn elements(text: &[u8], at: usize, w: usize, marks: &mut [u32]) -> Item
 }
 
 // The value of a variable.
-fn value_at(text: &[u8], at: usize, w: usize, marks: &mut [u32]) -> Item
-    requires { ⌜ Safe (now text) at w (now marks) × (w ≤ 8192) ⌝ }
+fn value_at(text: &[u8], at: usize, w: usize, slots: &mut [u32]) -> Item
+    requires { ⌜ Safe (now text) at w (now slots) × (w ≤ 8192) ⌝ }
     ensures { λ r. ⌜ ValueMeant (now (text .entry)) at w r ⌝ }
 {
     if lines::byte_at(text, at) != 76 {
-        return element_at(text, at, w, marks);
+        return element_at(text, at, w, slots);
     }
     if lines::byte_at(text, at + 1) != 10 {
         return Item::Bad;
     }
-    elements(text, at + 2, w, marks)
+    elements(text, at + 2, w, slots)
 }
 
 // A variable: its name, and its value.
-pub fn variable_at(text: &[u8], at: usize, w: usize, marks: &mut [u32]) -> Entry
-    requires { ⌜ Safe (now text) at w (now marks) × (getD (now text) at 0 ≡ 86) ⌝ }
+pub fn variable_at(text: &[u8], at: usize, w: usize, slots: &mut [u32]) -> Entry
+    requires { ⌜ Safe (now text) at w (now slots) × (getD (now text) at 0 ≡ 86) ⌝ }
     ensures { λ r. ⌜ VariableMeant (now (text .entry)) at w r ⌝ }
 {
     if lines::byte_at(text, at + 1) != 9 {
@@ -200,7 +200,7 @@ pub fn variable_at(text: &[u8], at: usize, w: usize, marks: &mut [u32]) -> Entry
     if before > 8192 {
         return Entry::Bad;
     }
-    let value = value_at(text, m + 1, before, marks);
+    let value = value_at(text, m + 1, before, slots);
     let Item::Good(e, after) = value else {
         return Entry::Bad;
     };

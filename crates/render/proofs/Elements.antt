@@ -18,13 +18,15 @@ use Rattle.values.specs.Encoding.{Holds}
 use Rattle.values.specs.Places.{Here, FieldsAt, ElementAt, Elements}
 use Rattle.values.specs.Writing.{Written}
 use Rattle.values.proofs.Texts.{firstByte, first-is}
-use Rattle.values.proofs.Standing.{stops, past, part-is, again, free-newline, string-clean, fields-valid}
+use Rattle.values.proofs.Standing.{stops, past, part-is, again, free-newline, fields-valid}
+use Rattle.language.proofs.StateText.Clean.{string-clean}
 use Rattle.values.proofs.Lines.{byte-here}
 use Rattle.values.proofs.Listing.{elements-head, elements-tail, starts-with}
 use Rattle.values.proofs.Pieces.{_▸_, rewritten}
 use Rattle.render.specs.Json.{linked, Renders}
 use Rattle.render.specs.declared.output.Moved.{Moved}
-use Rattle.render.proofs.Linking.{Linking, linking-start, linking-step, linking-done, linking-room, record-json, list-json, quote-length}
+use Rattle.render.proofs.Linking.{Linking, linking-start, linking-step, linking-done, linking-room, record-json, list-json}
+use Rattle.language.proofs.Parsing.Printing.{quote-length}
 
 -- an element has a letter and a byte after it, at least
 pub element-within : (t : Text) (at : ℕ) (e : Element) (rest : Text) → ElementAt t at e rest → at + 2 ≤ length t

@@ -1,23 +1,18 @@
 -- Laws of lines written from their parts: a status, an assertion, a count's digits.
 -- Assumes nothing.
 use mathlib.Core.Path.{_≡_, refl, sym, ap}
-use Prim.Native.String.{String}
 use Prim.Native.Nat.{ℕ, zero, suc, _+_, _/_, _%_, _≤_, _<_}
 use native.Mathlib.Omega.{arith}
 use mathlib.Core.List.{[], _∷_, _++_, append-assoc}
 use lib.ListN.{length, length-append}
 use borrow.Author.Tests.{lt-ltb, le-ltb}
-use Rattle.language.specs.Text.{Text, bytes, if_then_else_, digits}
+use Rattle.language.specs.Text.{Text, if_then_else_, digits}
 use Rattle.language.specs.State.{Assertion}
 use Rattle.language.specs.Encode.{letter, assertionText}
-use Rattle.language.specs.Output.{status}
 use Rattle.values.specs.Writing.{Written}
-use Rattle.render.specs.Lines.{statusLine, assertionLine, Digits, DigitsRoom}
+use Rattle.render.specs.Lines.{assertionLine, Digits, DigitsRoom}
 
 -- ---- the same lines as the language's
-
-pub status-line : (word : String) → statusLine (bytes word) ≡ status word
-status-line word = refl
 
 pub assertion-line : (a : Assertion) (b : ℕ) → letter (a .right) ≡ b ∷ [] → assertionLine (a .variable) (a .from) b (a .to) ≡ assertionText a
 assertion-line a b e = ap (λ l. 65 ∷ 9 ∷ (a .variable ++ 9 ∷ (a .from ++ 9 ∷ (l ++ 9 ∷ (a .to ++ (10 ∷ [])))))) (sym e)

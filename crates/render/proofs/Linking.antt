@@ -11,6 +11,7 @@ use Rattle.language.specs.Output.{quote, commas, fieldJson, elementJson, valueJ
 use Rattle.values.specs.Writing.{Written}
 use Rattle.values.proofs.Pieces.{_▸_, rewritten, written-none, written-length}
 use Rattle.render.specs.Json.{linked}
+use Rattle.language.proofs.Parsing.Printing.{quote-length}
 
 pub commas-linked : {A : Type 0} (f : A → Text) (b : ℕ) (a : A) (l : List A) → linked f b (a ∷ l) ≡ b ∷ commas f (a ∷ l)
 commas-linked f b a [] = ap (λ r. b ∷ r) (append-nil (f a))
@@ -25,9 +26,6 @@ list-json e es = ap (λ r. r ++ (93 ∷ [])) (commas-linked elementJson 91 e es)
 
 pub field-json : (f : Field) → quote (f .label) ++ ((58 ∷ []) ++ quote (f .text)) ≡ fieldJson f
 field-json f = sym (append-assoc (quote (f .label)) (58 ∷ []) (quote (f .text)))
-
-pub quote-length : (t : Text) → length (quote t) ≡ length t + 2
-quote-length t = omega (arith, length-append t (34 ∷ []))
 
 pub quoted-ends : (t : Text) {a b : Text} {at r : ℕ} → Written a at (quote t) r b → r ≡ at + length t + 2
 quoted-ends t w = omega (arith, w .ends, quote-length t)

@@ -17,7 +17,8 @@ use Rattle.values.proofs.Lines.{fields-head, fields-tail, byte-here, no-line, f
 use Rattle.values.proofs.Pieces.{rewritten}
 use Rattle.render.specs.Json.{linked, Renders}
 use Rattle.render.specs.declared.output.Moved.{Moved}
-use Rattle.render.proofs.Linking.{Linking, linking-start, linking-step, linking-done, linking-room, field-json, quote-length}
+use Rattle.render.proofs.Linking.{Linking, linking-start, linking-step, linking-done, linking-room, field-json}
+use Rattle.language.proofs.Parsing.Printing.{quote-length}
 
 -- ---- one field
 

@@ -12,6 +12,7 @@ use Rattle.language.specs.State.{State}
 use Rattle.language.specs.Encode.{headText, principalsText, delegatorText, variablesText, assertionsText, stateText, bufferSize, padded}
 use Rattle.values.specs.Writing.{Written}
 use Rattle.values.proofs.Pieces.{rewritten, written-take, written-length}
+use Rattle.language.proofs.Logic.Lists.{five-joined}
 
 -- zeros from `at` up to, and without, i
 abbrev pub zeroed : Text → ℕ → ℕ → Text
@@ -55,9 +56,6 @@ pub state-padded : (s : State) (before after : Text) (r : ℕ) → length before
 state-padded s before after r h w =
     let p : Text = headText (s .store .isOpen) (s .count) in
     let e : p ++ (principalsText (s .store .principals) ++ (delegatorText (s .store .delegator) ++ (variablesText (s .store .variables) ++ assertionsText (s .store .assertions)))) ≡ stateText s =
-    five p (principalsText (s .store .principals)) (delegatorText (s .store .delegator)) (variablesText (s .store .variables)) (assertionsText (s .store .assertions)) in
+    sym (five-joined p (principalsText (s .store .principals)) (delegatorText (s .store .delegator)) (variablesText (s .store .variables)) (assertionsText (s .store .assertions))) in
     let x : Written before 0 (stateText s) r after = rewritten e w in
     padded-is (stateText s) after r (written-length x ∙ h) (x .ends ∙ omega arith) (written-take x)
-  where
-    five : (a b c d e : Text) → a ++ (b ++ (c ++ (d ++ e))) ≡ (((a ++ b) ++ c) ++ d) ++ e
-    five a b c d e = sym (simp append-assoc)

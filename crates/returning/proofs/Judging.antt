@@ -19,7 +19,7 @@ use Rattle.evaluate.specs.declared.result.Evaluated.{Evaluated}
 use Rattle.evaluate.specs.declared.result.Evaluated.the-variants.{Value as Is-value, Missing, Heavy}
 use Rattle.evaluate.specs.Results.{Valued}
 use Rattle.evaluate.specs.Permits.{unread}
-use Rattle.running.proofs.Steps.{is-denied, is-failed, is-full, is-done}
+use Rattle.session.proofs.Steps.{is-denied, is-failed, is-full, is-done}
 use Rattle.returning.specs.Returns.{Given, answerTo}
 
 abbrev effectOf : Session → Value → Effect

@@ -1,6 +1,6 @@
 // The ending `return e`: the value that the program prints.
 use evaluate::result::Evaluated;
-use running::Layout;
+use session::Layout;
 use syntax::value::Expr;
 ghost use mathlib.Core.Path.{_≡_};
 ghost use mathlib.Core.Option.{some};
@@ -13,7 +13,7 @@ ghost use Rattle.language.specs.Commands.{step};
 ghost use Rattle.syntax.specs.Values.{exprMeant};
 ghost use Rattle.evaluate.specs.Results.{SomeExpr};
 ghost use Rattle.evaluate.specs.Drafts.{Lent};
-ghost use Rattle.running.specs.Sessions.{slices, Running, SomeRunning};
+ghost use Rattle.session.specs.Sessions.{slices, Running, SomeRunning};
 ghost use Rattle.returning.specs.Returns.{Given, answerTo};
 
 // How the ending goes: refused, or done with the value's text in the first bytes that were lent for it.
@@ -37,35 +37,35 @@ fn answered(r: Evaluated) -> Returned
 
 // Writes the value of the expression that the program's text says at the places e, from the start of `value` on, where it may be returned.
 pub fn value<'a>(
-    people: &[u8],
-    people_marks: &[u32],
+    principals: &[u8],
+    principal_slots: &[u32],
     vars: &'a [u8],
-    var_marks: &[u32],
+    variable_slots: &[u32],
     locals: &'a [u8],
-    local_marks: &[u32],
-    standing: &[u64],
+    local_slots: &[u32],
+    assertions: &[u64],
     value: &mut [u8],
     labels: &mut [u32],
     l: Layout,
     text: &[u8],
     e: Expr,
 ) -> Returned
-    requires { ⌜ SomeRunning l (slices (now people) (now «people_marks») (now vars) (now «var_marks») (now locals) (now «local_marks») (now standing)) ⌝ }
+    requires { ⌜ SomeRunning l (slices (now principals) (now «principal_slots») (now vars) (now «variable_slots») (now locals) (now «local_slots») (now assertions)) ⌝ }
     requires { ⌜ SomeExpr (now text) e × (length (now text) ≤ longest) ⌝ }
     requires { ⌜ Lent (now value) (now labels) ⌝ }
     ensures { λ r. ⌜ ((s : Session) (x : Syntax.Expr)
-        → Running s l (slices (now (people .entry)) (now («people_marks» .entry)) (now (vars .entry)) (now («var_marks» .entry)) (now (locals .entry)) (now («local_marks» .entry)) (now (standing .entry)))
+        → Running s l (slices (now (principals .entry)) (now («principal_slots» .entry)) (now (vars .entry)) (now («variable_slots» .entry)) (now (locals .entry)) (now («local_slots» .entry)) (now (assertions .entry)))
         → exprMeant (now (text .entry)) e ≡ some x → Given r (step s (Syntax.return x)) s (now (value .exit))) ⌝ }
 {
     let vars_len = l.vars_len;
     let locals_len = l.locals_len;
     let may = evaluate::permit::readable(
         &vars[..vars_len],
-        var_marks,
+        variable_slots,
         l.vars,
-        standing,
+        assertions,
         l.asserted,
-        l.people,
+        l.principals,
         l.sender,
         text,
         e,
@@ -75,10 +75,10 @@ pub fn value<'a>(
     }
     let r = evaluate::value(
         &vars[..vars_len],
-        var_marks,
+        variable_slots,
         l.vars,
         &locals[..locals_len],
-        local_marks,
+        local_slots,
         l.locals,
         text,
         e,

@@ -1,5 +1,3 @@
-pub mod Packing
-pub mod Marking
 pub mod Passing
 pub mod Rounding
 pub mod Searching

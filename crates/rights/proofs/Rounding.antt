@@ -8,8 +8,9 @@ use native.Mathlib.Omega.{arith}
 use lib.ListN.{length, getD, set, length-set}
 use lib.Seq.{getD-set-same, getD-set-other}
 use Rattle.rights.specs.Chain.{_∈_, Asked, Step}
-use Rattle.rights.specs.Rounds.{Delegation, relevant, unreached, marked, oneRound, left}
-use Rattle.rights.proofs.Marking.{Hit, marked-cases, marked-keeps, marked-covers, marked-left}
+use Rattle.search_steps.specs.Steps.{Delegation, unreached, marked, left}
+use Rattle.rights.specs.Rounds.{relevant, oneRound}
+use Rattle.search_steps.proofs.Marking.{Hit, marked-cases, marked-keeps, marked-covers, marked-left}
 use Rattle.rights.proofs.Passing.{pass-keeps, pass-brings, delegates, relevant-step}
 
 -- p was unreached in D, and was reached in e by a step from somebody who has d in D
@@ -96,9 +97,9 @@ module _ (a : Asked) (d : ℕ) (D : List ℕ) (small : d < 4096) (sized : length
       let k : getD e q 0 ≡ d = ⊎-elim (λ s. s ∙ q-has) (λ n. absurd (omega (arith, n .was))) (x .ext q q-in) in
       marked-covers d q p e small (omega (arith, x .size)) (omega (arith, x .size)) k
 
-  pub round-covers : (q p : ℕ) → q < a .count → p < a .count → getD D q 0 ≡ d → record { variable = a .variable; from = q; right = a .right; to = p } ∈ a .standing → Has p (oneRound d (relevant a) D)
+  pub round-covers : (q p : ℕ) → q < a .count → p < a .count → getD D q 0 ≡ d → record { variable = a .variable; from = q; right = a .right; to = p } ∈ a .assertions → Has p (oneRound d (relevant a) D)
   round-covers q p q-in p-in q-has m =
-      pass-brings Extends (Has p) d (relevant a) D (record { from = q; to = p }) (delegates (a .variable) (a .right) q p (a .standing) m) ext-relevant
+      pass-brings Extends (Has p) d (relevant a) D (record { from = q; to = p }) (delegates (a .variable) (a .right) q p (a .assertions) m) ext-relevant
       (λ y e. has-marked d p (y .from) (y .to) e)
       (cover q p q-in p-in q-has)
       ext-refl

@@ -9,8 +9,9 @@ use borrow.Author.Tests.{eq-eqb, ne-eqb}
 use Rattle.rights.specs.Chain.{Asked, Chain.admin, Shortest, Answered}
 use Rattle.rights.specs.declared.Answer.{Answer}
 use Rattle.rights.specs.declared.Answer.the-variants.{Yes, No}
-use Rattle.rights.specs.Rounds.{Delegation, unreached, oneRound, left, start, Whoever, Rounded, answerOf}
-use Rattle.rights.proofs.Marking.{left-some}
+use Rattle.search_steps.specs.Steps.{Delegation, unreached, left}
+use Rattle.rights.specs.Rounds.{oneRound, start, Whoever, Rounded, answerOf}
+use Rattle.search_steps.proofs.Marking.{left-some}
 use Rattle.rights.proofs.Rounding.{round-length}
 use Rattle.rights.proofs.Searching.{Stage, start-length, start-other, left-start, stage-first, stage-found, stage-open, stage-next, stage-never, none-more, some-more, in-time}
 

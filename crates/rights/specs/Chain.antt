@@ -2,7 +2,7 @@
 use mathlib.Core.Path.{_≡_}
 use mathlib.Core.List.{List, List·Memᴰ}
 use Prim.Native.Nat.{ℕ, suc, _≤_, _<_}
-use Rattle.rights.specs.declared.Assertion as Declared
+use Rattle.assertion.specs.Packed.{Assertion}
 use Rattle.rights.specs.declared.Answer.{Answer}
 use Rattle.rights.specs.declared.Answer.the-variants.{Yes, No}
 
@@ -10,20 +10,16 @@ infix 50 _∈_
 abbrev pub _∈_ : {A : Type 0} → A → List A → Type 0
 x ∈ l = List·Memᴰ x l
 
--- the assertion `variable from right -> to`: the code's record of four numbers
-abbrev pub Assertion : Type 0
-Assertion = Declared.Assertion
-
 -- the assertions that stand, how many principals there are (they are the numbers below `count`), and the variable and right asked for
 pub record Asked : Type 0 where
-  pub standing : List Assertion
+  pub assertions : List Assertion
   pub count : ℕ
   pub variable : ℕ
   pub right : ℕ
 
--- a step from q to p: a standing assertion with that variable and right, or from anyone to any principal
+-- a step from q to p: a assertions assertion with that variable and right, or from anyone to any principal
 pub data Step (a : Asked) : ℕ → ℕ → Type 0 where
-  assertion : {q p : ℕ} → record { variable = a .variable; from = q; right = a .right; to = p } ∈ a .standing → p < a .count → Step a q p
+  assertion : {q p : ℕ} → record { variable = a .variable; from = q; right = a .right; to = p } ∈ a .assertions → p < a .count → Step a q p
   anyone : {q p : ℕ} → q ≡ 1 → p < a .count → Step a q p
 
 -- a chain of n steps from admin to p; admin has the chain of length 0
@@ -43,4 +39,4 @@ Answered a p (Yes n) = Shortest a p n
 Answered a p No = (m : ℕ) → Chain a m p → ⊥
 
 abbrev pub asked : List Assertion → ℕ → ℕ → ℕ → Asked
-asked s n v w = record { standing = s; count = n; variable = v; right = w }
+asked s n v w = record { assertions = s; count = n; variable = v; right = w }

@@ -5,7 +5,7 @@ use mathlib.Core.Logic.{_⊎_}
 use Prim.Native.Nat.{ℕ, _≤_, _<_}
 use lib.ListN.{length}
 use Rattle.rights.specs.Chain.{asked, Answered}
-use Rattle.rights.specs.Packed.{fields}
+use Rattle.assertion.specs.Packed.{fields}
 use Rattle.rights.specs.declared.Answer.{Answer}
 use Rattle.rights.specs.declared.Answer.the-variants.{Yes, No}
 

@@ -10,21 +10,21 @@ const REFUSED: u64 = 4097;
 // The length of the shortest chain to a principal, or the number for none, or for a question that is refused.
 #[no_mangle]
 pub extern "C" fn rights_shortest(
-    standing: &[u64],
+    assertions: &[u64],
     count: usize,
     variable: u16,
     right: u16,
     principal: usize,
 ) -> u64
-    ensures { λ r. ⌜ Reported (now (standing .entry)) count variable right principal r ⌝ }
+    ensures { λ r. ⌜ Reported (now (assertions .entry)) count variable right principal r ⌝ }
 {
     if 4096 < count {
         return REFUSED;
     }
-    if 2048 < standing.len() {
+    if 2048 < assertions.len() {
         return REFUSED;
     }
-    match rights::shortest(standing, count, variable, right, principal) {
+    match rights::shortest(assertions, count, variable, right, principal) {
         Answer::Yes(n) => n as u64,
         Answer::No => NO,
     }

@@ -3,7 +3,7 @@
 use mathlib.Core.Path.{_≡_, sym, ap, _∙_}
 use Prim.Native.Nat.{ℕ, zero, suc, _+_, _-_, _≤_, _<_}
 use native.Mathlib.Omega.{arith}
-use mathlib.Core.List.{[], _++_, append-assoc}
+use mathlib.Core.List.{_++_, append-assoc}
 use lib.ListN.{length, take, drop, replicate, take-append-drop, replicate-append-replicate}
 use lib.Seq.{take-take, length-take-le, drop-drop}
 use Rattle.language.specs.Text.{Text}

@@ -18,10 +18,10 @@ use Rattle.values.specs.Writing.{Written}
 use Rattle.values.proofs.Pieces.{_▸_, rewritten, written-none}
 use Rattle.render.specs.Lines.{assertionLine}
 use Rattle.render.proofs.Lines.{assertion-line}
-use Rattle.numbers.specs.Numbers.{people, variables, numbered, Standing}
-use Rattle.numbers.proofs.Few.{store-shape}
-use Rattle.running.specs.declared.Layout.{Layout}
-use Rattle.saving.specs.Stores.{Named, Claims}
+use Rattle.named_rights.specs.Numbers.{principalsOf, variables, numbered, Standing}
+use Rattle.named_rights.proofs.Few.{store-shape}
+use Rattle.session.specs.declared.Layout.{Layout}
+use Rattle.saving.specs.Stores.{Named, Assertions}
 
 -- a line's parts are an assertion's
 pub line-of : (a : Assertion) (b : ℕ) (x q p : Text) → x ≡ a .variable → q ≡ a .from → p ≡ a .to → letter (a .right) ≡ b ∷ [] → assertionLine x q b p ≡ assertionText a
@@ -35,45 +35,45 @@ pub line-room : (a : Assertion) (b : ℕ) (x q p : Text) (at size : ℕ) → x �
 line-room a b x q p at size ex eq ep eb h = omega (arith, h, ap length (line-of a b x q p ex eq ep eb), line-size x q b p)
 
 -- the assertion of a number
-abbrev pub claimAt : Store → ℕ → Assertion
-claimAt s k = getD (s .assertions) k (record { variable = []; from = []; right = read; to = [] })
+abbrev pub assertionAt : Store → ℕ → Assertion
+assertionAt s k = getD (s .assertions) k (record { variable = []; from = []; right = read; to = [] })
 
-module _ (s : Store) (l : Layout) (people-text : Text) (people-marks : List ℕ) (vars-text : Text) (var-marks standing : List ℕ)
-    (N : Named s l people-text people-marks vars-text var-marks) (S : Standing s (l .asserted) standing) where
-  pub claims-count : l .asserted ≡ length (s .assertions)
-  claims-count = sym (length-take-le (l .asserted) standing (S .within)) ∙ ap length (S .are) ∙ length-map (s .assertions) (numbered (people s) (variables s))
+module _ (s : Store) (l : Layout) (principals-text : Text) (principal-slots : List ℕ) (vars-text : Text) (variable-slots assertions : List ℕ)
+    (N : Named s l principals-text principal-slots vars-text variable-slots) (S : Standing s (l .asserted) assertions) where
+  pub assertions-count : l .asserted ≡ length (s .assertions)
+  assertions-count = sym (length-take-le (l .asserted) assertions (S .within)) ∙ ap length (S .are) ∙ length-map (s .assertions) (numbered (principalsOf s) (variables s))
 
   module _ (i : ℕ) (h : i < l .asserted) where
     there : i < length (s .assertions)
-    there = omega (arith, claims-count)
+    there = omega (arith, assertions-count)
 
-    pub claim-at : Claims s (claimAt s i) (getD standing i 0)
-    claim-at = record {
+    pub assertion-at : Assertions s (assertionAt s i) (getD assertions i 0)
+    assertion-at = record {
       known = all-at (validAssertion s) (s .assertions) i (record { variable = []; from = []; right = read; to = [] }) (store-shape s (N .is-valid) .assertions-valid) there;
       number =
-          sym (getD-take (l .asserted) standing i 0 h) ∙ ap (λ (m : List ℕ). getD m i 0) (S .are)
-          ∙ map-at (numbered (people s) (variables s)) (s .assertions) i (record { variable = []; from = []; right = read; to = [] }) 0 there;
+          sym (getD-take (l .asserted) assertions i 0 h) ∙ ap (λ (m : List ℕ). getD m i 0) (S .are)
+          ∙ map-at (numbered (principalsOf s) (variables s)) (s .assertions) i (record { variable = []; from = []; right = read; to = [] }) 0 there;
     }
 
-    next-line : joined assertionText (take (suc i) (s .assertions)) ≡ joined assertionText (take i (s .assertions)) ++ assertionText (claimAt s i)
+    next-line : joined assertionText (take (suc i) (s .assertions)) ≡ joined assertionText (take i (s .assertions)) ++ assertionText (assertionAt s i)
     next-line = joined-suc assertionText (s .assertions) i (record { variable = []; from = []; right = read; to = [] }) there
 
     -- the next line has room where all have
-    pub claim-room : (before after : Text) (at p : ℕ) → Written before at (joined assertionText (take i (s .assertions))) p after
-        → at + length (assertionsText (s .assertions)) ≤ length before → p + length (assertionText (claimAt s i)) ≤ length before
-    claim-room before after at p w r =
+    pub assertion-room : (before after : Text) (at p : ℕ) → Written before at (joined assertionText (take i (s .assertions))) p after
+        → at + length (assertionsText (s .assertions)) ≤ length before → p + length (assertionText (assertionAt s i)) ≤ length before
+    assertion-room before after at p w r =
         let whole : length (assertionsText (s .assertions)) ≡ length (joined assertionText (take (suc i) (s .assertions))) + length (joined assertionText (drop (suc i) (s .assertions))) =
         ap length (joined-split assertionText (s .assertions) (suc i)) ∙ length-append (joined assertionText (take (suc i) (s .assertions))) (joined assertionText (drop (suc i) (s .assertions))) in
-        omega (arith, r, w .ends, whole, ap length next-line, length-append (joined assertionText (take i (s .assertions))) (assertionText (claimAt s i)))
+        omega (arith, r, w .ends, whole, ap length next-line, length-append (joined assertionText (take i (s .assertions))) (assertionText (assertionAt s i)))
 
-    pub claim-written : (before mid after : Text) (at p r : ℕ) → Written before at (joined assertionText (take i (s .assertions))) p mid
-        → Written mid p (assertionText (claimAt s i)) r after → Written before at (joined assertionText (take (i + 1) (s .assertions))) r after
-    claim-written before mid after at p r w x =
+    pub assertion-written : (before mid after : Text) (at p r : ℕ) → Written before at (joined assertionText (take i (s .assertions))) p mid
+        → Written mid p (assertionText (assertionAt s i)) r after → Written before at (joined assertionText (take (i + 1) (s .assertions))) r after
+    assertion-written before mid after at p r w x =
         rewritten (sym next-line ∙ ap (λ (n : ℕ). joined assertionText (take n (s .assertions))) (sym (add-one i))) (w ▸ x)
 
-  pub claims-written : (i : ℕ) → l .asserted ≤ i → (before after : Text) (at p : ℕ) → Written before at (joined assertionText (take i (s .assertions))) p after
+  pub assertions-written : (i : ℕ) → l .asserted ≤ i → (before after : Text) (at p : ℕ) → Written before at (joined assertionText (take i (s .assertions))) p after
       → Written before at (assertionsText (s .assertions)) p after
-  claims-written i h before after at p w = rewritten (ap (joined assertionText) (take-all i (s .assertions) (omega (arith, claims-count)))) w
+  assertions-written i h before after at p w = rewritten (ap (joined assertionText) (take-all i (s .assertions) (omega (arith, assertions-count)))) w
 
 pub none-written : (s : Store) (before : Text) (at : ℕ) → at ≤ length before → Written before at (joined assertionText (take 0 (s .assertions))) at before
 none-written s before at h = written-none before at h

@@ -17,42 +17,40 @@ use Rattle.language.proofs.StateText.Bound.{state-bound}
 use Rattle.values.specs.Writing.{Written}
 use Rattle.values.proofs.Pieces.{_▸_, rewritten}
 use Rattle.render.proofs.Zeros.{state-padded}
-use Rattle.running.specs.declared.Layout.{Layout}
-use Rattle.running.specs.Sessions.{Slices, Running}
-use Rattle.running.proofs.Scoping.{store-valid}
+use Rattle.session.specs.declared.Layout.{Layout}
+use Rattle.session.specs.Sessions.{Slices, Running}
+use Rattle.session.proofs.Scoping.{store-valid}
 use Rattle.saving.specs.Stores.{Named, recordsText, Recorded}
+use Rattle.language.proofs.Logic.Lists.{five-joined}
 
 -- the parts in the order in which they are written
 four-parts : (h p d v a : Text) → (h ++ (p ++ (d ++ v))) ++ a ≡ h ++ (p ++ (d ++ (v ++ a)))
 four-parts h p d v a = simp append-assoc
 
-five-parts : (h p d v a : Text) → h ++ (p ++ (d ++ (v ++ a))) ≡ (((h ++ p) ++ d) ++ v) ++ a
-five-parts h p d v a = sym (simp append-assoc)
-
 pub parts-text : (s : Store) (count : ℕ) → recordsText s count ++ assertionsText (s .assertions) ≡ stateText (record { count = count; store = s })
 parts-text s count =
     let h : Text = headText (s .isOpen) count in
     four-parts h (principalsText (s .principals)) (delegatorText (s .delegator)) (variablesText (s .variables)) (assertionsText (s .assertions))
-    ∙ five-parts h (principalsText (s .principals)) (delegatorText (s .delegator)) (variablesText (s .variables)) (assertionsText (s .assertions))
+    ∙ sym (five-joined h (principalsText (s .principals)) (delegatorText (s .delegator)) (variablesText (s .variables)) (assertionsText (s .assertions)))
 
 -- ---- the lines before the assertions
 
 pub delegator-size : (x : Text) → length (delegatorText x) ≡ length x + 3
 delegator-size x = omega (arith, length-append x (newline ∷ []))
 
-module _ (s : Store) (l : Layout) (people-text : Text) (people-marks : List ℕ) (vars-text : Text) (R : Recorded s l people-text people-marks vars-text) (count : ℕ) where
-  pub records-text : (name : Text) → name ≡ s .delegator → headText (l .«is_open») count ++ (people-text ++ (delegatorText name ++ vars-text)) ≡ recordsText s count
+module _ (s : Store) (l : Layout) (principals-text : Text) (principal-slots : List ℕ) (vars-text : Text) (R : Recorded s l principals-text principal-slots vars-text) (count : ℕ) where
+  pub records-text : (name : Text) → name ≡ s .delegator → headText (l .«is_open») count ++ (principals-text ++ (delegatorText name ++ vars-text)) ≡ recordsText s count
   records-text name e = λ i. headText (R .is-open i) count ++ (R .principals .is-text i ++ (delegatorText (e i) ++ R .variables-text i))
 
-  pub records-size : length (recordsText s count) ≡ length (headText (l .«is_open») count) + length people-text + (length (s .delegator) + 3) + length vars-text
+  pub records-size : length (recordsText s count) ≡ length (headText (l .«is_open») count) + length principals-text + (length (s .delegator) + 3) + length vars-text
   records-size =
       let h : Text = headText (l .«is_open») count in
       let d : Text = delegatorText (s .delegator) in
       omega (
         arith,
         ap length (records-text (s .delegator) refl),
-        length-append h (people-text ++ (d ++ vars-text)),
-        length-append people-text (d ++ vars-text),
+        length-append h (principals-text ++ (d ++ vars-text)),
+        length-append principals-text (d ++ vars-text),
         length-append d vars-text,
         delegator-size (s .delegator),
       )
@@ -60,10 +58,10 @@ module _ (s : Store) (l : Layout) (people-text : Text) (people-marks : List ℕ)
 -- ---- a session
 
 module _ (s : Session) (l : Layout) (b : Slices) (R : Running s l b) where
-  pub session-named : Named (s .store) l (take (l .«people_len») (b .people)) (b .people-marks) (take (l .«vars_len») (b .vars)) (b .var-marks)
+  pub session-named : Named (s .store) l (take (l .«principals_len») (b .principals)) (b .principal-slots) (take (l .«vars_len») (b .vars)) (b .variable-slots)
   session-named = record { is-valid = store-valid s l b R; principals = R .principals; shared = R .variables }
 
-  pub session-recorded : Recorded (s .store) l (take (l .«people_len») (b .people)) (b .people-marks) (take (l .«vars_len») (b .vars))
+  pub session-recorded : Recorded (s .store) l (take (l .«principals_len») (b .principals)) (b .principal-slots) (take (l .«vars_len») (b .vars))
   session-recorded = record {
     is-open = R .is-open;
     principals = R .principals;

@@ -1,11 +1,11 @@
 // The state text that a completed program leaves: written anew from the session's parts, line by line, and zeros after it.
-mod claim; // the assertions' lines
+mod packed; // the assertions' lines
 mod number; // what a number stands for: a record's name, a right's letter
 
 use render::state::put_delegator;
 use render::state::put_header;
 use render::state::zero_rest;
-use running::Layout;
+use session::Layout;
 use values::copy_in;
 ghost use mathlib.Core.Path.{_≡_};
 ghost use Prim.Native.Nat.{_-_, _≤_};
@@ -15,7 +15,7 @@ ghost use Rattle.language.specs.Encode.{stateText, padded};
 ghost use Rattle.language.specs.Values.{Session};
 ghost use Rattle.language.specs.Run as Run;
 ghost use Rattle.values.specs.Writing.{Written};
-ghost use Rattle.running.specs.Sessions.{slices, Running, SomeRunning};
+ghost use Rattle.session.specs.Sessions.{slices, Running, SomeRunning};
 ghost use Rattle.saving.specs.Stores.{recordsText, Recorded, SomeRecords};
 
 // One completed program more; the count stays at its last value.
@@ -32,19 +32,19 @@ pub fn counted(count: u64) -> u64
 // The lines before the assertions: the first line, the principals, the default delegator and the variables.
 fn put_records(
     out: &mut [u8],
-    people: &[u8],
-    people_marks: &[u32],
+    principals: &[u8],
+    principal_slots: &[u32],
     vars: &[u8],
     l: Layout,
     count: u32,
 ) -> usize
-    requires { ⌜ SomeRecords l (now people) (now «people_marks») (now vars) count (length (now out)) ⌝ }
-    ensures { λ r. ⌜ ((s : Store) → Recorded s l (now (people .entry)) (now («people_marks» .entry)) (now (vars .entry))
+    requires { ⌜ SomeRecords l (now principals) (now «principal_slots») (now vars) count (length (now out)) ⌝ }
+    ensures { λ r. ⌜ ((s : Store) → Recorded s l (now (principals .entry)) (now («principal_slots» .entry)) (now (vars .entry))
         → Written (now (out .entry)) 0 (recordsText s count) r (now (out .exit))) ⌝ }
 {
     let a = put_header(out, 0, l.is_open, count);
-    let b = copy_in(out, a, people);
-    let name = number::name_of(people, people_marks, l.people, l.delegator);
+    let b = copy_in(out, a, principals);
+    let name = number::name_of(principals, principal_slots, l.principals, l.delegator);
     let c = put_delegator(out, b, name);
     copy_in(out, c, vars)
 }
@@ -52,37 +52,37 @@ fn put_records(
 // The whole state text, with the count in its first line, and zeros to the buffer's end. The locals are gone. From `used` on the buffer
 // holds zeros already, so that only what the old text leaves behind the new one is cleared.
 pub fn save(
-    people: &[u8],
-    people_marks: &[u32],
+    principals: &[u8],
+    principal_slots: &[u32],
     vars: &[u8],
-    var_marks: &[u32],
+    variable_slots: &[u32],
     locals: &[u8],
-    local_marks: &[u32],
-    standing: &[u64],
+    local_slots: &[u32],
+    assertions: &[u64],
     l: Layout,
     count: u64,
     state: &mut [u8],
     used: usize,
 )
-    requires { ⌜ SomeRunning l (slices (now people) (now «people_marks») (now vars) (now «var_marks») (now locals) (now «local_marks») (now standing)) ⌝ }
+    requires { ⌜ SomeRunning l (slices (now principals) (now «principal_slots») (now vars) (now «variable_slots») (now locals) (now «local_slots») (now assertions)) ⌝ }
     requires { ⌜ (length (now state) ≡ 65536) × (count ≤ lastCount) × (used ≤ 65536) × (drop used (now state) ≡ replicate (65536 - used) 0) ⌝ }
     ensures { λ _. ⌜ ((s : Session)
-        → Running s l (slices (now (people .entry)) (now («people_marks» .entry)) (now (vars .entry)) (now («var_marks» .entry)) (now (locals .entry)) (now («local_marks» .entry)) (now (standing .entry)))
+        → Running s l (slices (now (principals .entry)) (now («principal_slots» .entry)) (now (vars .entry)) (now («variable_slots» .entry)) (now (locals .entry)) (now («local_slots» .entry)) (now (assertions .entry)))
         → now (state .exit) ≡ padded (stateText (record { count = count; store = s .store }))) ⌝ }
 {
-    let people_len = l.people_len;
+    let principals_len = l.principals_len;
     let vars_len = l.vars_len;
-    let persons = &people[..people_len];
+    let roster = &principals[..principals_len];
     let shared = &vars[..vars_len];
-    let a = put_records(state, persons, people_marks, shared, l, count as u32);
-    let b = claim::put_claims(
+    let a = put_records(state, roster, principal_slots, shared, l, count as u32);
+    let b = packed::put_all_packed(
         state,
         a,
-        persons,
-        people_marks,
+        roster,
+        principal_slots,
         shared,
-        var_marks,
-        standing,
+        variable_slots,
+        assertions,
         l,
     );
     if used <= b {

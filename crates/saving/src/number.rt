@@ -1,19 +1,19 @@
 // What a number stands for: a record's name, a right's letter.
-use store::mark::nth;
+use store::index::nth;
 ghost use mathlib.Core.Path.{_≡_};
 ghost use mathlib.Core.List.{List, [], _∷_};
 ghost use Prim.Native.Nat.{_<_};
 ghost use Rattle.language.specs.Syntax.{Right};
 ghost use Rattle.language.specs.Encode.{letter};
 ghost use Rattle.store.specs.Rows.{Row, Rows, SomeRows, rowAt};
-ghost use Rattle.numbers.specs.Numbers.{code};
+ghost use Rattle.named_rights.specs.Numbers.{code};
 
 // The name of the record of a number.
-pub fn name_of<'a>(text: &'a [u8], marks: &[u32], count: usize, number: usize) -> &'a [u8]
-    requires { ⌜ SomeRows (now text) count (now marks) × (number < count) ⌝ }
-    ensures { λ r. ⌜ ((rows : List Row) → Rows rows (now (text .entry)) count (now (marks .entry)) → now r ≡ rowAt rows number .name) ⌝ }
+pub fn name_of<'a>(text: &'a [u8], slots: &[u32], count: usize, number: usize) -> &'a [u8]
+    requires { ⌜ SomeRows (now text) count (now slots) × (number < count) ⌝ }
+    ensures { λ r. ⌜ ((rows : List Row) → Rows rows (now (text .entry)) count (now (slots .entry)) → now r ≡ rowAt rows number .name) ⌝ }
 {
-    let place = nth(text, marks, count, number);
+    let place = nth(text, slots, count, number);
     let from = place.start + 2;
     let to = place.mid;
     &text[from..to]

@@ -2,13 +2,11 @@
 -- output has at most 65,536 bytes, and no more lines than bytes.
 -- Assumes nothing.
 use mathlib.Core.Path.{_≡_, refl}
-use Prim.Native.Nat.{ℕ, suc, _+_, _≤_}
-use native.Mathlib.Nat.{le-refl}
+use Prim.Native.Nat.{ℕ}
 use native.Mathlib.Omega.{arith}
 use mathlib.Core.Bool.{Bool, true, false, not}
 use mathlib.Core.Option.{Option, none, some}
-use mathlib.Core.List.{[], _∷_}
-use lib.Dec.{T, leb, eqb}
+use lib.Dec.{T, leb}
 use lib.ListN.{length, length-map}
 use Rattle.language.specs.Text.{Text, if_then_else_, present}
 use Rattle.language.specs.Syntax.{Name, Right}
@@ -18,14 +16,15 @@ use Rattle.language.specs.Valid.{validStore}
 use Rattle.language.specs.Decode.{decode}
 use Rattle.language.specs.Chains.{chainLength}
 use Rattle.language.specs.Programs.{parse}
-use Rattle.language.specs.Run.{run, lineCount, output}
+use Rattle.language.specs.Run.{run, output}
 use Rattle.language.specs.Calls.{wrong, ready, checked, decoded, sized, made, longestPassword, makeCall, Buffers, endReply, runOn, runCall, rightByte, lengthAnswer, question, askOn, askCall}
 use Rattle.language.proofs.Logic.Tests.{both}
 use Rattle.language.proofs.StateText.RoundTrip.{decode-holds}
 use Rattle.language.proofs.Parsing.Printing.{output-fits}
 use Rattle.language.proofs.Rights.Search.{few-rounds}
-use Rattle.numbers.proofs.Few.{few-people}
-use Rattle.server_c.specs.Wire.{Fits}
+use Rattle.named_rights.proofs.Few.{few-names}
+use Rattle.wire.specs.Wire.{Fits}
+use Rattle.language.proofs.Meaning.Printed.{few-lines}
 
 pub make-fits : (buffer password : Text) → Fits (makeCall buffer password .answer)
 make-fits buffer password = go (sized buffer) (isString password) (leb (length password) longestPassword)
@@ -35,14 +34,6 @@ make-fits buffer password = go (sized buffer) (isString password) (leb (length p
     go true false c = tt
     go true true false = tt
     go true true true = tt
-
-few-lines : (t : Text) → lineCount t ≤ length t
-few-lines [] = le-refl 0
-few-lines (b ∷ t) = go (eqb b 10) (few-lines t)
-  where
-    go : (c : Bool) → lineCount t ≤ length t → (if_then_else_ {A = ℕ} c 1 0) + lineCount t ≤ suc (length t)
-    go true h = omega arith
-    go false h = omega arith
 
 -- a buffer that is decoded holds a valid store
 decoded-valid : (buffer : Text) (s : State) → decode buffer ≡ some s → T (validStore (s .store))
@@ -67,7 +58,7 @@ run-fits b program = go (sized (b .output)) (sized (b .state)) (sized (b .work))
 module _ (s : Store) (v : T (validStore s)) (p x : Name) where
   chain-fits : (r : Right) (o : Option ℕ) → chainLength s r x p ≡ o → Fits (lengthAnswer o)
   chain-fits r none e = tt
-  chain-fits r (some n) e = omega (arith, few-rounds s r x p n e, few-people s v, length-map (s .principals) (λ (k : Principal). k .name))
+  chain-fits r (some n) e = omega (arith, few-rounds s r x p n e, few-names s v, length-map (s .principals) (λ (k : Principal). k .name))
 
   question-fits : (o : Option Right) → Fits (question s p x o)
   question-fits none = go (present (named (s .principals) p))

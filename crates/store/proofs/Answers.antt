@@ -12,13 +12,14 @@ use lib.Dec.{T, ltb}
 use lib.ListN.{length, getD, length-map, List·getD-map}
 use Rattle.language.specs.Text.{Text, _==_, if_then_else_}
 use Rattle.language.specs.Syntax.{Name}
-use Rattle.language.specs.State.{string, fields, Value, single, list, Principal, Variable, named, valueIn}
+use Rattle.language.specs.State.{list, Principal, Variable, named, valueIn}
 use Rattle.language.specs.Encode.{valueText}
 use Rattle.language.proofs.Logic.Tests.{==→≡}
-use Rattle.store.specs.Held.{Variables, part}
+use Rattle.store.specs.Held.{Variables}
+use Rattle.text.specs.Parts.{part}
 use Rattle.store.specs.Rows.{Row, Rows, noRow, rowAt, rowNames, startOf, position, place, principalRow, variableRow}
 use Rattle.store.specs.Contents.{principalAt, variableAt}
-use Rattle.store.specs.declared.mark.Found.the-variants.{At, Missing}
+use Rattle.store.specs.declared.index.Found.the-variants.{At, Missing}
 use Rattle.store.proofs.Records.{start-before, start-in, body-part}
 use Rattle.store.proofs.Holders.{variables-rows}
 
@@ -148,7 +149,7 @@ pub record FoundRow (t : Text) (x : Name) (s e : ℕ) : Type 0 where
   pub order : s + 3 + length x ≤ e
   pub within : e ≤ length t
 
-module _ (rows : List Row) (t : Text) (count : ℕ) (marks : List ℕ) (H : Rows rows t count marks) (x : Name) (k s e : ℕ) (q : At k s e ≡ place rows x) where
+module _ (rows : List Row) (t : Text) (count : ℕ) (slots : List ℕ) (H : Rows rows t count slots) (x : Name) (k s e : ℕ) (q : At k s e ≡ place rows x) where
   pub found-name : rowAt rows k .name ≡ x
   found-name =
       let A = answered rows x k s e q in
@@ -162,8 +163,8 @@ module _ (rows : List Row) (t : Text) (count : ℕ) (marks : List ℕ) (H : Rows
       let h : k < count = omega (arith, A .below, H .counted) in
       let n : length (rowAt rows k .name) ≡ length x = ap length found-name in
       record {
-        order = omega (arith, A .starts, A .ends, n, start-before rows t count marks H k h);
-        within = omega (arith, A .ends, start-in rows t count marks H (suc k));
+        order = omega (arith, A .starts, A .ends, n, start-before rows t count slots H k h);
+        within = omega (arith, A .ends, start-in rows t count slots H (suc k));
       }
 
   -- what follows the name and a tab
@@ -173,15 +174,15 @@ module _ (rows : List Row) (t : Text) (count : ℕ) (marks : List ℕ) (H : Rows
       let h : k < count = omega (arith, A .below, H .counted) in
       let n : length (rowAt rows k .name) ≡ length x = ap length found-name in
       let p : s + 3 + length x ≡ startOf rows k + 2 + length (rowAt rows k .name) + 1 = omega (arith, A .starts) in
-      (λ i. part t (p i) (A .ends i)) ∙ body-part rows t count marks H k h b r
+      (λ i. part t (p i) (A .ends i)) ∙ body-part rows t count slots H k h b r
 
-pub variable-found : (vs : List Variable) (t : Text) (count : ℕ) (marks : List ℕ) → Variables vs t count marks → (x : Name) (k s e : ℕ)
+pub variable-found : (vs : List Variable) (t : Text) (count : ℕ) (slots : List ℕ) → Variables vs t count slots → (x : Name) (k s e : ℕ)
     → At k s e ≡ place (map variableRow vs) x → FoundVariable vs t x k s e
-variable-found vs t count marks W x k s e q =
+variable-found vs t count slots W x k s e q =
     let rows : List Row = map variableRow vs in
-    let H = variables-rows vs t count marks W in
+    let H = variables-rows vs t count slots W in
     let A = answered rows x k s e q in
-    let R = found-row rows t count marks H x k s e q in
+    let R = found-row rows t count slots H x k s e q in
     let l : k < length vs = omega (arith, A .below, length-map vs variableRow) in
     let n : k ≡ position (map (λ v. v .name) vs) x = A .number ∙ ap (λ (ns : List Name). position ns x) (variable-names vs) in
     let b : rowAt rows k .body ≡ some (valueText (variableAt vs k .value)) = ap (λ (r : Row). r .body) (map-at variableRow vs k (record { name = []; value = list [] }) noRow l) in
@@ -191,7 +192,7 @@ variable-found vs t count marks W x k s e q =
       is-value = value-at vs x (omega (arith, n)) ∙ ap (λ (m : ℕ). some (variableAt vs m .value)) (sym n);
       order = R .order;
       within = R .within;
-      value-bytes = found-body rows t count marks H x k s e q (valueText (variableAt vs k .value)) b;
+      value-bytes = found-body rows t count slots H x k s e q (valueText (variableAt vs k .value)) b;
     }
 
 pub variable-missing : (vs : List Variable) (x : Name) → Missing ≡ place (map variableRow vs) x → valueIn vs x ≡ none
@@ -216,9 +217,3 @@ principal-found ks p k s e q =
 pub principal-missing : (ks : List Principal) (p : Name) → Missing ≡ place (map principalRow ks) p → named ks p ≡ none
 principal-missing ks p q =
     principal-none ks p (omega (arith, unanswered (map principalRow ks) p q, length-map ks principalRow, ap (λ (ns : List Name). position ns p) (principal-names ks)))
-
--- a value's text is never empty, so that empty bytes say that there is none
-pub value-some : (v : Value) → 1 ≤ length (valueText v)
-value-some (single (string t)) = omega arith
-value-some (single (fields fs)) = omega arith
-value-some (list es) = omega arith

@@ -12,7 +12,7 @@ use Rattle.language.specs.Syntax.{Name}
 use Rattle.language.specs.State.{string, fields, Value, single, list, Principal, Variable, named}
 use Rattle.language.specs.Identifiers.{isName}
 use Rattle.language.specs.Encode.{tab, newline, fieldText, elementText, principalText, variableText, principalsText, variablesText, valueText}
-use Rattle.store.specs.Held.{Held, Principals, Variables, mark, marksFrom}
+use Rattle.store.specs.Held.{Held, Principals, Variables, slot, slotsFrom}
 use Rattle.store.specs.Rows.{Row, Rows, SomeRows, rowText, principalRow, variableRow}
 
 -- ---- their texts
@@ -34,31 +34,31 @@ module _ {A : Type 0} (name : A → Name) (text : A → Text) (row : A → Row) 
   joined-rows [] = refl
   joined-rows (a ∷ l) = λ i. same-text a i ++ joined-rows l i
 
-  marks-rows : (at : ℕ) (l : List A) → marksFrom name text at l ≡ marksFrom (λ r. r .name) rowText at (map row l)
-  marks-rows at [] = refl
-  marks-rows at (a ∷ l) =
-      ap (λ (n : ℕ). mark (name a) at ∷ marksFrom name text (at + n) l) (ap length (same-text a))
-      ∙ ap (λ (x : Name). mark x at ∷ marksFrom name text (at + length (rowText (row a))) l) (same-name a)
-      ∙ ap (λ (m : List ℕ). mark (row a .name) at ∷ m) (marks-rows (at + length (rowText (row a))) l)
+  slots-rows : (at : ℕ) (l : List A) → slotsFrom name text at l ≡ slotsFrom (λ r. r .name) rowText at (map row l)
+  slots-rows at [] = refl
+  slots-rows at (a ∷ l) =
+      ap (λ (n : ℕ). slot (name a) at ∷ slotsFrom name text (at + n) l) (ap length (same-text a))
+      ∙ ap (λ (x : Name). slot x at ∷ slotsFrom name text (at + length (rowText (row a))) l) (same-name a)
+      ∙ ap (λ (m : List ℕ). slot (row a .name) at ∷ m) (slots-rows (at + length (rowText (row a))) l)
 
   names-rows : (l : List A) → all (λ a. isName (name a)) l ≡ all (λ r. isName (r .name)) (map row l)
   names-rows [] = refl
   names-rows (a ∷ l) = λ i. isName (same-name a i) && names-rows l i
 
-  pub as-rows : (l : List A) (t : Text) (count : ℕ) (marks : List ℕ) → Held name text l t count marks → Rows (map row l) t count marks
-  as-rows l t count marks H = record {
+  pub as-rows : (l : List A) (t : Text) (count : ℕ) (slots : List ℕ) → Held name text l t count slots → Rows (map row l) t count slots
+  as-rows l t count slots H = record {
     is-text = H .is-text ∙ joined-rows l;
     counted = H .counted ∙ sym (length-map l row);
-    marked = H .marked ∙ marks-rows 0 l;
+    indexed = H .indexed ∙ slots-rows 0 l;
     named = subst T (names-rows l) (H .named);
     small = H .small;
   }
 
-  pub from-rows : (l : List A) (t : Text) (count : ℕ) (marks : List ℕ) → Rows (map row l) t count marks → Held name text l t count marks
-  from-rows l t count marks H = record {
+  pub from-rows : (l : List A) (t : Text) (count : ℕ) (slots : List ℕ) → Rows (map row l) t count slots → Held name text l t count slots
+  from-rows l t count slots H = record {
     is-text = H .is-text ∙ sym (joined-rows l);
     counted = H .counted ∙ length-map l row;
-    marked = H .marked ∙ sym (marks-rows 0 l);
+    indexed = H .indexed ∙ sym (slots-rows 0 l);
     named = subst T (sym (names-rows l)) (H .named);
     small = H .small;
   }
@@ -69,22 +69,22 @@ joined-principals = joined-rows (λ k. k .name) (λ k. principalText (k .name) (
 pub joined-variables : (vs : List Variable) → variablesText vs ≡ joined rowText (map variableRow vs)
 joined-variables = joined-rows (λ v. v .name) (λ v. variableText (v .name) (v .value)) variableRow (λ v. variable-text (v .name) (v .value)) (λ v. refl)
 
-module _ (ks : List Principal) (t : Text) (count : ℕ) (marks : List ℕ) where
-  pub principals-rows : Principals ks t count marks → Rows (map principalRow ks) t count marks
-  principals-rows = as-rows (λ k. k .name) (λ k. principalText (k .name) (k .password)) principalRow (λ k. principal-text (k .name) (k .password)) (λ k. refl) ks t count marks
+module _ (ks : List Principal) (t : Text) (count : ℕ) (slots : List ℕ) where
+  pub principals-rows : Principals ks t count slots → Rows (map principalRow ks) t count slots
+  principals-rows = as-rows (λ k. k .name) (λ k. principalText (k .name) (k .password)) principalRow (λ k. principal-text (k .name) (k .password)) (λ k. refl) ks t count slots
 
-  pub rows-principals : Rows (map principalRow ks) t count marks → Principals ks t count marks
-  rows-principals = from-rows (λ k. k .name) (λ k. principalText (k .name) (k .password)) principalRow (λ k. principal-text (k .name) (k .password)) (λ k. refl) ks t count marks
+  pub rows-principals : Rows (map principalRow ks) t count slots → Principals ks t count slots
+  rows-principals = from-rows (λ k. k .name) (λ k. principalText (k .name) (k .password)) principalRow (λ k. principal-text (k .name) (k .password)) (λ k. refl) ks t count slots
 
-  pub some-principals : Principals ks t count marks → SomeRows t count marks
+  pub some-principals : Principals ks t count slots → SomeRows t count slots
   some-principals H = record { rows = map principalRow ks; held = principals-rows H }
 
-module _ (vs : List Variable) (t : Text) (count : ℕ) (marks : List ℕ) where
-  pub variables-rows : Variables vs t count marks → Rows (map variableRow vs) t count marks
-  variables-rows = as-rows (λ v. v .name) (λ v. variableText (v .name) (v .value)) variableRow (λ v. variable-text (v .name) (v .value)) (λ v. refl) vs t count marks
+module _ (vs : List Variable) (t : Text) (count : ℕ) (slots : List ℕ) where
+  pub variables-rows : Variables vs t count slots → Rows (map variableRow vs) t count slots
+  variables-rows = as-rows (λ v. v .name) (λ v. variableText (v .name) (v .value)) variableRow (λ v. variable-text (v .name) (v .value)) (λ v. refl) vs t count slots
 
-  pub rows-variables : Rows (map variableRow vs) t count marks → Variables vs t count marks
-  rows-variables = from-rows (λ v. v .name) (λ v. variableText (v .name) (v .value)) variableRow (λ v. variable-text (v .name) (v .value)) (λ v. refl) vs t count marks
+  pub rows-variables : Rows (map variableRow vs) t count slots → Variables vs t count slots
+  rows-variables = from-rows (λ v. v .name) (λ v. variableText (v .name) (v .value)) variableRow (λ v. variable-text (v .name) (v .value)) (λ v. refl) vs t count slots
 
-  pub some-variables : Variables vs t count marks → SomeRows t count marks
+  pub some-variables : Variables vs t count slots → SomeRows t count slots
   some-variables H = record { rows = map variableRow vs; held = variables-rows H }

@@ -6,5 +6,5 @@ pub mod Holders
 pub mod Answers
 pub mod Passwords
 pub mod Scanning
-pub mod Prints
+pub mod Hashes
 pub mod NameWeights

@@ -1,49 +1,48 @@
 -- A look-up by number, and one by name: the rows passed have other names.
 -- Assumes nothing.
-use mathlib.Core.Path.{_≡_, refl, sym, ap, _∙_}
-use mathlib.Core.Bool.{Bool, true, false}
+use mathlib.Core.Path.{_≡_, sym, ap, _∙_}
+use mathlib.Core.Bool.{true, false}
 use mathlib.Core.List.{List, []}
 use Prim.Native.Nat.{ℕ, suc, _+_, _%_, _≤_, _<_}
 use native.Mathlib.Decide.{decLe}
 use native.Mathlib.Numerals.{add-one}
 use native.Mathlib.Omega.{arith}
 use borrow.Author.Tests.{lt-ltb, le-ltb}
-use lib.Dec.{T}
 use lib.ListN.{length, getD, drop, length-map, List·getD-map}
 use Rattle.language.specs.Text.{Text, _==_, front}
 use Rattle.language.specs.Syntax.{Name}
 use Rattle.language.specs.Bytes.{wordByte}
-use Rattle.language.proofs.Logic.Tests.{==→≡}
-use Rattle.store.specs.Held.{print}
+use Rattle.language.proofs.Logic.Tests.{==→≡, false-of}
+use Rattle.store.specs.Held.{hash}
 use Rattle.store.specs.Rows.{Row, Rows, rowAt, noRow, startOf, rowNames, position, place}
 use Rattle.store.specs.Scans.{FirstHit}
-use Rattle.store.specs.declared.mark.Found.the-variants.{At, Missing}
+use Rattle.store.specs.declared.index.Found.the-variants.{At, Missing}
 use Rattle.store.proofs.Positions.{position-at, position-none}
-use Rattle.store.proofs.Records.{text-size, place-there, print-there, name-front, start-before, start-in}
+use Rattle.store.proofs.Records.{text-size, place-there, hash-there, name-front, start-before, start-in}
 
 -- ---- by number
 
-module _ (rows : List Row) (t : Text) (count : ℕ) (marks : List ℕ) (H : Rows rows t count marks) (k : ℕ) (h : k < count) where
-  pub name-starts : (s : ℕ) → s ≡ getD marks k 0 % 65536 → s + 2 ≤ length t
+module _ (rows : List Row) (t : Text) (count : ℕ) (slots : List ℕ) (H : Rows rows t count slots) (k : ℕ) (h : k < count) where
+  pub name-starts : (s : ℕ) → s ≡ getD slots k 0 % 65536 → s + 2 ≤ length t
   name-starts s e =
-      omega (arith, e, place-there rows t count marks H k h, start-before rows t count marks H k h, start-in rows t count marks H (suc k))
+      omega (arith, e, place-there rows t count slots H k h, start-before rows t count slots H k h, start-in rows t count slots H (suc k))
 
-  pub starts-at : (s : ℕ) → s ≡ getD marks k 0 % 65536 → s ≡ startOf rows k
-  starts-at s e = e ∙ place-there rows t count marks H k h
+  pub starts-at : (s : ℕ) → s ≡ getD slots k 0 % 65536 → s ≡ startOf rows k
+  starts-at s e = e ∙ place-there rows t count slots H k h
 
-  pub name-ends-at : (s m : ℕ) → s ≡ getD marks k 0 % 65536 → m ≡ s + 2 + length (front wordByte (drop (s + 2) t))
+  pub name-ends-at : (s m : ℕ) → s ≡ getD slots k 0 % 65536 → m ≡ s + 2 + length (front wordByte (drop (s + 2) t))
       → m ≡ startOf rows k + 2 + length (rowAt rows k .name)
   name-ends-at s m e q =
       q ∙ ap (λ (n : ℕ). n + 2 + length (front wordByte (drop (n + 2) t))) (starts-at s e)
-      ∙ ap (λ (x : Text). startOf rows k + 2 + length x) (name-front rows t count marks H k h)
+      ∙ ap (λ (x : Text). startOf rows k + 2 + length x) (name-front rows t count slots H k h)
 
-  pub ends-before : (e : ℕ) → k + 1 < count → e ≡ getD marks (k + 1) 0 % 65536 → e ≡ startOf rows (suc k)
-  ends-before e l q = q ∙ place-there rows t count marks H (k + 1) l ∙ ap (startOf rows) (add-one k)
+  pub ends-before : (e : ℕ) → k + 1 < count → e ≡ getD slots (k + 1) 0 % 65536 → e ≡ startOf rows (suc k)
+  ends-before e l q = q ∙ place-there rows t count slots H (k + 1) l ∙ ap (startOf rows) (add-one k)
 
   pub ends-last : count ≤ k + 1 → length t ≡ startOf rows (suc k)
   ends-last l =
       let e : count ≡ suc k = omega arith in
-      sym (text-size rows t count marks H) ∙ ap (startOf rows) e
+      sym (text-size rows t count slots H) ∙ ap (startOf rows) e
 
 -- ---- by name
 
@@ -51,20 +50,16 @@ module _ (rows : List Row) (t : Text) (count : ℕ) (marks : List ℕ) (H : Rows
 abbrev pub Passed : List Row → Name → ℕ → Type 0
 Passed rows x i = (j : ℕ) → j < i → (rowAt rows j .name == x) ≡ false
 
-prints-differ : (y x : Name) → (print y ≡ print x → ⊥) → (y == x) ≡ false
-prints-differ y x n = go (y == x) (λ h. n (ap print (==→≡ y x h)))
-  where
-    go : (b : Bool) → (T b → ⊥) → b ≡ false
-    go true k = absurd (k tt)
-    go false k = refl
+hashes-differ : (y x : Name) → (hash y ≡ hash x → ⊥) → (y == x) ≡ false
+hashes-differ y x n = false-of (y == x) (λ h. n (ap hash (==→≡ y x h)))
 
-pub passed-on : (rows : List Row) (t : Text) (count : ℕ) (marks : List ℕ) → Rows rows t count marks → (x : Name) (i p k : ℕ)
-    → p ≡ print x → FirstHit marks i count p k → Passed rows x i → Passed rows x k
-passed-on rows t count marks H x i p k e F P j l = elim (decLe (suc j) i) [
+pub passed-on : (rows : List Row) (t : Text) (count : ℕ) (slots : List ℕ) → Rows rows t count slots → (x : Name) (i p k : ℕ)
+    → p ≡ hash x → FirstHit slots i count p k → Passed rows x i → Passed rows x k
+passed-on rows t count slots H x i p k e F P j l = elim (decLe (suc j) i) [
   | yes h ↦ P j h
   | no h ↦
-      prints-differ (rowAt rows j .name) x
-      (λ q. F .none-before j l (omega arith) (print-there rows t count marks H j (omega (arith, F .high)) ∙ q ∙ sym e))
+      hashes-differ (rowAt rows j .name) x
+      (λ q. F .none-before j l (omega arith) (hash-there rows t count slots H j (omega (arith, F .high)) ∙ q ∙ sym e))
 ]
 
 name-of : (rows : List Row) (j : ℕ) → getD (rowNames rows) j [] ≡ rowAt rows j .name

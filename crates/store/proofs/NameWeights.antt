@@ -1,6 +1,6 @@
 -- The weight of names, and of those that rows have.
 -- Assumes nothing.
-use mathlib.Core.Path.{_≡_, refl, ap, _∙_}
+use mathlib.Core.Path.{_≡_, ap, _∙_}
 use mathlib.Core.Bool.{Bool, true, false, _||_}
 use mathlib.Core.List.{List}
 use Prim.Native.Nat.{ℕ, _+_, _≤_, _<_}
@@ -12,9 +12,9 @@ use Rattle.language.specs.Identifiers.{isName}
 use Rattle.language.specs.State.{admin, anyone}
 use Rattle.language.specs.Weight.{nameWeight}
 use Rattle.language.proofs.StateText.Clean.{name-length}
-use Rattle.store.specs.Held.{part}
+use Rattle.text.specs.Parts.{part}
 use Rattle.store.specs.Rows.{Row, Rows, rowAt, startOf, Placed}
-use Rattle.store.specs.declared.mark.Place.{Place}
+use Rattle.store.specs.declared.index.Place.{Place}
 use Rattle.store.proofs.Records.{name-part, name-valid}
 
 pub weighs-one : (x : Text) → ((x == admin) || (x == anyone)) ≡ true → nameWeight x ≡ 1
@@ -23,10 +23,6 @@ weighs-one x e = ap (λ (b : Bool). if b then 1 else length x) e
 pub weighs-all : (x : Text) → (x == admin) ≡ false → (x == anyone) ≡ false → nameWeight x ≡ length x
 weighs-all x e f = ap (λ (b : Bool). if b || (x == anyone) then 1 else length x) e ∙ ap (λ (b : Bool). if b then 1 else length x) f
 
-pub second-one : (a b : Bool) → b ≡ true → (a || b) ≡ true
-second-one true b e = refl
-second-one false b e = e
-
 pub name-light : (x : Text) → T (isName x) → (1 ≤ nameWeight x) × (nameWeight x ≤ 255)
 name-light x h = go ((x == admin) || (x == anyone)) (name-length x h)
   where
@@ -34,12 +30,12 @@ name-light x h = go ((x == admin) || (x == anyone)) (name-length x h)
     go true l = (omega arith, omega arith)
     go false l = l
 
-module _ (rows : List Row) (t : Text) (count : ℕ) (marks : List ℕ) (H : Rows rows t count marks) (k : ℕ) (h : k < count) where
+module _ (rows : List Row) (t : Text) (count : ℕ) (slots : List ℕ) (H : Rows rows t count slots) (k : ℕ) (h : k < count) where
   pub row-light : nameWeight (rowAt rows k .name) ≤ 255
-  row-light = name-light (rowAt rows k .name) (name-valid rows t count marks H k h) .1
+  row-light = name-light (rowAt rows k .name) (name-valid rows t count slots H k h) .1
 
   -- the name, from the place of its row
   pub name-is : (p : Place) → Placed rows k p → (s : ℕ) → s ≡ p .start + 2 → part t s (p .mid) ≡ rowAt rows k .name
   name-is p P s e =
       let q : s ≡ startOf rows k + 2 = omega (arith, e, P .starts) in
-      ap (λ (n : ℕ). part t n (p .mid)) q ∙ name-part rows t count marks H k h (p .mid) (P .name-ends)
+      ap (λ (n : ℕ). part t n (p .mid)) q ∙ name-part rows t count slots H k h (p .mid) (P .name-ends)

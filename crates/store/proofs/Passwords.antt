@@ -10,10 +10,11 @@ use lib.Seq.{take-append-seam, take-take}
 use Rattle.language.specs.Text.{Text}
 use Rattle.language.specs.State.{Principal, Variable, list}
 use Rattle.language.specs.Encode.{newline, valueText}
-use Rattle.store.specs.Held.{Principals, Variables, part}
+use Rattle.store.specs.Held.{Principals, Variables}
+use Rattle.text.specs.Parts.{part}
 use Rattle.store.specs.Rows.{Row, Rows, rowAt, noRow, startOf, bodyText, passwordBody, principalRow, variableRow, Placed}
 use Rattle.store.specs.Contents.{principalAt, variableAt, PasswordAt, ValueAt}
-use Rattle.store.specs.declared.mark.Place.{Place}
+use Rattle.store.specs.declared.index.Place.{Place}
 use Rattle.store.specs.declared.content.Password.the-variants.{Kept, Absent}
 use Rattle.store.proofs.Records.{start-before, start-in, start-next, byte-after, body-part}
 use Rattle.store.proofs.Holders.{principals-rows, variables-rows}
@@ -25,11 +26,11 @@ pub record Lies (t : Text) (p : Place) : Type 0 where
   pub middle : p .mid < p .end
   pub last : p .end ≤ length t
 
-pub lies : (rows : List Row) (t : Text) (count : ℕ) (marks : List ℕ) → Rows rows t count marks → (k : ℕ) → k < count → (p : Place) → Placed rows k p → Lies t p
-lies rows t count marks H k h p P = record {
+pub lies : (rows : List Row) (t : Text) (count : ℕ) (slots : List ℕ) → Rows rows t count slots → (k : ℕ) → k < count → (p : Place) → Placed rows k p → Lies t p
+lies rows t count slots H k h p P = record {
   first = omega (arith, P .starts, P .name-ends);
-  middle = omega (arith, P .name-ends, P .ends, start-before rows t count marks H k h);
-  last = omega (arith, P .ends, start-in rows t count marks H (suc k));
+  middle = omega (arith, P .name-ends, P .ends, start-before rows t count slots H k h);
+  last = omega (arith, P .ends, start-in rows t count slots H (suc k));
 }
 
 -- all but the last byte of a part
@@ -39,7 +40,7 @@ shorter t s e w b h q l =
     ap (λ (m : ℕ). take m (drop s t)) n ∙ sym (take-take (length w) (e - s) (drop s t) (omega (arith, l, length-append w (b ∷ []))))
     ∙ ap (take (length w)) q ∙ take-append-seam w (b ∷ [])
 
-module _ (ks : List Principal) (t : Text) (count : ℕ) (marks : List ℕ) (K : Principals ks t count marks) (k : ℕ) (h : k < count) (p : Place) (P : Placed (map principalRow ks) k p) where
+module _ (ks : List Principal) (t : Text) (count : ℕ) (slots : List ℕ) (K : Principals ks t count slots) (k : ℕ) (h : k < count) (p : Place) (P : Placed (map principalRow ks) k p) where
   body-is : rowAt (map principalRow ks) k .body ≡ passwordBody (principalAt ks k .password)
   body-is =
       let l : k < length ks = omega (arith, K .counted) in
@@ -47,7 +48,7 @@ module _ (ks : List Principal) (t : Text) (count : ℕ) (marks : List ℕ) (K : 
 
   byte-is : getD t (p .mid) 0 ≡ getD (bodyText (passwordBody (principalAt ks k .password))) 0 0
   byte-is =
-      ap (λ (n : ℕ). getD t n 0) (P .name-ends) ∙ byte-after (map principalRow ks) t count marks (principals-rows ks t count marks K) k h
+      ap (λ (n : ℕ). getD t n 0) (P .name-ends) ∙ byte-after (map principalRow ks) t count slots (principals-rows ks t count slots K) k h
       ∙ ap (λ (o : Option Text). getD (bodyText o) 0 0) body-is
 
   pub no-password : getD t (p .mid) 0 ≡ 10 → PasswordAt ks t k Absent
@@ -64,29 +65,29 @@ module _ (ks : List Principal) (t : Text) (count : ℕ) (marks : List ℕ) (K : 
       go none q = absurd (n (byte-is ∙ ap (λ (o : Option Text). getD (bodyText (passwordBody o)) 0 0) (sym q)))
       go (some w) q =
           let rows : List Row = map principalRow ks in
-          let H = principals-rows ks t count marks K in
+          let H = principals-rows ks t count slots K in
           let b : rowAt rows k .body ≡ some (w ++ (newline ∷ [])) = body-is ∙ ap passwordBody (sym q) in
           let m : ℕ = startOf rows k + 2 + length (rowAt rows k .name) in
           let l : length (bodyText (rowAt rows k .body)) ≡ suc (length (w ++ (newline ∷ []))) = ap (λ (o : Option Text). length (bodyText o)) b in
           let z : p .end - (p .mid + 1) ≡ length (w ++ (newline ∷ [])) =
-          omega (arith, P .name-ends, P .ends, start-next rows t count marks H k h, l, length-append (rowAt rows k .name) (bodyText (rowAt rows k .body))) in
-          let y : part t (p .mid + 1) (p .end) ≡ w ++ (newline ∷ []) = (λ i. part t (P .name-ends i + 1) (P .ends i)) ∙ body-part rows t count marks H k h (w ++ (newline ∷ [])) b in
+          omega (arith, P .name-ends, P .ends, start-next rows t count slots H k h, l, length-append (rowAt rows k .name) (bodyText (rowAt rows k .body))) in
+          let y : part t (p .mid + 1) (p .end) ≡ w ++ (newline ∷ []) = (λ i. part t (P .name-ends i + 1) (P .ends i)) ∙ body-part rows t count slots H k h (w ++ (newline ∷ [])) b in
           let s : p .mid + 1 < p .end = omega (arith, z, length-append w (newline ∷ [])) in
           record {
-            within = (omega arith, omega (arith, lies rows t count marks H k h p P .last));
+            within = (omega arith, omega (arith, lies rows t count slots H k h p P .last));
             meant = ap some (shorter t (p .mid + 1) (p .end) w newline s y z) ∙ q;
           }
 
-pub value-there : (vs : List Variable) (t : Text) (count : ℕ) (marks : List ℕ) → Variables vs t count marks → (k : ℕ) → k < count → (p : Place)
+pub value-there : (vs : List Variable) (t : Text) (count : ℕ) (slots : List ℕ) → Variables vs t count slots → (k : ℕ) → k < count → (p : Place)
     → Placed (map variableRow vs) k p → ValueAt vs t k (p .mid + 1) (p .end)
-value-there vs t count marks W k h p P =
+value-there vs t count slots W k h p P =
     let rows : List Row = map variableRow vs in
-    let H = variables-rows vs t count marks W in
-    let L = lies rows t count marks H k h p P in
+    let H = variables-rows vs t count slots W in
+    let L = lies rows t count slots H k h p P in
     let l : k < length vs = omega (arith, W .counted) in
     let b : rowAt rows k .body ≡ some (valueText (variableAt vs k .value)) = ap (λ (r : Row). r .body) (map-at variableRow vs k (record { name = []; value = list [] }) noRow l) in
     record {
       order = omega (arith, L .middle);
       within = L .last;
-      is-value = (λ i. part t (P .name-ends i + 1) (P .ends i)) ∙ body-part rows t count marks H k h (valueText (variableAt vs k .value)) b;
+      is-value = (λ i. part t (P .name-ends i + 1) (P .ends i)) ∙ body-part rows t count slots H k h (valueText (variableAt vs k .value)) b;
     }

@@ -1,22 +1,23 @@
--- Rows one after the other in a text: where the row of a number starts and ends, and what its mark says.
+-- Rows one after the other in a text: where the row of a number starts and ends, and what its slot says.
 -- Assumes nothing.
 use mathlib.Core.Path.{_≡_, refl, sym, ap, _∙_}
-use mathlib.Core.Bool.{Bool, true, not, _&&_}
+use mathlib.Core.Bool.{Bool, true}
 use mathlib.Core.Option.{Option, none, some}
 use mathlib.Core.List.{List, [], _∷_, _++_, append-assoc, append-nil}
 use Prim.Native.Nat.{ℕ, zero, suc, _+_, _*_, _-_, _/_, _%_, _≤_, _<_}
 use native.Mathlib.Nat.{not-suc-le-zero, le-of-suc-le-suc}
 use native.Mathlib.Omega.{arith}
-use lib.Dec.{T, leb}
+use lib.Dec.{T}
 use lib.ListN.{length, getD, take, drop, length-append, length-take, take-append-drop}
 use lib.Seq.{take-suc, drop-cons, take-length, take-append-seam, drop-append-seam, drop-drop, getD-take, getD-drop}
-use Rattle.language.specs.Text.{Text, joined, all, front, member}
+use Rattle.language.specs.Text.{Text, joined, all, front}
 use Rattle.language.specs.Syntax.{Name}
-use Rattle.language.specs.Bytes.{wordByte, class, isLetter}
-use Rattle.language.specs.Identifiers.{isName, isWord, baseKeywords}
-use Rattle.language.proofs.Logic.Tests.{both, and, true-of}
-use Rattle.language.proofs.StateText.Clean.{letter-word}
-use Rattle.store.specs.Held.{part, print, mark, marksFrom}
+use Rattle.language.specs.Bytes.{wordByte}
+use Rattle.language.specs.Identifiers.{isName}
+use Rattle.language.proofs.Logic.Tests.{both, true-of}
+use Rattle.language.proofs.StateText.Clean.{name-word}
+use Rattle.store.specs.Held.{hash, slot, slotsFrom}
+use Rattle.text.specs.Parts.{part}
 use Rattle.store.specs.Rows.{Row, rowText, bodyText, Rows, rowAt, noRow, startOf}
 
 -- ---- records one after the other
@@ -36,34 +37,26 @@ module _ {A : Type 0} (f : A → Text) where
       ∙ ap (λ (t : Text). joined f (take k l) ++ t) (append-nil (f (getD l k d)))
 
 module _ {A : Type 0} (name : A → Name) (f : A → Text) where
-  pub length-marks : (at : ℕ) (l : List A) → length (marksFrom name f at l) ≡ length l
-  length-marks at [] = refl
-  length-marks at (a ∷ l) = ap suc (length-marks (at + length (f a)) l)
+  pub length-slots : (at : ℕ) (l : List A) → length (slotsFrom name f at l) ≡ length l
+  length-slots at [] = refl
+  length-slots at (a ∷ l) = ap suc (length-slots (at + length (f a)) l)
 
-  pub mark-at : (at : ℕ) (l : List A) (k : ℕ) (d : A) → k < length l
-      → getD (marksFrom name f at l) k 0 ≡ mark (name (getD l k d)) (at + length (joined f (take k l)))
-  mark-at at [] k d h = absurd (not-suc-le-zero h)
-  mark-at at (a ∷ l) zero d h = omega arith
-  mark-at at (a ∷ l) (suc k) d h =
-      mark-at (at + length (f a)) l k d (le-of-suc-le-suc h)
-      ∙ ap (mark (name (getD l k d))) (omega (arith, length-append (f a) (joined f (take k l))))
+  pub slot-at : (at : ℕ) (l : List A) (k : ℕ) (d : A) → k < length l
+      → getD (slotsFrom name f at l) k 0 ≡ slot (name (getD l k d)) (at + length (joined f (take k l)))
+  slot-at at [] k d h = absurd (not-suc-le-zero h)
+  slot-at at (a ∷ l) zero d h = omega arith
+  slot-at at (a ∷ l) (suc k) d h =
+      slot-at (at + length (f a)) l k d (le-of-suc-le-suc h)
+      ∙ ap (slot (name (getD l k d))) (omega (arith, length-append (f a) (joined f (take k l))))
 
--- a mark's two parts
-pub mark-print : (p at : ℕ) → at < 65536 → (p * 65536 + at) / 65536 ≡ p
-mark-print p at h = omega arith
+-- a slot's two parts
+pub slot-hash : (p at : ℕ) → at < 65536 → (p * 65536 + at) / 65536 ≡ p
+slot-hash p at h = omega arith
 
-pub mark-place : (p at : ℕ) → at < 65536 → (p * 65536 + at) % 65536 ≡ at
-mark-place p at h = omega arith
+pub slot-place : (p at : ℕ) → at < 65536 → (p * 65536 + at) % 65536 ≡ at
+slot-place p at h = omega arith
 
 -- ---- names
-
-pub name-word : (t : Text) → T (isName t) → T (all wordByte t)
-name-word [] h = tt
-name-word (b ∷ t) h =
-    let (h₁, h₂) = both (isWord (b ∷ t) && leb (length (b ∷ t)) 255) (not (member (b ∷ t) baseKeywords)) h in
-    let (w, l) = both (isWord (b ∷ t)) (leb (length (b ∷ t)) 255) h₁ in
-    let (w₁, w₂) = both (isLetter (class b)) (all wordByte t) w in
-    and (wordByte b) (all wordByte t) (letter-word (class b) w₁) w₂
 
 -- a name before a tab or a newline ends there
 pub name-run : (x : Text) (o : Option Text) (rest : Text) → T (all wordByte x) → front wordByte (x ++ (bodyText o ++ rest)) ≡ x
@@ -89,11 +82,11 @@ body-some : (o : Option Text) → 1 ≤ length (bodyText o)
 body-some none = omega arith
 body-some (some t) = omega arith
 
-module _ (rows : List Row) (t : Text) (count : ℕ) (marks : List ℕ) (H : Rows rows t count marks) where
-  pub marks-long : count ≤ length marks
-  marks-long =
-      let e : length (take count marks) ≡ length rows = ap length (H .marked) ∙ length-marks (λ r. r .name) rowText 0 rows in
-      omega (arith, e, length-take count marks, H .counted)
+module _ (rows : List Row) (t : Text) (count : ℕ) (slots : List ℕ) (H : Rows rows t count slots) where
+  pub slots-long : count ≤ length slots
+  slots-long =
+      let e : length (take count slots) ≡ length rows = ap length (H .indexed) ∙ length-slots (λ r. r .name) rowText 0 rows in
+      omega (arith, e, length-take count slots, H .counted)
 
   pub text-size : startOf rows count ≡ length t
   text-size =
@@ -122,30 +115,25 @@ module _ (rows : List Row) (t : Text) (count : ℕ) (marks : List ℕ) (H : Rows
         let e = length-append (rowAt rows k .name) (bodyText (rowAt rows k .body)) in
         omega (arith, start-next, e, body-some (rowAt rows k .body))
 
-    pub mark-there : getD marks k 0 ≡ mark (rowAt rows k .name) (startOf rows k)
-    mark-there =
-        sym (getD-take count marks k 0 h) ∙ ap (λ (l : List ℕ). getD l k 0) (H .marked)
-        ∙ mark-at (λ r. r .name) rowText 0 rows k noRow row-there ∙ ap (mark (rowAt rows k .name)) (omega arith)
+    pub slot-there : getD slots k 0 ≡ slot (rowAt rows k .name) (startOf rows k)
+    slot-there =
+        sym (getD-take count slots k 0 h) ∙ ap (λ (l : List ℕ). getD l k 0) (H .indexed)
+        ∙ slot-at (λ r. r .name) rowText 0 rows k noRow row-there ∙ ap (slot (rowAt rows k .name)) (omega arith)
 
     start-small : startOf rows k < 65536
     start-small = omega (arith, start-before, start-in (suc k), H .small)
 
-    pub place-there : getD marks k 0 % 65536 ≡ startOf rows k
-    place-there = ap (λ (n : ℕ). n % 65536) mark-there ∙ mark-place (print (rowAt rows k .name)) (startOf rows k) start-small
+    pub place-there : getD slots k 0 % 65536 ≡ startOf rows k
+    place-there = ap (λ (n : ℕ). n % 65536) slot-there ∙ slot-place (hash (rowAt rows k .name)) (startOf rows k) start-small
 
-    pub print-there : getD marks k 0 / 65536 ≡ print (rowAt rows k .name)
-    print-there = ap (λ (n : ℕ). n / 65536) mark-there ∙ mark-print (print (rowAt rows k .name)) (startOf rows k) start-small
+    pub hash-there : getD slots k 0 / 65536 ≡ hash (rowAt rows k .name)
+    hash-there = ap (λ (n : ℕ). n / 65536) slot-there ∙ slot-hash (hash (rowAt rows k .name)) (startOf rows k) start-small
 
     -- the row's text, and what follows it
     pub row-here : drop (startOf rows k) t ≡ rowText (rowAt rows k) ++ joined rowText (drop (suc k) rows)
     row-here =
         ap (drop (startOf rows k)) (row-text k) ∙ drop-append-seam (joined rowText (take k rows)) (joined rowText (drop k rows))
         ∙ ap (joined rowText) (drop-cons rows k noRow row-there)
-
-    pub row-part : part t (startOf rows k) (startOf rows (suc k)) ≡ rowText (rowAt rows k)
-    row-part =
-        let e : startOf rows (suc k) - startOf rows k ≡ length (rowText (rowAt rows k)) = omega (arith, start-next) in
-        (λ i. take (e i) (row-here i)) ∙ take-append-seam (rowText (rowAt rows k)) (joined rowText (drop (suc k) rows))
 
     pub name-valid : T (isName (rowAt rows k .name))
     name-valid = all-at (λ (r : Row). isName (r .name)) rows k noRow (H .named) row-there

@@ -1,4 +1,4 @@
--- Marks looked at block by block.
+-- Slots looked at block by block.
 -- Assumes nothing.
 use mathlib.Core.Path.{_≡_, subst}
 use mathlib.Core.Bool.{Bool, true, false}
@@ -9,30 +9,30 @@ use native.Mathlib.Omega.{arith}
 use lib.ListN.{getD}
 use Rattle.store.specs.Scans.{FirstHit, HitMeant}
 
-module _ (marks : List ℕ) (from : ℕ) (p : ℕ) where
-  pub hit-now : (i : ℕ) → from ≤ i → getD marks i 0 / 65536 ≡ p → HitMeant marks from (i + 1) p true
+module _ (slots : List ℕ) (from : ℕ) (p : ℕ) where
+  pub hit-now : (i : ℕ) → from ≤ i → getD slots i 0 / 65536 ≡ p → HitMeant slots from (i + 1) p true
   hit-now i l e = (i, record { low = l; high = omega arith; hit = e })
 
-  pub hit-on : (hit : Bool) (i : ℕ) → HitMeant marks from i p hit → (getD marks i 0 / 65536 ≡ p → ⊥) → HitMeant marks from (i + 1) p hit
+  pub hit-on : (hit : Bool) (i : ℕ) → HitMeant slots from i p hit → (getD slots i 0 / 65536 ≡ p → ⊥) → HitMeant slots from (i + 1) p hit
   hit-on true i (j, H) n = (j, record { low = H .low; high = omega (arith, H .high); hit = H .hit })
   hit-on false i none n = λ j H. elim (decLe (suc j) i) [
     | yes h ↦ none j (record { low = H .low; high = h; hit = H .hit })
     | no h ↦
         let e : j ≡ i = omega (arith, H .high) in
-        n (subst (λ (m : ℕ). getD marks m 0 / 65536 ≡ p) e (H .hit))
+        n (subst (λ (m : ℕ). getD slots m 0 / 65536 ≡ p) e (H .hit))
   ]
 
   -- a block without a hit is passed
-  pub block-passed : (i next : ℕ) → ((j : ℕ) → j < i → from ≤ j → getD marks j 0 / 65536 ≡ p → ⊥) → HitMeant marks i next p false
-      → (j : ℕ) → j < next → from ≤ j → getD marks j 0 / 65536 ≡ p → ⊥
+  pub block-passed : (i next : ℕ) → ((j : ℕ) → j < i → from ≤ j → getD slots j 0 / 65536 ≡ p → ⊥) → HitMeant slots i next p false
+      → (j : ℕ) → j < next → from ≤ j → getD slots j 0 / 65536 ≡ p → ⊥
   block-passed i next before none j h l e = elim (decLe (suc j) i) [
     | yes k ↦ before j k l e
     | no k ↦ none j (record { low = omega arith; high = h; hit = e })
   ]
 
   -- the first of a block with a hit
-  pub block-first : (i next to r : ℕ) → from ≤ i → next ≤ to → ((j : ℕ) → j < i → from ≤ j → getD marks j 0 / 65536 ≡ p → ⊥) → HitMeant marks i next p true
-      → FirstHit marks i next p r → FirstHit marks from to p r
+  pub block-first : (i next to r : ℕ) → from ≤ i → next ≤ to → ((j : ℕ) → j < i → from ≤ j → getD slots j 0 / 65536 ≡ p → ⊥) → HitMeant slots i next p true
+      → FirstHit slots i next p r → FirstHit slots from to p r
   block-first i next to r l m before (k, K) F =
       let inside : r < next = elim (decLe (suc r) next) [
         | yes h ↦ h

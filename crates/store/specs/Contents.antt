@@ -7,7 +7,7 @@ use lib.ListN.{length, getD}
 use Rattle.language.specs.Text.{Text}
 use Rattle.language.specs.State.{Value, list, Principal, Variable}
 use Rattle.language.specs.Encode.{valueText}
-use Rattle.store.specs.Held.{part}
+use Rattle.text.specs.Parts.{part}
 use Rattle.store.specs.declared.content.Password.{Password}
 use Rattle.store.specs.declared.content.Password.the-variants.{Kept, Absent}
 

@@ -11,9 +11,9 @@ use Rattle.language.specs.Syntax.{Name}
 use Rattle.language.specs.State.{Principal, Variable}
 use Rattle.language.specs.Encode.{tab, newline, valueText}
 use Rattle.store.specs.Held.{Held}
-use Rattle.store.specs.declared.mark.Found.{Found}
-use Rattle.store.specs.declared.mark.Found.the-variants.{At, Missing}
-use Rattle.store.specs.declared.mark.Place.{Place}
+use Rattle.store.specs.declared.index.Found.{Found}
+use Rattle.store.specs.declared.index.Found.the-variants.{At, Missing}
+use Rattle.store.specs.declared.index.Place.{Place}
 
 pub record Row : Type 0 where
   pub letter : ℕ
@@ -31,10 +31,10 @@ rowText r = r .letter ∷ tab ∷ (r .name ++ bodyText (r .body))
 abbrev pub Rows : List Row → Text → ℕ → List ℕ → Type 0
 Rows rows = Held (λ r. r .name) rowText rows
 
--- the text and the marks hold some rows
-pub record SomeRows (t : Text) (count : ℕ) (marks : List ℕ) : Type 0 where
+-- the text and the slots hold some rows
+pub record SomeRows (t : Text) (count : ℕ) (slots : List ℕ) : Type 0 where
   pub rows : List Row
-  pub held : Rows rows t count marks
+  pub held : Rows rows t count slots
 
 -- ---- principals and variables as rows
 

@@ -7,9 +7,9 @@ ghost use Rattle.language.specs.State.{Principal, Variable, valueIn};
 ghost use Rattle.store.specs.Held.{Principals, Variables};
 ghost use Rattle.store.specs.Rows.{SomeRows};
 ghost use Rattle.store.specs.Contents.{valueBytes, PasswordAt, ValueAt};
-use super::mark::Found;
-use super::mark::find;
-use super::mark::nth;
+use super::index::Found;
+use super::index::find;
+use super::index::nth;
 use text::Span;
 
 // Where a password stands.
@@ -19,11 +19,11 @@ pub enum Password {
 }
 
 // The password of a principal: after the tab that follows the name, without the line's end.
-pub fn password_of(text: &[u8], marks: &[u32], count: usize, number: usize) -> Password
-    requires { ⌜ SomeRows (now text) count (now marks) × (number < count) ⌝ }
-    ensures { λ r. ⌜ ((ks : List Principal) → Principals ks (now (text .entry)) count (now (marks .entry)) → PasswordAt ks (now (text .entry)) number r) ⌝ }
+pub fn password_of(text: &[u8], slots: &[u32], count: usize, number: usize) -> Password
+    requires { ⌜ SomeRows (now text) count (now slots) × (number < count) ⌝ }
+    ensures { λ r. ⌜ ((ks : List Principal) → Principals ks (now (text .entry)) count (now (slots .entry)) → PasswordAt ks (now (text .entry)) number r) ⌝ }
 {
-    let place = nth(text, marks, count, number);
+    let place = nth(text, slots, count, number);
     let mid = place.mid;
     if text[mid] == b'\n' {
         return Password::Absent;
@@ -35,11 +35,11 @@ pub fn password_of(text: &[u8], marks: &[u32], count: usize, number: usize) -> P
 }
 
 // The text of a variable's value.
-pub fn value_of(text: &[u8], marks: &[u32], count: usize, number: usize) -> Span
-    requires { ⌜ SomeRows (now text) count (now marks) × (number < count) ⌝ }
-    ensures { λ r. ⌜ ((vs : List Variable) → Variables vs (now (text .entry)) count (now (marks .entry)) → ValueAt vs (now (text .entry)) number (r .start) (r .end)) ⌝ }
+pub fn value_of(text: &[u8], slots: &[u32], count: usize, number: usize) -> Span
+    requires { ⌜ SomeRows (now text) count (now slots) × (number < count) ⌝ }
+    ensures { λ r. ⌜ ((vs : List Variable) → Variables vs (now (text .entry)) count (now (slots .entry)) → ValueAt vs (now (text .entry)) number (r .start) (r .end)) ⌝ }
 {
-    let place = nth(text, marks, count, number);
+    let place = nth(text, slots, count, number);
     let mid = place.mid;
     let start = mid + 1;
     let end = place.end;
@@ -49,19 +49,19 @@ pub fn value_of(text: &[u8], marks: &[u32], count: usize, number: usize) -> Span
 // The bytes of the value of a name, a part of the locals or else of the shared text; nothing where neither has it.
 pub fn read<'a>(
     shared: &'a [u8],
-    marks: &[u32],
+    slots: &[u32],
     count: usize,
     locals: &'a [u8],
-    lmarks: &[u32],
+    lslots: &[u32],
     lcount: usize,
     name: &[u8],
 ) -> &'a [u8]
-    requires { ⌜ SomeRows (now shared) count (now marks) × SomeRows (now locals) lcount (now lmarks) ⌝ }
-    ensures { λ r. ⌜ ((sv lv : List Variable) → Variables sv (now (shared .entry)) count (now (marks .entry))
-        → Variables lv (now (locals .entry)) lcount (now (lmarks .entry))
+    requires { ⌜ SomeRows (now shared) count (now slots) × SomeRows (now locals) lcount (now lslots) ⌝ }
+    ensures { λ r. ⌜ ((sv lv : List Variable) → Variables sv (now (shared .entry)) count (now (slots .entry))
+        → Variables lv (now (locals .entry)) lcount (now (lslots .entry))
         → now r ≡ valueBytes (valueIn lv (now (name .entry)) orElse valueIn sv (now (name .entry)))) ⌝ }
 {
-    let l = find(locals, lmarks, lcount, name);
+    let l = find(locals, lslots, lcount, name);
     match l {
         Found::At {
             number: _,
@@ -72,7 +72,7 @@ pub fn read<'a>(
             &locals[from..end]
         }
         Found::Missing => {
-            let s = find(shared, marks, count, name);
+            let s = find(shared, slots, count, name);
             match s {
                 Found::At {
                     number: _,

@@ -1,7 +1,7 @@
 // Names: the number of one among the records, and what a principal's name weighs.
-use super::mark::Found;
-use super::mark::find;
-use super::mark::nth;
+use super::index::Found;
+use super::index::find;
+use super::index::nth;
 ghost use mathlib.Core.Path.{_≡_};
 ghost use mathlib.Core.List.{List};
 ghost use Prim.Native.Nat.{_≤_, _<_};
@@ -10,11 +10,11 @@ ghost use Rattle.language.specs.Weight.{nameWeight};
 ghost use Rattle.store.specs.Rows.{Row, Rows, SomeRows, rowNames, rowAt, position};
 
 // The number of a name among the records in the first `len` bytes; of a name that is missing, how many there are.
-pub fn number_of(rows: &[u8], marks: &[u32], len: usize, count: usize, name: &[u8]) -> usize
-    requires { ⌜ (len ≤ length (now rows)) × SomeRows (take len (now rows)) count (now marks) ⌝ }
-    ensures { λ r. ⌜ ((l : List Row) → Rows l (take len (now (rows .entry))) count (now (marks .entry)) → r ≡ position (rowNames l) (now (name .entry))) ⌝ }
+pub fn number_of(rows: &[u8], slots: &[u32], len: usize, count: usize, name: &[u8]) -> usize
+    requires { ⌜ (len ≤ length (now rows)) × SomeRows (take len (now rows)) count (now slots) ⌝ }
+    ensures { λ r. ⌜ ((l : List Row) → Rows l (take len (now (rows .entry))) count (now (slots .entry)) → r ≡ position (rowNames l) (now (name .entry))) ⌝ }
 {
-    let found = find(&rows[..len], marks, count, name);
+    let found = find(&rows[..len], slots, count, name);
     match found {
         Found::At {
             number,
@@ -39,12 +39,12 @@ pub fn name_weight(name: &[u8]) -> usize
 }
 
 // The weight of the name of a principal, by its number.
-pub fn principal_weight(people: &[u8], marks: &[u32], count: usize, number: usize) -> usize
-    requires { ⌜ SomeRows (now people) count (now marks) × (number < count) ⌝ }
-    ensures { λ r. ⌜ ((rows : List Row) → Rows rows (now (people .entry)) count (now (marks .entry)) → r ≡ nameWeight (rowAt rows number .name)) ⌝ }
+pub fn principal_weight(principals: &[u8], slots: &[u32], count: usize, number: usize) -> usize
+    requires { ⌜ SomeRows (now principals) count (now slots) × (number < count) ⌝ }
+    ensures { λ r. ⌜ ((rows : List Row) → Rows rows (now (principals .entry)) count (now (slots .entry)) → r ≡ nameWeight (rowAt rows number .name)) ⌝ }
 {
-    let place = nth(people, marks, count, number);
+    let place = nth(principals, slots, count, number);
     let from = place.start + 2;
     let to = place.mid;
-    name_weight(&people[from..to])
+    name_weight(&principals[from..to])
 }

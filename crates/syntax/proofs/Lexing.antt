@@ -17,10 +17,7 @@ use Rattle.text.proofs.Runs.{take-run, run-part, past-run}
 use Rattle.syntax.specs.Tokens.{Placed}
 use Rattle.syntax.specs.declared.token.Token as Read
 use Rattle.syntax.specs.declared.token.Token.the-variants as Variants
-
--- the bytes of a text from place s up to place e
-abbrev part : Text → ℕ → ℕ → Text
-part t s e = take (e - s) (drop s t)
+use Rattle.text.specs.Parts.{part}
 
 pub tokens-skip : (xs : List ℕ) (k : ℕ) → tokens xs k ≡ lex (drop k xs)
 tokens-skip [] zero = refl

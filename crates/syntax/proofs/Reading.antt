@@ -14,7 +14,6 @@ use Rattle.language.specs.Syntax.{name, dot}
 use Rattle.language.specs.Grammar.{theSign, the, anyName, fieldOrVariable}
 use Rattle.syntax.specs.declared.token.Token.{Token}
 use Rattle.syntax.specs.Tokens.{tokensMeant, Placed}
-use Rattle.syntax.specs.Scanning.{PassedOf, Passed}
 use Rattle.syntax.specs.Readers.{anySign}
 
 pub no-some : {A : Type 0} {a : A} {B : Type 0} → _≡_ {A = Option A} none (some a) → B
@@ -27,9 +26,6 @@ module _ (t : Text) (at : ℕ) (r : Token) {s : Token} (is : r ≡ s) where
 
   pub placed-as : Placed t at r → Placed t at s
   placed-as p = subst (λ (x : Token). Placed t at x) is p
-
-  pub passed-as : (n : ℕ) → PassedOf (tokensMeant t s) t at n → Tokens.lex (drop at t) ≡ tokensMeant t r → Passed t at n
-  passed-as n p m = subst (λ (ts : List Tokens.Token). PassedOf ts t at n) (sym (m ∙ ap (tokensMeant t) is)) p
 
 -- an answer r that is s: what it means, and what is known of it
 pub told : {A B : Type 0} (f : A → B) {r s : A} {m : B} → f r ≡ m → r ≡ s → m ≡ f s

@@ -27,7 +27,7 @@ fn word_at(text: &[u8], at: usize) -> Token
     ensures placed { λ r. ⌜ Placed (now (text .entry)) at r ⌝ }
 {
     let end = text::run_end(text, at + 1, Alphabet::Word);
-    if text::is_keyword(&text[at..end]) {
+    if keywords::is_keyword(&text[at..end]) {
         return Token::Sign(Span { start: at, end }, end);
     }
     if end - at <= 255 {

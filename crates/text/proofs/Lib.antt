@@ -1,5 +1,4 @@
--- Laws of runs, words, keywords and classes.
+-- Laws of runs, words and classes.
 pub mod Classes
 pub mod Runs
 pub mod Words
-pub mod Keywords

@@ -6,7 +6,7 @@ use mathlib.Core.Bool.{Bool, true, false}
 use Prim.Native.Nat.{ℕ, suc, _+_, _-_, _≤_, _<_}
 use native.Mathlib.Omega.{arith}
 use native.Mathlib.Numerals.{add-one}
-use lib.ListN.{length, getD, take, drop, drop-of-length-le, length-drop}
+use lib.ListN.{length, getD, take, drop, drop-of-length-le}
 use lib.Seq.{drop-cons, drop-drop}
 use Rattle.language.specs.Text.{if_then_else_, front, past}
 
@@ -44,10 +44,6 @@ drop-run p (x ∷ xs) = go (p x) (drop-run p xs)
     go : (t : Bool) → drop (length (front p xs)) xs ≡ past p xs → drop (length (if t then x ∷ front p xs else [])) (x ∷ xs) ≡ (if t then past p xs else x ∷ xs)
     go true e = e
     go false e = refl
-
--- a run from place i on ends within the list
-pub run-within : (p : ℕ → Bool) (xs : List ℕ) (i : ℕ) → i ≤ length xs → i + length (front p (drop i xs)) ≤ length xs
-run-within p xs i h = omega (arith, run-le p (drop i xs), length-drop i xs)
 
 -- a run from place i up to place e, and what follows it
 module _ (p : ℕ → Bool) (xs : List ℕ) (i e : ℕ) (at-end : e ≡ i + length (front p (drop i xs))) where

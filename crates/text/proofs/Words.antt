@@ -13,6 +13,7 @@ use borrow.Author.Tests.{eqb-true, leb-true, leb-false, le-leb}
 use Rattle.text.proofs.Runs.{take-run, drop-run}
 use Rattle.language.specs.Text.{if_then_else_, front, past, _==_, parts, toFirst}
 use Rattle.text.specs.Meaning.{isNot}
+use Rattle.language.proofs.Logic.Tests.{and-false}
 
 -- ---- equal texts
 module _ (a b : List ℕ) (i : ℕ) where
@@ -21,10 +22,6 @@ module _ (a b : List ℕ) (i : ℕ) where
 
   pub same-none : length a ≤ i → length b ≤ i → (drop i a == drop i b) ≡ true
   same-none h k = rw (drop-of-length-le a {i = i} h, drop-of-length-le b {i = i} k)
-
-and-false : (t : Bool) → (t && false) ≡ false
-and-false true = refl
-and-false false = refl
 
 pub same-length : (a b : List ℕ) → (length a ≡ length b → ⊥) → (a == b) ≡ false
 same-length [] [] n = absurd (n refl)

@@ -1,2 +1,3 @@
 -- What the crate's types mean in the terms of the language.
 pub mod Meaning
+pub mod Parts

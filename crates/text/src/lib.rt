@@ -1,10 +1,9 @@
-// Bytes and texts, for every crate that reads one: the class of a byte, the end of a run, places, equal texts and keywords.
+// Bytes and texts, for every crate that reads one: the class of a byte, the end of a run, places and equal texts.
 ghost use mathlib.Core.Path.{_≡_};
 ghost use Prim.Native.Nat.{_+_, _≤_};
 ghost use lib.ListN.{length, drop};
-ghost use Rattle.language.specs.Text.{_==_, member, parts, front};
+ghost use Rattle.language.specs.Text.{_==_, front};
 ghost use Rattle.language.specs.Bytes.{class, wordByte, stringByte, commentByte};
-ghost use Rattle.language.specs.Identifiers.{baseKeywords};
 ghost use Rattle.text.specs.Meaning.{classMeant, inAlphabet, isNot};
 
 // The place of a part of a text: from `start` up to, and without, `end`.
@@ -146,45 +145,4 @@ pub fn same_bytes(a: &[u8], b: &[u8]) -> bool
         i += 1;
     }
     true
-}
-
-// Whether `w` is one of the words that spaces part.
-pub fn among(words: &[u8], w: &[u8]) -> bool
-    ensures { λ r. ⌜ r ≡ member (now (w .entry)) (parts 32 (now (words .entry))) ⌝ }
-{
-    let mut p = 0;
-    while p <= words.len() {
-        let e = until(words, p, b' ');
-        if same_bytes(w, &words[p..e]) {
-            return true;
-        }
-        p = e + 1;
-    }
-    false
-}
-
-// The keywords of document 01, by their first letter. No state text holds one as a name.
-pub fn is_keyword(w: &[u8]) -> bool
-    ensures { λ r. ⌜ r ≡ member (now (w .entry)) baseKeywords ⌝ }
-{
-    if w.len() == 0 {
-        return false;
-    }
-    let first = w[0];
-    match first {
-        b'a' => among(b"all append as", w),
-        b'c' => among(b"change create concat", w),
-        b'd' => among(b"default delegate delegation delegator delete do", w),
-        b'e' => among(b"exit equal", w),
-        b'f' => among(b"foreach filtereach", w),
-        b'i' => among(b"in", w),
-        b'l' => among(b"local let", w),
-        b'n' => among(b"notequal", w),
-        b'p' => among(b"password principal", w),
-        b'r' => among(b"read replacewith return", w),
-        b's' => among(b"set split", w),
-        b't' => among(b"to tolower", w),
-        b'w' => among(b"write with", w),
-        _ => false,
-    }
 }

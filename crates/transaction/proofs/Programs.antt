@@ -56,7 +56,7 @@ module _ (s : Store) (p : Opening) where
   commands-performed (some cs) h = by-login cs right h
 
 -- the programs that were completed before
-pub few-programs : (t : Text) (marks-p marks-v standing : List ℕ) (m : Parts) → Understood t marks-p marks-v standing m → m .count ≤ lastCount
-few-programs t marks-p marks-v standing m u =
-    let h = leb→le (u .state .count) lastCount (both (leb (u .state .count) lastCount) (validStore (u .state .store)) (checked-valid t marks-p marks-v standing m u) .0) in
+pub few-programs : (t : Text) (slots-p slots-v assertions : List ℕ) (m : Parts) → Understood t slots-p slots-v assertions m → m .count ≤ lastCount
+few-programs t slots-p slots-v assertions m u =
+    let h = leb→le (u .state .count) lastCount (both (leb (u .state .count) lastCount) (validStore (u .state .store)) (checked-valid t slots-p slots-v assertions m u) .0) in
     omega (arith, h, u .represents .counted)

@@ -1,8 +1,8 @@
 // A program on a state that was checked and is open.
-use crate::ending::refuse;
 use crate::ending::settle;
 use answers::Answer;
 use answers::Kind;
+use closing::refuse;
 use engine::perform;
 use opening::Login;
 use opening::begin;
@@ -24,46 +24,46 @@ fn session(
     work: &mut [u8],
     output: &mut [u8],
     program: &[u8],
-    people_marks: &mut [u32],
-    var_marks: &mut [u32],
-    standing: &mut [u64],
+    principal_slots: &mut [u32],
+    variable_slots: &mut [u32],
+    assertions: &mut [u64],
     parts: Parts,
     sender: usize,
     at: usize,
 ) -> Answer
-    requires { ⌜ Admitted (now state) (now «people_marks») (now «var_marks») (now standing) parts (now program) sender at ⌝ }
+    requires { ⌜ Admitted (now state) (now «principal_slots») (now «variable_slots») (now assertions) parts (now program) sender at ⌝ }
     requires { ⌜ (length (now state) ≡ 65536) × (length (now work) ≡ 65536) × (length (now output) ≡ 65536) ⌝ }
-    requires { ⌜ (length (now «people_marks») ≡ 4096) × (length (now «var_marks») ≡ 4096) × (length (now standing) ≡ 2048) ⌝ }
-    ensures { λ r. ⌜ ((a : Admitted (now (state .entry)) (now («people_marks» .entry)) (now («var_marks» .entry)) (now (standing .entry)) parts (now (program .entry)) sender at)
+    requires { ⌜ (length (now «principal_slots») ≡ 4096) × (length (now «variable_slots») ≡ 4096) × (length (now assertions) ≡ 2048) ⌝ }
+    ensures { λ r. ⌜ ((a : Admitted (now (state .entry)) (now («principal_slots» .entry)) (now («variable_slots» .entry)) (now (assertions .entry)) parts (now (program .entry)) sender at)
         → replied r (record { state = now (state .exit); work = now (work .exit); output = now (output .exit) })
         ≡ endReply (record { state = now (state .entry); work = now (work .entry); output = now (output .entry) }) (a .understood .state)
         (Run.run (a .understood .state .store) (parse (now (program .entry))))) ⌝ }
 {
-    let mut people = [0u8; 20992];
+    let mut principals = [0u8; 20992];
     let mut locals = [0u8; 32768];
-    let mut local_marks = [0u32; 4096];
+    let mut local_slots = [0u32; 4096];
     let start = begin(
         state,
-        people_marks,
-        var_marks,
-        standing,
+        principal_slots,
+        variable_slots,
+        assertions,
         parts,
         sender,
-        &mut people,
+        &mut principals,
         work,
         &locals,
-        &local_marks,
+        &local_slots,
     );
     let mut value = [0u8; 45056];
     let mut labels = [0u32; 4096];
     let performed = perform(
-        &mut people,
-        people_marks,
+        &mut principals,
+        principal_slots,
         work,
-        var_marks,
+        variable_slots,
         &mut locals,
-        &mut local_marks,
-        standing,
+        &mut local_slots,
+        assertions,
         &mut value,
         &mut labels,
         start,
@@ -73,13 +73,13 @@ fn session(
     );
     settle(
         performed,
-        &people,
-        people_marks,
+        &principals,
+        principal_slots,
         work,
-        var_marks,
+        variable_slots,
         &locals,
-        &local_marks,
-        standing,
+        &local_slots,
+        assertions,
         parts.count,
         state,
         output,
@@ -94,15 +94,15 @@ pub fn start(
     work: &mut [u8],
     output: &mut [u8],
     program: &[u8],
-    people_marks: &mut [u32],
-    var_marks: &mut [u32],
-    standing: &mut [u64],
+    principal_slots: &mut [u32],
+    variable_slots: &mut [u32],
+    assertions: &mut [u64],
     parts: Parts,
 ) -> Answer
-    requires { ⌜ Understood (now state) (now «people_marks») (now «var_marks») (now standing) parts ⌝ }
+    requires { ⌜ Understood (now state) (now «principal_slots») (now «variable_slots») (now assertions) parts ⌝ }
     requires { ⌜ (length (now state) ≡ 65536) × (length (now work) ≡ 65536) × (length (now output) ≡ 65536) ⌝ }
-    requires { ⌜ (length (now «people_marks») ≡ 4096) × (length (now «var_marks») ≡ 4096) × (length (now standing) ≡ 2048) ⌝ }
-    ensures { λ r. ⌜ ((u : Understood (now (state .entry)) (now («people_marks» .entry)) (now («var_marks» .entry)) (now (standing .entry)) parts)
+    requires { ⌜ (length (now «principal_slots») ≡ 4096) × (length (now «variable_slots») ≡ 4096) × (length (now assertions) ≡ 2048) ⌝ }
+    ensures { λ r. ⌜ ((u : Understood (now (state .entry)) (now («principal_slots» .entry)) (now («variable_slots» .entry)) (now (assertions .entry)) parts)
         → replied r (record { state = now (state .exit); work = now (work .exit); output = now (output .exit) })
         ≡ endReply (record { state = now (state .entry); work = now (work .entry); output = now (output .entry) }) (u .state)
         (Run.run (u .state .store) (parse (now (program .entry))))) ⌝ }
@@ -122,7 +122,7 @@ pub fn start(
     let to = password.end;
     let login = log_in(
         state,
-        people_marks,
+        principal_slots,
         parts,
         &program[name_from..name_to],
         &program[from..to],
@@ -140,9 +140,9 @@ pub fn start(
             work,
             output,
             program,
-            people_marks,
-            var_marks,
-            standing,
+            principal_slots,
+            variable_slots,
+            assertions,
             parts,
             number,
             at,

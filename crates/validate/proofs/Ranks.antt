@@ -1,4 +1,4 @@
--- The loop over the principals: their order, and their marks.
+-- The loop over the principals: their order, and their slots.
 -- Assumes nothing.
 use mathlib.Core.Path.{_≡_, refl, sym, ap, subst, _∙_}
 use Prim.Native.Nat.{ℕ, suc, _+_, _-_, _≤_, _<_}
@@ -14,17 +14,17 @@ use Rattle.language.specs.Weight.{principalWeight}
 use Rattle.language.specs.Identifiers.{isName}
 use Rattle.language.specs.Valid.{validPassword, validPrincipal, validOrder, hasPassword}
 use Rattle.language.proofs.Logic.Tests.{both, and, three, four}
-use Rattle.lines.specs.Cuts.{part}
+use Rattle.text.specs.Parts.{part}
 use Rattle.store.specs.Rows.{Row, Rows, rowText, principalRow}
 use Rattle.store.proofs.Holders.{principal-text}
 use Rattle.records.specs.Sections.{Fails, lightOne, lightAll, Entitled, anyText}
 use Rattle.records.specs.Entering.{Entering, Entered}
 use Rattle.records.proofs.Follow.{stuck, spoilt, finish}
-use Rattle.records.proofs.Marking.{Going, going-start, going-held, going-rows, entering, go-on, again, light, ahead}
-use Rattle.validate.specs.People.{personText, offPerson, inPlace, orderly, goodPeople}
+use Rattle.records.proofs.Indexing.{Going, going-start, going-held, going-rows, entering, go-on, again, light, ahead}
+use Rattle.validate.specs.Principals.{principalLine, offPrincipal, inPlace, orderly, goodPrincipals}
 use Rattle.validate.specs.Listed.{Listed}
 use Rattle.store.proofs.NameWeights.{name-light}
-use Rattle.validate.proofs.Persons.{place-other}
+use Rattle.validate.proofs.Principals.{place-other}
 
 -- ---- order
 
@@ -91,79 +91,79 @@ orderly-order (k ∷ m ∷ ks) l h =
 
 -- ---- the loop
 
-person-clear : (k : Principal) (q : Text) → T (anyText (personText k ++ q))
-person-clear k q = tt
+principal-clear : (k : Principal) (q : Text) → T (anyText (principalLine k ++ q))
+principal-clear k q = tt
 
-person-on : (k : Principal) (q : Text) → T (offPerson (personText k ++ q)) → ⊥
-person-on k q h = go (k .password) h
+principal-on : (k : Principal) (q : Text) → T (offPrincipal (principalLine k ++ q)) → ⊥
+principal-on k q h = go (k .password) h
   where
-    go : (o : Option Text) → T (offPerson (personText (record { name = k .name; password = o }) ++ q)) → ⊥
+    go : (o : Option Text) → T (offPrincipal (principalLine (record { name = k .name; password = o }) ++ q)) → ⊥
     go none h = h
     go (some u) h = h
 
-person-named : (k : Principal) → T (validPrincipal k) → T (isName (k .name))
-person-named k h = both (isName (k .name)) (validPassword (k .password)) h .0
+principal-named : (k : Principal) → T (validPrincipal k) → T (isName (k .name))
+principal-named k h = both (isName (k .name)) (validPassword (k .password)) h .0
 
-person-two : (k : Principal) → T (validPrincipal k) → 2 ≤ principalWeight k
-person-two k h = let l = name-light (k .name) (person-named k h) in omega (arith, l .0)
+principal-two : (k : Principal) → T (validPrincipal k) → 2 ≤ principalWeight k
+principal-two k h = let l = name-light (k .name) (principal-named k h) in omega (arith, l .0)
 
-person-some : (k : Principal) → 0 < length (personText k)
-person-some k = go (k .password)
+principal-some : (k : Principal) → 0 < length (principalLine k)
+principal-some k = go (k .password)
   where
-    go : (o : Option Text) → 0 < length (personText (record { name = k .name; password = o }))
+    go : (o : Option Text) → 0 < length (principalLine (record { name = k .name; password = o }))
     go none = omega arith
     go (some u) = omega arith
 
-person-text : (k : Principal) → personText k ≡ rowText (principalRow k)
-person-text k = principal-text (k .name) (k .password)
+principal-line : (k : Principal) → principalLine k ≡ rowText (principalRow k)
+principal-line k = principal-text (k .name) (k .password)
 
 -- what the loop over the principals knows
-pub record Ranking (t : Text) (at : ℕ) (marks : List ℕ) (i n now : ℕ) : Type 0 where
-  pub going : Going (λ (k : Principal). k .name) personText validPrincipal principalWeight offPerson t at 0 marks i n now
+pub record Ranking (t : Text) (at : ℕ) (slots : List ℕ) (i n now : ℕ) : Type 0 where
+  pub going : Going (λ (k : Principal). k .name) principalLine validPrincipal principalWeight offPrincipal t at 0 slots i n now
   pub in-order : T (orderly 0 (going .rows))
 
-pub ranking-start : (t : Text) (at : ℕ) (marks : List ℕ) → at ≤ length t → Ranking t at marks at 0 0
+pub ranking-start : (t : Text) (at : ℕ) (slots : List ℕ) → at ≤ length t → Ranking t at slots at 0 0
 unfolding going-start
-ranking-start t at marks h = record {
-  going = going-start (λ (k : Principal). k .name) personText validPrincipal principalWeight anyText offPerson (λ q h. tt) person-clear person-on t at 0 marks h;
+ranking-start t at slots h = record {
+  going = going-start (λ (k : Principal). k .name) principalLine validPrincipal principalWeight anyText offPrincipal (λ q h. tt) principal-clear principal-on t at 0 slots h;
   in-order = tt;
 }
 
-module _ (t : Text) (at : ℕ) (marks : List ℕ) (i n now : ℕ) (K : Ranking t at marks i n now) where
-  abbrev NoPeople : Type 0
-  NoPeople = Fails (joined personText) (lightAll validPrincipal goodPeople principalWeight 0) offPerson t at
+module _ (t : Text) (at : ℕ) (slots : List ℕ) (i n now : ℕ) (K : Ranking t at slots i n now) where
+  abbrev NoPrincipals : Type 0
+  NoPrincipals = Fails (joined principalLine) (lightAll validPrincipal goodPrincipals principalWeight 0) offPrincipal t at
 
-  abbrev G : Going (λ (k : Principal). k .name) personText validPrincipal principalWeight offPerson t at 0 marks i n now
+  abbrev G : Going (λ (k : Principal). k .name) principalLine validPrincipal principalWeight offPrincipal t at 0 slots i n now
   G = K .going
 
   -- where no principal follows, these are all
-  module _ (o : T (offPerson (drop i t))) where
-    pub too-few : n < 2 → now ≤ 8192 → NoPeople
+  module _ (o : T (offPrincipal (drop i t))) where
+    pub too-few : n < 2 → now ≤ 8192 → NoPrincipals
     too-few l lt ks q f oq d =
-        let (a, g, w) = three (all validPrincipal ks) (goodPeople ks) _ f in
-        let r = finish personText validPrincipal principalWeight anyText offPerson (λ q h. tt) person-clear person-on t at 0 (λ l. true) (G .rows) i now (G .run) o tt lt in
+        let (a, g, w) = three (all validPrincipal ks) (goodPrincipals ks) _ f in
+        let r = finish principalLine validPrincipal principalWeight anyText offPrincipal (λ q h. tt) principal-clear principal-on t at 0 (λ l. true) (G .rows) i now (G .run) o tt lt in
         let (same, left) = r .only ks q (and (all validPrincipal ks && true) _ (and (all validPrincipal ks) true a tt) w) oq d in
         let (two, x) = order-orderly ks (both (validOrder ks) (distinct (map (λ k. k .name) ks)) g .0) in
         omega (arith, G .counted, ap length same)
 
-    pub people-good : 2 ≤ n → now ≤ 8192 → length t ≤ 65536 → Listed (λ (k : Principal). k .name) personText validPrincipal goodPeople principalWeight offPerson t at 0 marks i n now
-    people-good l lt small = record {
+    pub principals-good : 2 ≤ n → now ≤ 8192 → length t ≤ 65536 → Listed (λ (k : Principal). k .name) principalLine validPrincipal goodPrincipals principalWeight offPrincipal t at 0 slots i n now
+    principals-good l lt small = record {
       records = record {
         rows = G .rows;
-        reads = finish personText validPrincipal principalWeight anyText offPerson (λ q h. tt) person-clear person-on t at 0 goodPeople (G .rows) i now (G .run) o
+        reads = finish principalLine validPrincipal principalWeight anyText offPrincipal (λ q h. tt) principal-clear principal-on t at 0 goodPrincipals (G .rows) i now (G .run) o
             (and (validOrder (G .rows)) (distinct (map (λ k. k .name) (G .rows))) (orderly-order (G .rows) (omega (arith, G .counted)) (K .in-order)) (G .apart)) lt;
         weighed = G .run .weighed;
         counted = G .counted;
         ends = o;
       };
-      held = going-held (λ (k : Principal). k .name) personText validPrincipal principalWeight anyText offPerson (λ q h. tt) person-clear person-on person-named person-two principalRow person-text (λ k. refl) t at 0 marks i n now G small;
+      held = going-held (λ (k : Principal). k .name) principalLine validPrincipal principalWeight anyText offPrincipal (λ q h. tt) principal-clear principal-on principal-named principal-two principalRow principal-line (λ k. refl) t at 0 slots i n now G small;
     }
 
-  module _ (on : T (offPerson (drop i t)) → ⊥) where
-    pub people-stuck : Fails personText (lightOne validPrincipal principalWeight now) anyText t i → NoPeople
-    people-stuck = stuck personText validPrincipal principalWeight anyText offPerson (λ q h. tt) person-clear person-on t at 0 (G .rows) i now (G .run) on goodPeople
+  module _ (on : T (offPrincipal (drop i t)) → ⊥) where
+    pub principals-stuck : Fails principalLine (lightOne validPrincipal principalWeight now) anyText t i → NoPrincipals
+    principals-stuck = stuck principalLine validPrincipal principalWeight anyText offPrincipal (λ q h. tt) principal-clear principal-on t at 0 (G .rows) i now (G .run) on goodPrincipals
 
-    module _ (m e after : ℕ) (E : Entitled (λ (k : Principal). k .name) personText validPrincipal principalWeight anyText t i now m e after) where
+    module _ (m e after : ℕ) (E : Entitled (λ (k : Principal). k .name) principalLine validPrincipal principalWeight anyText t i now m e after) where
       -- what the test of the place says
       placed : (has : Bool) → has ≡ hasPassword (E .one .row) → inPlace n (part t (i + 2) m) has ≡ inPlace (0 + length (G .rows)) (E .one .row .name) (hasPassword (E .one .row))
       placed has h =
@@ -172,35 +172,36 @@ module _ (t : Text) (at : ℕ) (marks : List ℕ) (i n now : ℕ) (K : Ranking t
           ∙ ap (λ (x : Text). inPlace (0 + length (G .rows)) x has) (E .is-name)
           ∙ ap (λ (b : Bool). inPlace (0 + length (G .rows)) (E .one .row .name) b) h
 
-      pub person-ahead : i < e
-      person-ahead = ahead t (personText (E .one .row)) i e (E .one .reads .here) (person-some (E .one .row)) (E .one .reads .low) (E .one .reads .high)
+      pub principal-ahead : i < e
+      principal-ahead = ahead t (principalLine (E .one .row)) i e (E .one .reads .here) (principal-some (E .one .row)) (E .one .reads .low) (E .one .reads .high)
 
-      pub person-light : after ≤ 8192
-      person-light = light (λ (k : Principal). k .name) personText validPrincipal principalWeight anyText offPerson (λ q h. tt) person-clear person-on person-named person-two principalRow person-text (λ k. refl) t at 0 marks i n now G m e after E
+      pub principal-light : after ≤ 8192
+      principal-light = light (λ (k : Principal). k .name) principalLine validPrincipal principalWeight anyText offPrincipal (λ q h. tt) principal-clear principal-on principal-named principal-two principalRow principal-line (λ k. refl) t at 0 slots i n now G m e after E
 
-      pub person-entering : length t ≤ 65536 → length marks ≡ 4096 → Entering t at i m n marks
-      person-entering small l = entering (λ (k : Principal). k .name) personText validPrincipal principalWeight anyText offPerson (λ q h. tt) person-clear person-on person-named person-two principalRow person-text (λ k. refl) t at 0 marks i n now G m e after E small (omega arith)
+      pub principal-entering : length t ≤ 65536 → length slots ≡ 4096 → Entering t at i m n slots
+      principal-entering small l =
+          entering (λ (k : Principal). k .name) principalLine validPrincipal principalWeight anyText offPrincipal (λ q h. tt) principal-clear principal-on principal-named principal-two principalRow principal-line (λ k. refl) t at 0 slots i n now G m e after E small (omega arith)
 
       module _ (has : Bool) (is : has ≡ hasPassword (E .one .row)) where
-        pub misplaced : inPlace n (part t (i + 2) m) has ≡ false → NoPeople
+        pub misplaced : inPlace n (part t (i + 2) m) has ≡ false → NoPrincipals
         misplaced p =
-            spoilt personText validPrincipal principalWeight anyText offPerson (λ q h. tt) person-clear person-on t at 0 (G .rows) i now (G .run) on (E .one .row) e after (E .one .reads) (E .one .weighed) goodPeople
+            spoilt principalLine validPrincipal principalWeight anyText offPrincipal (λ q h. tt) principal-clear principal-on t at 0 (G .rows) i now (G .run) on (E .one .row) e after (E .one .reads) (E .one .weighed) goodPrincipals
             (λ ms g.
             let (two, x) = order-orderly (G .rows ++ E .one .row ∷ ms) (both (validOrder (G .rows ++ E .one .row ∷ ms)) (distinct (map (λ k. k .name) (G .rows ++ E .one .row ∷ ms))) g .0) in
             subst (λ (b : Bool). T b) (sym (placed has is) ∙ p) (orderly-at 0 (G .rows) ms (E .one .row) x))
 
-        module _ (small : length t ≤ 65536) (marks' : List ℕ) where
-          pub person-again : ((rows : List Row) → Rows rows (part t at i) n marks → Entered rows (part t (i + 2) m) (i - at) n marks marks' false) → NoPeople
-          person-again f =
-              again (λ (k : Principal). k .name) personText validPrincipal principalWeight anyText offPerson (λ q h. tt) person-clear person-on person-named person-two principalRow person-text (λ k. refl) t at 0 marks i n now G m e after E on goodPeople
-              (λ l g. both (validOrder l) (distinct (map (λ k. k .name) l)) g .1) marks'
-              (f _ (going-rows (λ (k : Principal). k .name) personText validPrincipal principalWeight anyText offPerson (λ q h. tt) person-clear person-on person-named person-two principalRow person-text (λ k. refl) t at 0 marks i n now G small))
+        module _ (small : length t ≤ 65536) (slots' : List ℕ) where
+          pub principal-again : ((rows : List Row) → Rows rows (part t at i) n slots → Entered rows (part t (i + 2) m) (i - at) n slots slots' false) → NoPrincipals
+          principal-again f =
+              again (λ (k : Principal). k .name) principalLine validPrincipal principalWeight anyText offPrincipal (λ q h. tt) principal-clear principal-on principal-named principal-two principalRow principal-line (λ k. refl) t at 0 slots i n now G m e after E on goodPrincipals
+              (λ l g. both (validOrder l) (distinct (map (λ k. k .name) l)) g .1) slots'
+              (f _ (going-rows (λ (k : Principal). k .name) principalLine validPrincipal principalWeight anyText offPrincipal (λ q h. tt) principal-clear principal-on principal-named principal-two principalRow principal-line (λ k. refl) t at 0 slots i n now G small))
 
-          pub person-next : length marks ≡ 4096 → inPlace n (part t (i + 2) m) has ≡ true → ((rows : List Row) → Rows rows (part t at i) n marks → Entered rows (part t (i + 2) m) (i - at) n marks marks' true) → Ranking t at marks' e (n + 1) after
+          pub principal-next : length slots ≡ 4096 → inPlace n (part t (i + 2) m) has ≡ true → ((rows : List Row) → Rows rows (part t at i) n slots → Entered rows (part t (i + 2) m) (i - at) n slots slots' true) → Ranking t at slots' e (n + 1) after
           unfolding go-on
-          person-next l p f = record {
+          principal-next l p f = record {
             going =
-                go-on (λ (k : Principal). k .name) personText validPrincipal principalWeight anyText offPerson (λ q h. tt) person-clear person-on person-named person-two principalRow person-text (λ k. refl) t at 0 marks i n now G m e after E on (omega arith) marks'
-                (f _ (going-rows (λ (k : Principal). k .name) personText validPrincipal principalWeight anyText offPerson (λ q h. tt) person-clear person-on person-named person-two principalRow person-text (λ k. refl) t at 0 marks i n now G small));
+                go-on (λ (k : Principal). k .name) principalLine validPrincipal principalWeight anyText offPrincipal (λ q h. tt) principal-clear principal-on principal-named principal-two principalRow principal-line (λ k. refl) t at 0 slots i n now G m e after E on (omega arith) slots'
+                (f _ (going-rows (λ (k : Principal). k .name) principalLine validPrincipal principalWeight anyText offPrincipal (λ q h. tt) principal-clear principal-on principal-named principal-two principalRow principal-line (λ k. refl) t at 0 slots i n now G small));
             in-order = orderly-last 0 (G .rows) (E .one .row) (K .in-order) (subst (λ (b : Bool). T b) (sym (sym (placed has is) ∙ p)) tt);
           }

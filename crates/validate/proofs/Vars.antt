@@ -14,9 +14,9 @@ use Rattle.language.specs.Weight.{variableWeight}
 use Rattle.language.specs.Identifiers.{isName}
 use Rattle.language.specs.Valid.{validValue, validVariable}
 use Rattle.language.specs.Encode.{valueText}
-use Rattle.language.proofs.Logic.Tests.{both}
+use Rattle.language.proofs.Logic.Tests.{both, not-not}
 use Rattle.language.proofs.StateText.Clean.{name-length}
-use Rattle.lines.specs.Cuts.{part}
+use Rattle.text.specs.Parts.{part}
 use Rattle.store.specs.Rows.{Row, Rows, rowText, variableRow}
 use Rattle.store.proofs.Holders.{variable-text}
 use Rattle.records.specs.Sections.{Fails, lightOne, lightAll, Entitled, offElement, opens}
@@ -24,7 +24,7 @@ use Rattle.records.specs.Entering.{Entering, Entered}
 use Rattle.records.proofs.Opening.{byte-here}
 use Rattle.records.proofs.Follow.{stuck, finish}
 use Rattle.records.proofs.Variables.{textOf}
-use Rattle.records.proofs.Marking.{Going, going-start, going-held, going-rows, entering, go-on, again, light, weight-low, ahead}
+use Rattle.records.proofs.Indexing.{Going, going-start, going-held, going-rows, entering, go-on, again, light, weight-low, ahead}
 use Rattle.validate.specs.Shared.{offVariable, goodVariables}
 use Rattle.validate.specs.Listed.{Listed}
 
@@ -45,12 +45,8 @@ module _ (t : Text) (at : ℕ) where
       d : opens 86 (drop at t) ≡ eqb (getD t at 0) 86
       d = ap (λ (b : ℕ). eqb b 86) (sym (byte-here t at (drop at t) refl))
 
-      double : (d : Bool) → not (not d) ≡ d
-      double true = refl
-      double false = refl
-
       go : (b : Bool) → false ≡ not b → eqb (getD t at 0) 86 ≡ not (b && not (opens 86 (drop at t)))
-      go true e = sym (double (opens 86 (drop at t)) ∙ d)
+      go true e = sym (not-not (opens 86 (drop at t)) ∙ d)
       go false e = absurd (subst (λ (b : Bool). T b) (sym e) tt)
 
 -- ---- the loop
@@ -82,21 +78,21 @@ row-text v = variable-text (v .name) (v .value)
 abbrev pub Sharing : Text → ℕ → ℕ → List ℕ → ℕ → ℕ → ℕ → Type 0
 Sharing t at w = Going (λ (v : Variable). v .name) textOf validVariable variableWeight offVariable t at w
 
-pub sharing-start : (t : Text) (at w : ℕ) (marks : List ℕ) → at ≤ length t → Sharing t at w marks at 0 w
+pub sharing-start : (t : Text) (at w : ℕ) (slots : List ℕ) → at ≤ length t → Sharing t at w slots at 0 w
 sharing-start = going-start (λ (v : Variable). v .name) textOf validVariable variableWeight offElement offVariable off-element clear-row row-on
 
--- only the first marks count
-pub remarked : (t : Text) (at w : ℕ) (marks marks' : List ℕ) (i n now : ℕ) → take n marks' ≡ take n marks → Sharing t at w marks i n now → Sharing t at w marks' i n now
-remarked t at w marks marks' i n now e G = record { rows = G .rows; run = G .run; counted = G .counted; marked = e ∙ G .marked; apart = G .apart }
+-- only the first slots count
+pub reindexed : (t : Text) (at w : ℕ) (slots slots' : List ℕ) (i n now : ℕ) → take n slots' ≡ take n slots → Sharing t at w slots i n now → Sharing t at w slots' i n now
+reindexed t at w slots slots' i n now e G = record { rows = G .rows; run = G .run; counted = G .counted; indexed = e ∙ G .indexed; apart = G .apart }
 
-module _ (t : Text) (at w : ℕ) (marks : List ℕ) (i n now : ℕ) (G : Sharing t at w marks i n now) where
+module _ (t : Text) (at w : ℕ) (slots : List ℕ) (i n now : ℕ) (G : Sharing t at w slots i n now) where
   abbrev NoVariables : Type 0
   NoVariables = Fails (joined textOf) (lightAll validVariable goodVariables variableWeight w) offVariable t at
 
   pub sharing-low : w + 2 * n ≤ now
-  sharing-low = weight-low (λ (v : Variable). v .name) textOf validVariable variableWeight offElement offVariable off-element clear-row row-on named two variableRow row-text (λ v. refl) t at w marks i n now G
+  sharing-low = weight-low (λ (v : Variable). v .name) textOf validVariable variableWeight offElement offVariable off-element clear-row row-on named two variableRow row-text (λ v. refl) t at w slots i n now G
 
-  pub variables-good : T (offVariable (drop i t)) → now ≤ 8192 → length t ≤ 65536 → Listed (λ (v : Variable). v .name) textOf validVariable goodVariables variableWeight offVariable t at w marks i n now
+  pub variables-good : T (offVariable (drop i t)) → now ≤ 8192 → length t ≤ 65536 → Listed (λ (v : Variable). v .name) textOf validVariable goodVariables variableWeight offVariable t at w slots i n now
   variables-good o l small = record {
     records = record {
       rows = G .rows;
@@ -105,7 +101,7 @@ module _ (t : Text) (at w : ℕ) (marks : List ℕ) (i n now : ℕ) (G : Sharing
       counted = G .counted;
       ends = o;
     };
-    held = going-held (λ (v : Variable). v .name) textOf validVariable variableWeight offElement offVariable off-element clear-row row-on named two variableRow row-text (λ v. refl) t at w marks i n now G small;
+    held = going-held (λ (v : Variable). v .name) textOf validVariable variableWeight offElement offVariable off-element clear-row row-on named two variableRow row-text (λ v. refl) t at w slots i n now G small;
   }
 
   module _ (on : T (offVariable (drop i t)) → ⊥) where
@@ -121,40 +117,40 @@ module _ (t : Text) (at w : ℕ) (marks : List ℕ) (i n now : ℕ) (G : Sharing
       variable-ahead = ahead t (textOf (E .one .row)) i e (E .one .reads .here) (some-bytes (E .one .row)) (E .one .reads .low) (E .one .reads .high)
 
       pub variable-light : after ≤ 8192
-      variable-light = light (λ (v : Variable). v .name) textOf validVariable variableWeight offElement offVariable off-element clear-row row-on named two variableRow row-text (λ v. refl) t at w marks i n now G m e after E
+      variable-light = light (λ (v : Variable). v .name) textOf validVariable variableWeight offElement offVariable off-element clear-row row-on named two variableRow row-text (λ v. refl) t at w slots i n now G m e after E
 
-      pub variable-entering : length t ≤ 65536 → length marks ≡ 4096 → Entering t at i m n marks
-      variable-entering small l = entering (λ (v : Variable). v .name) textOf validVariable variableWeight offElement offVariable off-element clear-row row-on named two variableRow row-text (λ v. refl) t at w marks i n now G m e after E small (omega arith)
+      pub variable-entering : length t ≤ 65536 → length slots ≡ 4096 → Entering t at i m n slots
+      variable-entering small l = entering (λ (v : Variable). v .name) textOf validVariable variableWeight offElement offVariable off-element clear-row row-on named two variableRow row-text (λ v. refl) t at w slots i n now G m e after E small (omega arith)
 
-      module _ (small : length t ≤ 65536) (marks' : List ℕ) where
-        pub variable-again : ((rows : List Row) → Rows rows (part t at i) n marks → Entered rows (part t (i + 2) m) (i - at) n marks marks' false) → NoVariables
+      module _ (small : length t ≤ 65536) (slots' : List ℕ) where
+        pub variable-again : ((rows : List Row) → Rows rows (part t at i) n slots → Entered rows (part t (i + 2) m) (i - at) n slots slots' false) → NoVariables
         variable-again f =
-            again (λ (v : Variable). v .name) textOf validVariable variableWeight offElement offVariable off-element clear-row row-on named two variableRow row-text (λ v. refl) t at w marks i n now G m e after E on goodVariables (λ l g. g) marks'
-            (f _ (going-rows (λ (v : Variable). v .name) textOf validVariable variableWeight offElement offVariable off-element clear-row row-on named two variableRow row-text (λ v. refl) t at w marks i n now G small))
+            again (λ (v : Variable). v .name) textOf validVariable variableWeight offElement offVariable off-element clear-row row-on named two variableRow row-text (λ v. refl) t at w slots i n now G m e after E on goodVariables (λ l g. g) slots'
+            (f _ (going-rows (λ (v : Variable). v .name) textOf validVariable variableWeight offElement offVariable off-element clear-row row-on named two variableRow row-text (λ v. refl) t at w slots i n now G small))
 
-        pub variable-next : length marks ≡ 4096 → ((rows : List Row) → Rows rows (part t at i) n marks → Entered rows (part t (i + 2) m) (i - at) n marks marks' true) → Sharing t at w marks' e (n + 1) after
+        pub variable-next : length slots ≡ 4096 → ((rows : List Row) → Rows rows (part t at i) n slots → Entered rows (part t (i + 2) m) (i - at) n slots slots' true) → Sharing t at w slots' e (n + 1) after
         variable-next l f =
-            go-on (λ (v : Variable). v .name) textOf validVariable variableWeight offElement offVariable off-element clear-row row-on named two variableRow row-text (λ v. refl) t at w marks i n now G m e after E on (omega arith) marks'
-            (f _ (going-rows (λ (v : Variable). v .name) textOf validVariable variableWeight offElement offVariable off-element clear-row row-on named two variableRow row-text (λ v. refl) t at w marks i n now G small))
+            go-on (λ (v : Variable). v .name) textOf validVariable variableWeight offElement offVariable off-element clear-row row-on named two variableRow row-text (λ v. refl) t at w slots i n now G m e after E on (omega arith) slots'
+            (f _ (going-rows (λ (v : Variable). v .name) textOf validVariable variableWeight offElement offVariable off-element clear-row row-on named two variableRow row-text (λ v. refl) t at w slots i n now G small))
 
--- ---- a part of the marks, lent and given back
+-- ---- a part of the slots, lent and given back
 
 abbrev pub lent : ℕ → List ℕ → List ℕ → List ℕ
-lent n marks back = take n marks ++ (back ++ drop (length marks - n) (drop n marks))
+lent n slots back = take n slots ++ (back ++ drop (length slots - n) (drop n slots))
 
-module _ (n : ℕ) (marks back : List ℕ) (h : n ≤ length marks) where
-  pub lent-front : take n (lent n marks back) ≡ take n marks
-  lent-front = take-at (take n marks) (back ++ drop (length marks - n) (drop n marks)) n (length-take-le n marks h)
+module _ (n : ℕ) (slots back : List ℕ) (h : n ≤ length slots) where
+  pub lent-front : take n (lent n slots back) ≡ take n slots
+  lent-front = take-at (take n slots) (back ++ drop (length slots - n) (drop n slots)) n (length-take-le n slots h)
 
-  pub lent-length : length back ≡ length (take (length marks - n) (drop n marks)) → length (lent n marks back) ≡ length marks
+  pub lent-length : length back ≡ length (take (length slots - n) (drop n slots)) → length (lent n slots back) ≡ length slots
   lent-length e =
-      let r : List ℕ = drop (length marks - n) (drop n marks) in
-      let a : length (take n marks) ≡ n = length-take-le n marks h in
-      let b : length (drop n marks) ≡ length marks - n = length-drop n marks in
-      let k : length (take (length marks - n) (drop n marks)) ≡ length marks - n = length-take-le (length marks - n) (drop n marks) (omega arith) in
-      let z : length r ≡ 0 = length-drop (length marks - n) (drop n marks) ∙ omega arith in
-      let x : length (lent n marks back) ≡ length (take n marks) + (length back + length r) = length-append (take n marks) (back ++ r) ∙ ap (λ (y : ℕ). length (take n marks) + y) (length-append back r) in
+      let r : List ℕ = drop (length slots - n) (drop n slots) in
+      let a : length (take n slots) ≡ n = length-take-le n slots h in
+      let b : length (drop n slots) ≡ length slots - n = length-drop n slots in
+      let k : length (take (length slots - n) (drop n slots)) ≡ length slots - n = length-take-le (length slots - n) (drop n slots) (omega arith) in
+      let z : length r ≡ 0 = length-drop (length slots - n) (drop n slots) ∙ omega arith in
+      let x : length (lent n slots back) ≡ length (take n slots) + (length back + length r) = length-append (take n slots) (back ++ r) ∙ ap (λ (y : ℕ). length (take n slots) + y) (length-append back r) in
       omega arith
 
-  pub free-length : length (take (length marks - n) (drop n marks)) ≡ length marks - n
-  free-length = length-take-le (length marks - n) (drop n marks) (omega (arith, length-drop n marks))
+  pub free-length : length (take (length slots - n) (drop n slots)) ≡ length slots - n
+  free-length = length-take-le (length slots - n) (drop n slots) (omega (arith, length-drop n slots))

@@ -3,7 +3,7 @@
 use mathlib.Core.Path.{_≡_, sym, ap, subst, _∙_}
 use Prim.Native.Nat.{ℕ, suc, zero, _+_, _-_, _≤_}
 use native.Mathlib.Omega.{arith}
-use mathlib.Core.List.{List, [], _∷_, _++_, append-assoc}
+use mathlib.Core.List.{List, [], _∷_, _++_}
 use lib.Dec.{T, leb, leb→le, le→leb}
 use lib.ListN.{length, drop, replicate, length-append}
 use Rattle.language.specs.Text.{Text, all, joined, sum, member, distinct, present}
@@ -18,23 +18,21 @@ use Rattle.language.proofs.StateText.Shape.{Shape, shape, formed}
 use Rattle.language.proofs.StateText.Names.{principalNames, variableNames, is-named, named-is, is-valued, valued-is}
 use Rattle.records.specs.Sections.{Reads, Fails, lightAll, anyText}
 use Rattle.records.proofs.Variables.{textOf}
-use Rattle.validate.specs.People.{personText, offPerson, goodPeople}
+use Rattle.validate.specs.Principals.{principalLine, offPrincipal, goodPrincipals}
 use Rattle.validate.specs.Shared.{offVariable, goodVariables}
-use Rattle.validate.specs.Edges.{Top, topText, fineTop, total}
-use Rattle.validate.specs.Claims.{knownNames, offClaim, goodClaims}
-use Rattle.validate.proofs.Limits.{zero-bytes, bytes-zero}
-
-five : (a b c d e f : Text) → ((((a ++ b) ++ c) ++ d) ++ e) ++ f ≡ a ++ (b ++ (c ++ (d ++ (e ++ f))))
-five a b c d e f = simp append-assoc
+use Rattle.frame.specs.Edges.{Top, topText, fineTop, total}
+use Rattle.assertion_lines.specs.Assertions.{knownNames, offAssertion, goodAssertions}
+use Rattle.frame.proofs.Limits.{zero-bytes, bytes-zero}
+use Rattle.language.proofs.Logic.Lists.{six-joined}
 
 -- what may follow: an assertion begins with A, a variable with V, and the bytes after the text are 0
-zeros-off : (n : ℕ) → T (offVariable (replicate n 0)) × T (offClaim (replicate n 0))
+zeros-off : (n : ℕ) → T (offVariable (replicate n 0)) × T (offAssertion (replicate n 0))
 zeros-off zero = (tt, tt)
 zeros-off (suc n) = (tt, tt)
 
-claims-off : (l : List Assertion) (n : ℕ) → T (offVariable (assertionsText l ++ replicate n 0))
-claims-off [] n = zeros-off n .0
-claims-off (a ∷ l) n = tt
+assertions-off : (l : List Assertion) (n : ℕ) → T (offVariable (assertionsText l ++ replicate n 0))
+assertions-off [] n = zeros-off n .0
+assertions-off (a ∷ l) n = tt
 
 module _ (t : Text) (s : State) (H : Holds t s) where
   abbrev store : Store
@@ -52,10 +50,7 @@ module _ (t : Text) (s : State) (H : Holds t s) where
   pub from-head : drop 0 t ≡ headText (store .isOpen) (s .count) ++ (principalsText (store .principals) ++ (delegatorText (store .delegator) ++ (variablesText (store .variables) ++ (assertionsText (store .assertions) ++ zeros))))
   from-head =
       H .is-text
-      ∙ five (headText (store .isOpen) (s .count)) (principalsText (store .principals)) (delegatorText (store .delegator)) (variablesText (store .variables)) (assertionsText (store .assertions)) zeros
-
-  top : Top
-  top = record { isOpen = store .isOpen; count = s .count }
+      ∙ six-joined (headText (store .isOpen) (s .count)) (principalsText (store .principals)) (delegatorText (store .delegator)) (variablesText (store .variables)) (assertionsText (store .assertions)) zeros
 
   top-fine : T (fineTop (record { isOpen = store .isOpen; count = s .count }))
   top-fine = le→leb (s .count) 4294967295 (checked .0)
@@ -63,10 +58,10 @@ module _ (t : Text) (s : State) (H : Holds t s) where
   pub no-head : Fails topText fineTop anyText t 0 → ⊥
   no-head never = never (record { isOpen = store .isOpen; count = s .count }) _ top-fine tt from-head
 
-  people-fine : T (lightAll validPrincipal goodPeople principalWeight 0 (store .principals))
-  people-fine =
+  principals-fine : T (lightAll validPrincipal goodPrincipals principalWeight 0 (store .principals))
+  principals-fine =
       let (c, g, w) = checked in
-      and-three (all validPrincipal (store .principals)) (goodPeople (store .principals)) (leb (0 + sum principalWeight (store .principals)) 8192) (g .principals-valid)
+      and-three (all validPrincipal (store .principals)) (goodPrincipals (store .principals)) (leb (0 + sum principalWeight (store .principals)) 8192) (g .principals-valid)
       (and (validOrder (store .principals)) (distinct (principalNames (store .principals))) (g .order) (g .principals-distinct))
       (le→leb (0 + sum principalWeight (store .principals)) 8192 (omega arith))
 
@@ -75,45 +70,45 @@ module _ (t : Text) (s : State) (H : Holds t s) where
     pub same-head : (record { isOpen = store .isOpen; count = s .count } ≡ h) × (principalsText (store .principals) ++ (delegatorText (store .delegator) ++ (variablesText (store .variables) ++ (assertionsText (store .assertions) ++ zeros))) ≡ drop e₁ t)
     same-head = R₁ .only (record { isOpen = store .isOpen; count = s .count }) _ top-fine tt from-head
 
-    pub no-people : Fails (joined personText) (lightAll validPrincipal goodPeople principalWeight 0) offPerson t e₁ → ⊥
-    no-people never = never (store .principals) _ people-fine tt (sym (same-head .1))
+    pub no-principals : Fails (joined principalLine) (lightAll validPrincipal goodPrincipals principalWeight 0) offPrincipal t e₁ → ⊥
+    no-principals never = never (store .principals) _ principals-fine tt (sym (same-head .1))
 
-    module _ (ks : List Principal) (e₂ : ℕ) (R₂ : Reads (joined personText) (lightAll validPrincipal goodPeople principalWeight 0) offPerson t e₁ ks e₂) where
-      pub same-people : (store .principals ≡ ks) × (delegatorText (store .delegator) ++ (variablesText (store .variables) ++ (assertionsText (store .assertions) ++ zeros)) ≡ drop e₂ t)
-      same-people = R₂ .only (store .principals) _ people-fine tt (sym (same-head .1))
+    module _ (ks : List Principal) (e₂ : ℕ) (R₂ : Reads (joined principalLine) (lightAll validPrincipal goodPrincipals principalWeight 0) offPrincipal t e₁ ks e₂) where
+      pub same-principals : (store .principals ≡ ks) × (delegatorText (store .delegator) ++ (variablesText (store .variables) ++ (assertionsText (store .assertions) ++ zeros)) ≡ drop e₂ t)
+      same-principals = R₂ .only (store .principals) _ principals-fine tt (sym (same-head .1))
 
       known : T (member (store .delegator) (principalNames ks))
-      known = subst (λ (l : List Principal). T (member (store .delegator) (principalNames l))) (same-people .0) (named-is (store .delegator) (store .principals) (checked .1 .delegator-known))
+      known = subst (λ (l : List Principal). T (member (store .delegator) (principalNames l))) (same-principals .0) (named-is (store .delegator) (store .principals) (checked .1 .delegator-known))
 
       pub no-delegator : Fails delegatorText (λ x. member x (principalNames ks)) anyText t e₂ → ⊥
-      no-delegator never = never (store .delegator) _ known tt (sym (same-people .1))
+      no-delegator never = never (store .delegator) _ known tt (sym (same-principals .1))
 
       module _ (d : Name) (e₃ : ℕ) (R₃ : Reads delegatorText (λ x. member x (principalNames ks)) anyText t e₂ d e₃) where
         pub same-delegator : (store .delegator ≡ d) × (variablesText (store .variables) ++ (assertionsText (store .assertions) ++ zeros) ≡ drop e₃ t)
-        same-delegator = R₃ .only (store .delegator) _ known tt (sym (same-people .1))
+        same-delegator = R₃ .only (store .delegator) _ known tt (sym (same-principals .1))
 
         module _ (w₁ : ℕ) (is₁ : w₁ ≡ 0 + sum principalWeight ks) where
           variables-fine : T (lightAll validVariable goodVariables variableWeight w₁ (store .variables))
           variables-fine =
               let (c, g, w) = checked in
-              let same : sum principalWeight (store .principals) ≡ sum principalWeight ks = ap (sum principalWeight) (same-people .0) in
+              let same : sum principalWeight (store .principals) ≡ sum principalWeight ks = ap (sum principalWeight) (same-principals .0) in
               and-three (all validVariable (store .variables)) (goodVariables (store .variables)) (leb (w₁ + sum variableWeight (store .variables)) 8192) (g .variables-valid) (g .variables-distinct)
               (le→leb (w₁ + sum variableWeight (store .variables)) 8192 (omega arith))
 
           pub no-variables : Fails (joined textOf) (lightAll validVariable goodVariables variableWeight w₁) offVariable t e₃ → ⊥
-          no-variables never = never (store .variables) _ variables-fine (claims-off (store .assertions) (bufferSize - length (stateText s))) (sym (same-delegator .1))
+          no-variables never = never (store .variables) _ variables-fine (assertions-off (store .assertions) (bufferSize - length (stateText s))) (sym (same-delegator .1))
 
           module _ (vs : List Variable) (e₄ : ℕ) (R₄ : Reads (joined textOf) (lightAll validVariable goodVariables variableWeight w₁) offVariable t e₃ vs e₄) where
             pub same-variables : (store .variables ≡ vs) × (assertionsText (store .assertions) ++ zeros ≡ drop e₄ t)
-            same-variables = R₄ .only (store .variables) _ variables-fine (claims-off (store .assertions) (bufferSize - length (stateText s))) (sym (same-delegator .1))
+            same-variables = R₄ .only (store .variables) _ variables-fine (assertions-off (store .assertions) (bufferSize - length (stateText s))) (sym (same-delegator .1))
 
             module _ (w₂ : ℕ) (is₂ : w₂ ≡ w₁ + sum variableWeight vs) where
-              claims-fine : T (lightAll (knownNames (principalNames ks) (variableNames vs)) goodClaims assertionWeight w₂ (store .assertions))
-              claims-fine =
+              assertions-fine : T (lightAll (knownNames (principalNames ks) (variableNames vs)) goodAssertions assertionWeight w₂ (store .assertions))
+              assertions-fine =
                   let (c, g, w) = checked in
-                  let p : sum principalWeight (store .principals) ≡ sum principalWeight ks = ap (sum principalWeight) (same-people .0) in
+                  let p : sum principalWeight (store .principals) ≡ sum principalWeight ks = ap (sum principalWeight) (same-principals .0) in
                   let v : sum variableWeight (store .variables) ≡ sum variableWeight vs = ap (sum variableWeight) (same-variables .0) in
-                  and-three (all (knownNames (principalNames ks) (variableNames vs)) (store .assertions)) (goodClaims (store .assertions)) (leb (w₂ + sum assertionWeight (store .assertions)) 8192)
+                  and-three (all (knownNames (principalNames ks) (variableNames vs)) (store .assertions)) (goodAssertions (store .assertions)) (leb (w₂ + sum assertionWeight (store .assertions)) 8192)
                   (all-map (validAssertion (s .store)) (knownNames (principalNames ks) (variableNames vs)) one (store .assertions) (g .assertions-valid)) (g .assertions-unrepeated)
                   (le→leb (w₂ + sum assertionWeight (store .assertions)) 8192 (omega arith))
                 where
@@ -122,19 +117,19 @@ module _ (t : Text) (s : State) (H : Holds t s) where
                       let (x, q, p) = three (present (valueIn (store .variables) (a .variable))) (present (named (store .principals) (a .from))) (present (named (store .principals) (a .to))) h in
                       and-three (member (a .variable) (variableNames vs)) (member (a .from) (principalNames ks)) (member (a .to) (principalNames ks))
                       (subst (λ (l : List Variable). T (member (a .variable) (variableNames l))) (same-variables .0) (valued-is (a .variable) (store .variables) x))
-                      (subst (λ (l : List Principal). T (member (a .from) (principalNames l))) (same-people .0) (named-is (a .from) (store .principals) q))
-                      (subst (λ (l : List Principal). T (member (a .to) (principalNames l))) (same-people .0) (named-is (a .to) (store .principals) p))
+                      (subst (λ (l : List Principal). T (member (a .from) (principalNames l))) (same-principals .0) (named-is (a .from) (store .principals) q))
+                      (subst (λ (l : List Principal). T (member (a .to) (principalNames l))) (same-principals .0) (named-is (a .to) (store .principals) p))
 
-              pub no-claims : Fails (joined assertionText) (lightAll (knownNames (principalNames ks) (variableNames vs)) goodClaims assertionWeight w₂) offClaim t e₄ → ⊥
-              no-claims never = never (store .assertions) _ claims-fine (zeros-off (bufferSize - length (stateText s)) .1) (sym (same-variables .1))
+              pub no-assertions : Fails (joined assertionText) (lightAll (knownNames (principalNames ks) (variableNames vs)) goodAssertions assertionWeight w₂) offAssertion t e₄ → ⊥
+              no-assertions never = never (store .assertions) _ assertions-fine (zeros-off (bufferSize - length (stateText s)) .1) (sym (same-variables .1))
 
-              module _ (l : List Assertion) (e₅ : ℕ) (R₅ : Reads (joined assertionText) (lightAll (knownNames (principalNames ks) (variableNames vs)) goodClaims assertionWeight w₂) offClaim t e₄ l e₅) where
-                same-claims : (store .assertions ≡ l) × (zeros ≡ drop e₅ t)
-                same-claims = R₅ .only (store .assertions) _ claims-fine (zeros-off (bufferSize - length (stateText s)) .1) (sym (same-variables .1))
+              module _ (l : List Assertion) (e₅ : ℕ) (R₅ : Reads (joined assertionText) (lightAll (knownNames (principalNames ks) (variableNames vs)) goodAssertions assertionWeight w₂) offAssertion t e₄ l e₅) where
+                same-assertions : (store .assertions ≡ l) × (zeros ≡ drop e₅ t)
+                same-assertions = R₅ .only (store .assertions) _ assertions-fine (zeros-off (bufferSize - length (stateText s)) .1) (sym (same-variables .1))
 
                 -- the bytes behind are 0
                 pub behind-zero : total (drop e₅ t) ≡ 0
-                behind-zero = ap total (sym (same-claims .1)) ∙ bytes-zero (bufferSize - length (stateText s))
+                behind-zero = ap total (sym (same-assertions .1)) ∙ bytes-zero (bufferSize - length (stateText s))
 
 -- ---- and back
 
@@ -145,12 +140,12 @@ stateOf h ks d vs l = record { count = h .count; store = record { isOpen = h .is
 module _ (t : Text) (size : length t ≡ 65536)
     (h : Top) (ks : List Principal) (d : Name) (vs : List Variable) (l : List Assertion) (e₁ e₂ e₃ e₄ e₅ w₁ w₂ : ℕ)
     (R₁ : Reads topText fineTop anyText t 0 h e₁)
-    (R₂ : Reads (joined personText) (lightAll validPrincipal goodPeople principalWeight 0) offPerson t e₁ ks e₂)
+    (R₂ : Reads (joined principalLine) (lightAll validPrincipal goodPrincipals principalWeight 0) offPrincipal t e₁ ks e₂)
     (R₃ : Reads delegatorText (λ x. member x (principalNames ks)) anyText t e₂ d e₃)
     (is₁ : w₁ ≡ 0 + sum principalWeight ks)
     (R₄ : Reads (joined textOf) (lightAll validVariable goodVariables variableWeight w₁) offVariable t e₃ vs e₄)
     (is₂ : w₂ ≡ w₁ + sum variableWeight vs)
-    (R₅ : Reads (joined assertionText) (lightAll (knownNames (principalNames ks) (variableNames vs)) goodClaims assertionWeight w₂) offClaim t e₄ l e₅)
+    (R₅ : Reads (joined assertionText) (lightAll (knownNames (principalNames ks) (variableNames vs)) goodAssertions assertionWeight w₂) offAssertion t e₄ l e₅)
     (zero-behind : total (drop e₅ t) ≡ 0) where
   pub whole-text : t ≡ padded (stateText (stateOf h ks d vs l))
   whole-text =
@@ -158,17 +153,17 @@ module _ (t : Text) (size : length t ≡ 65536)
       let z : drop e₅ t ≡ replicate (length (drop e₅ t)) 0 = zero-bytes (drop e₅ t) zero-behind in
       let parts : t ≡ stateText (stateOf h ks d vs l) ++ drop e₅ t =
       R₁ .here ∙ ap (λ (x : Text). a ++ x) (R₂ .here ∙ ap (λ (x : Text). principalsText ks ++ x) (R₃ .here ∙ ap (λ (x : Text). delegatorText d ++ x) (R₄ .here ∙ ap (λ (x : Text). variablesText vs ++ x) (R₅ .here))))
-      ∙ sym (five a (principalsText ks) (delegatorText d) (variablesText vs) (assertionsText l) (drop e₅ t)) in
+      ∙ sym (six-joined a (principalsText ks) (delegatorText d) (variablesText vs) (assertionsText l) (drop e₅ t)) in
       let n : length t ≡ length (stateText (stateOf h ks d vs l)) + length (drop e₅ t) = ap length parts ∙ length-append (stateText (stateOf h ks d vs l)) (drop e₅ t) in
       let m : length (drop e₅ t) ≡ 65536 - length (stateText (stateOf h ks d vs l)) = omega arith in
       parts ∙ ap (λ (x : Text). stateText (stateOf h ks d vs l) ++ x) (z ∙ ap (λ (k : ℕ). replicate k 0) m)
 
   whole-shape : Shape (stateOf h ks d vs l .store)
   whole-shape =
-      let (a, g, w) = three (all validPrincipal ks) (goodPeople ks) (leb (0 + sum principalWeight ks) 8192) (R₂ .is-fine) in
+      let (a, g, w) = three (all validPrincipal ks) (goodPrincipals ks) (leb (0 + sum principalWeight ks) 8192) (R₂ .is-fine) in
       let (o, x) = both (validOrder ks) (distinct (principalNames ks)) g in
       let (b, y, v) = three (all validVariable vs) (goodVariables vs) (leb (w₁ + sum variableWeight vs) 8192) (R₄ .is-fine) in
-      let (c, z, u) = three (all (knownNames (principalNames ks) (variableNames vs)) l) (goodClaims l) (leb (w₂ + sum assertionWeight l) 8192) (R₅ .is-fine) in
+      let (c, z, u) = three (all (knownNames (principalNames ks) (variableNames vs)) l) (goodAssertions l) (leb (w₂ + sum assertionWeight l) 8192) (R₅ .is-fine) in
       record {
         order = o;
         principals-valid = a;
@@ -187,7 +182,7 @@ module _ (t : Text) (size : length t ≡ 65536)
 
   pub whole-holds : Holds t (stateOf h ks d vs l)
   whole-holds =
-      let (c, z, u) = three (all (knownNames (principalNames ks) (variableNames vs)) l) (goodClaims l) (leb (w₂ + sum assertionWeight l) 8192) (R₅ .is-fine) in
+      let (c, z, u) = three (all (knownNames (principalNames ks) (variableNames vs)) l) (goodAssertions l) (leb (w₂ + sum assertionWeight l) 8192) (R₅ .is-fine) in
       let w : w₂ + sum assertionWeight l ≤ 8192 = leb→le (w₂ + sum assertionWeight l) 8192 u in
       let k : storeWeight (stateOf h ks d vs l .store) ≤ 8192 = omega arith in
       record {

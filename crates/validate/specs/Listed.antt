@@ -1,4 +1,4 @@
--- Records with different names that stand one after the other, and their marks.
+-- Records with different names that stand one after the other, and their slots.
 use mathlib.Core.Bool.{Bool}
 use mathlib.Core.List.{List}
 use Prim.Native.Nat.{ℕ}
@@ -7,13 +7,13 @@ use Rattle.language.specs.Syntax.{Name}
 use Rattle.records.specs.Sections.{Records, Fails, lightAll}
 use Rattle.records.specs.declared.Section.{Section}
 use Rattle.records.specs.declared.Section.the-variants.{Good, Bad}
-use Rattle.lines.specs.Cuts.{part}
+use Rattle.text.specs.Parts.{part}
 use Rattle.store.specs.Held.{Held}
 
-pub record Listed {A : Type 0} (name : A → Name) (text : A → Text) (fine : A → Bool) (good : List A → Bool) (weight : A → ℕ) (off : Text → Bool) (t : Text) (at w : ℕ) (marks : List ℕ) (e n after : ℕ) : Type 0 where
+pub record Listed {A : Type 0} (name : A → Name) (text : A → Text) (fine : A → Bool) (good : List A → Bool) (weight : A → ℕ) (off : Text → Bool) (t : Text) (at w : ℕ) (slots : List ℕ) (e n after : ℕ) : Type 0 where
   pub records : Records text fine good weight off t at w e n after
-  pub held : Held name text (records .rows) (part t at e) n marks
+  pub held : Held name text (records .rows) (part t at e) n slots
 
 abbrev pub ListedMeant : {A : Type 0} → (A → Name) → (A → Text) → (A → Bool) → (List A → Bool) → (A → ℕ) → (Text → Bool) → Text → ℕ → ℕ → List ℕ → Section → Type 0
-ListedMeant name text fine good weight off t at w marks (Good e n after) = Listed name text fine good weight off t at w marks e n after
-ListedMeant name text fine good weight off t at w marks Bad = Fails (joined text) (lightAll fine good weight w) off t at
+ListedMeant name text fine good weight off t at w slots (Good e n after) = Listed name text fine good weight off t at w slots e n after
+ListedMeant name text fine good weight off t at w slots Bad = Fails (joined text) (lightAll fine good weight w) off t at

@@ -1,14 +1,11 @@
 // Whether a buffer is the text of a valid state, where its parts stand, and the tables that a run needs. Document 01, "State text".
-pub mod claim; // the assertions
-pub mod edge; // the first line, and the bytes after the last
-pub mod known; // the default delegator, and names that refer to records
-pub mod people; // the principals
-pub mod shared; // the variables
+mod principal_lines; // the principals
+mod shared; // the variables
 
-use claim::Roll;
-use edge::Head;
-use known::Known;
+use assertion_lines::Roll;
+use frame::Head;
 use records::Section;
+use references::Known;
 ghost use mathlib.Core.Path.{_≡_};
 ghost use lib.ListN.{length};
 ghost use Rattle.validate.specs.Checked.{CheckedMeant};
@@ -18,9 +15,9 @@ ghost use Rattle.validate.specs.Checked.{CheckedMeant};
 pub struct Parts {
     pub open: bool,
     pub count: u64,
-    pub people_from: usize,
-    pub people_to: usize,
-    pub people: usize,
+    pub principals_from: usize,
+    pub principals_to: usize,
+    pub principals: usize,
     pub delegator: usize,
     pub vars_from: usize,
     pub vars_to: usize,
@@ -35,20 +32,25 @@ pub enum Checked {
     Good(Parts),
 }
 
-// The tables are written: the marks of the principals and of the variables, and the assertions that stand, as numbers.
-pub fn check(state: &[u8], people: &mut [u32], vars: &mut [u32], standing: &mut [u64]) -> Checked
-    requires { ⌜ (length (now state) ≡ 65536) × (length (now people) ≡ 4096) × (length (now vars) ≡ 4096) × (length (now standing) ≡ 2048) ⌝ }
-    ensures { λ r. ⌜ CheckedMeant (now (state .entry)) (now (people .exit)) (now (vars .exit)) (now (standing .exit)) r ⌝ }
+// The tables are written: the slots of the principals and of the variables, and the assertions that stand, as numbers.
+pub fn check(
+    state: &[u8],
+    principals: &mut [u32],
+    vars: &mut [u32],
+    assertions: &mut [u64],
+) -> Checked
+    requires { ⌜ (length (now state) ≡ 65536) × (length (now principals) ≡ 4096) × (length (now vars) ≡ 4096) × (length (now assertions) ≡ 2048) ⌝ }
+    ensures { λ r. ⌜ CheckedMeant (now (state .entry)) (now (principals .exit)) (now (vars .exit)) (now (assertions .exit)) r ⌝ }
 {
-    let head = edge::head_at(state);
-    let Head::At(open, count, people_from) = head else {
+    let head = frame::head_at(state);
+    let Head::At(open, count, principals_from) = head else {
         return Checked::Bad;
     };
-    let persons = people::principals(state, people_from, people);
-    let Section::Good(people_to, n, w) = persons else {
+    let roster = principal_lines::principals(state, principals_from, principals);
+    let Section::Good(principals_to, n, w) = roster else {
         return Checked::Bad;
     };
-    let line = known::delegator_at(state, people_to, people_from, people, n);
+    let line = references::delegator_at(state, principals_to, principals_from, principals, n);
     let Known::At(delegator, vars_from) = line else {
         return Checked::Bad;
     };
@@ -57,26 +59,26 @@ pub fn check(state: &[u8], people: &mut [u32], vars: &mut [u32], standing: &mut 
         return Checked::Bad;
     };
     let roll = Roll {
-        people_from,
-        people_to,
-        people: n,
+        principals_from,
+        principals_to,
+        principals: n,
         vars_from,
         vars_to,
         vars: m,
     };
-    let claims = claim::assertions(state, vars_to, v, roll, people, vars, standing);
-    let Section::Good(end, asserted, weight) = claims else {
+    let listed = assertion_lines::assertions(state, vars_to, v, roll, principals, vars, assertions);
+    let Section::Good(end, asserted, weight) = listed else {
         return Checked::Bad;
     };
-    if !edge::zeros_from(state, end) {
+    if !frame::zeros_from(state, end) {
         return Checked::Bad;
     }
     Checked::Good(Parts {
         open,
         count,
-        people_from,
-        people_to,
-        people: n,
+        principals_from,
+        principals_to,
+        principals: n,
         delegator,
         vars_from,
         vars_to,

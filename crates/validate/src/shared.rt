@@ -24,10 +24,10 @@ fn goes_on(text: &[u8], at: usize) -> bool
     first == 86
 }
 
-// The variables, all names different. The marks from the n-th on are free for the labels of the n-th variable's records.
-pub fn variables(text: &[u8], at: usize, w: usize, marks: &mut [u32]) -> Section
-    requires { ⌜ (at ≤ length (now text)) × (length (now text) ≤ 65536) × (length (now marks) ≡ 4096) × (w ≤ 8192) ⌝ }
-    ensures { λ r. ⌜ VariablesMeant (now (text .entry)) at w (now (marks .exit)) r ⌝ }
+// The variables, all names different. The slots from the n-th on are free for the labels of the n-th variable's records.
+pub fn variables(text: &[u8], at: usize, w: usize, slots: &mut [u32]) -> Section
+    requires { ⌜ (at ≤ length (now text)) × (length (now text) ≤ 65536) × (length (now slots) ≡ 4096) × (w ≤ 8192) ⌝ }
+    ensures { λ r. ⌜ VariablesMeant (now (text .entry)) at w (now (slots .exit)) r ⌝ }
 {
     let mut i = at;
     let mut n = 0;
@@ -36,11 +36,11 @@ pub fn variables(text: &[u8], at: usize, w: usize, marks: &mut [u32]) -> Section
         if lines::byte_at(text, i) != 86 {
             return Section::Bad;
         }
-        let line = records::variable_at(text, i, now, &mut marks[n..]);
+        let line = records::variable_at(text, i, now, &mut slots[n..]);
         let Entry::Good(m, e, after) = line else {
             return Section::Bad;
         };
-        if !records::enter(text, at, i, m, marks, n) {
+        if !records::enter(text, at, i, m, slots, n) {
             return Section::Bad;
         }
         n += 1;

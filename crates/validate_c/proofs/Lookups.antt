@@ -11,11 +11,11 @@ use lib.ListN.{length, getD, length-map, List·getD-map}
 use Rattle.language.specs.Text.{Text, if_then_else_}
 use Rattle.language.specs.Syntax.{Name}
 use Rattle.language.specs.State.{Principal, Variable}
-use Rattle.store.specs.Held.{part}
+use Rattle.text.specs.Parts.{part}
 use Rattle.store.specs.Rows.{Row, Rows, noRow, rowNames, position, place, principalRow, variableRow, Placed}
 use Rattle.store.specs.Contents.{principalAt, variableAt, PasswordAt, ValueAt}
-use Rattle.store.specs.declared.mark.Found.the-variants.{At, Missing}
-use Rattle.store.specs.declared.mark.Place.{Place}
+use Rattle.store.specs.declared.index.Found.the-variants.{At, Missing}
+use Rattle.store.specs.declared.index.Place.{Place}
 use Rattle.store.specs.declared.content.Password.the-variants.{Kept, Absent}
 use Rattle.store.proofs.Records.{name-part}
 use Rattle.store.proofs.Answers.{FoundPrincipal, principal-found, principal-missing, answered, value-at, variable-names, variable-missing}
@@ -63,9 +63,9 @@ module _ (rows : List Row) (n : ℕ) where
   pub name-gone : length rows ≤ n → nameOf (rowNames rows) n ≡ missing
   name-gone h = ap (λ (b : Bool). if b then found n (getD (rowNames rows) n []) else missing) (le-ltb n (length (rowNames rows)) (omega (arith, count-names)))
 
-  pub name-here : (t : Text) (count : ℕ) (marks : List ℕ) → Rows rows t count marks → n < count → (p : Place) → Placed rows n p
+  pub name-here : (t : Text) (count : ℕ) (slots : List ℕ) → Rows rows t count slots → n < count → (p : Place) → Placed rows n p
       → nameOf (rowNames rows) n ≡ found n (part t (p .start + 2) (p .mid))
-  name-here t count marks H h p P =
+  name-here t count slots H h p P =
       ap (λ (b : Bool). if b then found n (getD (rowNames rows) n []) else missing) (lt-ltb n (length (rowNames rows)) (omega (arith, count-names, H .counted)))
-      ∙ ap (found n) (List·getD-map (λ (r : Row). r .name) rows n noRow ∙ sym (name-part rows t count marks H n h (p .mid) (P .name-ends)))
+      ∙ ap (found n) (List·getD-map (λ (r : Row). r .name) rows n noRow ∙ sym (name-part rows t count slots H n h (p .mid) (P .name-ends)))
       ∙ ap (λ (m : ℕ). found n (part t (m + 2) (p .mid))) (sym (P .starts))

@@ -11,11 +11,11 @@ use lib.Seq.{length-take-le}
 use Rattle.language.specs.Text.{Text}
 use Rattle.language.specs.State.{State}
 use Rattle.language.specs.Decode.{decode}
-use Rattle.lines.specs.Cuts.{part}
+use Rattle.text.specs.Parts.{part}
 use Rattle.store.specs.Rows.{Rows, principalRow, variableRow}
-use Rattle.store.proofs.Records.{marks-long}
+use Rattle.store.proofs.Records.{slots-long}
 use Rattle.store.proofs.Holders.{principals-rows, variables-rows}
-use Rattle.numbers.specs.Numbers.{people, variables, numbered}
+use Rattle.named_rights.specs.Numbers.{principalsOf, variables, numbered}
 use Rattle.validate.specs.Checked.{Represents}
 use Rattle.validate.specs.declared.Parts.{Parts}
 use Rattle.validate_c.specs.Reported.{Look, figures, flag, Says, Answers, Reported, bad, refused}
@@ -39,23 +39,23 @@ module _ (room : ℕ) (look : State → Look) (t : Text) (old : List ℕ) where
     formed s {new} {r} e h = answered (subst (λ (o : Option State). Answers look o old new r) (sym e) h)
 
 -- the figures of a state, by its parts
-pub figures-are : (t : Text) (marks-p marks-v standing : List ℕ) (p : Parts) (s : State) → Represents t marks-p marks-v standing p s
-    → figures s ≡ tally p ++ take (p .asserted) standing
-figures-are t marks-p marks-v standing p s R =
+pub figures-are : (t : Text) (slots-p slots-v assertions : List ℕ) (p : Parts) (s : State) → Represents t slots-p slots-v assertions p s
+    → figures s ≡ tally p ++ take (p .asserted) assertions
+figures-are t slots-p slots-v assertions p s R =
     let n : p .asserted ≡ length (s .store .assertions) =
-    sym (length-take-le (p .asserted) standing (R .assertions .within)) ∙ ap length (R .assertions .are) ∙ length-map (s .store .assertions) (numbered (people (s .store)) (variables (s .store))) in
+    sym (length-take-le (p .asserted) assertions (R .assertions .within)) ∙ ap length (R .assertions .are) ∙ length-map (s .store .assertions) (numbered (principalsOf (s .store)) (variables (s .store))) in
     sym (λ i. flag (R .is-open i) ∷ R .counted i ∷ R .weighed i ∷ R .principals .counted i ∷ R .delegator i ∷ R .variables .counted i ∷ n i ∷ R .assertions .are i)
 
--- the records are as few as their marks
-module _ (t : Text) (marks-p marks-v standing : List ℕ) (p : Parts) (s : State) (R : Represents t marks-p marks-v standing p s) where
-  abbrev pub principal-rows : Rows (map principalRow (s .store .principals)) (part t (p .«people_from») (p .«people_to»)) (p .people) marks-p
-  principal-rows = principals-rows (s .store .principals) (part t (p .«people_from») (p .«people_to»)) (p .people) marks-p (R .principals)
+-- the records are as few as their slots
+module _ (t : Text) (slots-p slots-v assertions : List ℕ) (p : Parts) (s : State) (R : Represents t slots-p slots-v assertions p s) where
+  abbrev pub principal-rows : Rows (map principalRow (s .store .principals)) (part t (p .«principals_from») (p .«principals_to»)) (p .principals) slots-p
+  principal-rows = principals-rows (s .store .principals) (part t (p .«principals_from») (p .«principals_to»)) (p .principals) slots-p (R .principals)
 
-  abbrev pub variable-rows : Rows (map variableRow (s .store .variables)) (part t (p .«vars_from») (p .«vars_to»)) (p .vars) marks-v
-  variable-rows = variables-rows (s .store .variables) (part t (p .«vars_from») (p .«vars_to»)) (p .vars) marks-v (R .variables)
+  abbrev pub variable-rows : Rows (map variableRow (s .store .variables)) (part t (p .«vars_from») (p .«vars_to»)) (p .vars) slots-v
+  variable-rows = variables-rows (s .store .variables) (part t (p .«vars_from») (p .«vars_to»)) (p .vars) slots-v (R .variables)
 
-  pub few-principals : length marks-p ≡ 4096 → p .people ≤ 4096
-  few-principals e = omega (arith, marks-long (map principalRow (s .store .principals)) (part t (p .«people_from») (p .«people_to»)) (p .people) marks-p principal-rows)
+  pub few-principals : length slots-p ≡ 4096 → p .principals ≤ 4096
+  few-principals e = omega (arith, slots-long (map principalRow (s .store .principals)) (part t (p .«principals_from») (p .«principals_to»)) (p .principals) slots-p principal-rows)
 
-  pub few-variables : length marks-v ≡ 4096 → p .vars ≤ 4096
-  few-variables e = omega (arith, marks-long (map variableRow (s .store .variables)) (part t (p .«vars_from») (p .«vars_to»)) (p .vars) marks-v variable-rows)
+  pub few-variables : length slots-v ≡ 4096 → p .vars ≤ 4096
+  few-variables e = omega (arith, slots-long (map variableRow (s .store .variables)) (part t (p .«vars_from») (p .«vars_to»)) (p .vars) slots-v variable-rows)

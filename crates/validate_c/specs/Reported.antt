@@ -15,7 +15,7 @@ use Rattle.language.specs.Encode.{valueText}
 use Rattle.language.specs.Decode.{decode}
 use Rattle.store.specs.Held.{Principals, Variables}
 use Rattle.store.specs.Rows.{position}
-use Rattle.numbers.specs.Numbers.{people, variables, numbered}
+use Rattle.named_rights.specs.Numbers.{principalsOf, variables, numbered}
 
 -- ---- answers
 
@@ -90,16 +90,16 @@ flag b = if b then 1 else 0
 abbrev pub figures : State → List ℕ
 figures s =
     flag (s .store .isOpen) ∷ s .count ∷ storeWeight (s .store)
-    ∷ length (s .store .principals) ∷ position (people (s .store)) (s .store .delegator)
+    ∷ length (s .store .principals) ∷ position (principalsOf (s .store)) (s .store .delegator)
     ∷ length (s .store .variables) ∷ length (s .store .assertions)
-    ∷ map (numbered (people (s .store)) (variables (s .store))) (s .store .assertions)
+    ∷ map (numbered (principalsOf (s .store)) (variables (s .store))) (s .store .assertions)
 
 -- ---- the parts of a text
 
-pub record SomePrincipals (t : Text) (count : ℕ) (marks : List ℕ) : Type 0 where
+pub record SomePrincipals (t : Text) (count : ℕ) (slots : List ℕ) : Type 0 where
   pub rows : List Principal
-  pub held : Principals rows t count marks
+  pub held : Principals rows t count slots
 
-pub record SomeVariables (t : Text) (count : ℕ) (marks : List ℕ) : Type 0 where
+pub record SomeVariables (t : Text) (count : ℕ) (slots : List ℕ) : Type 0 where
   pub rows : List Variable
-  pub held : Variables rows t count marks
+  pub held : Variables rows t count slots

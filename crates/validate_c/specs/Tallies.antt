@@ -7,4 +7,4 @@ use Rattle.validate_c.specs.Reported.{flag}
 -- all but the assertions themselves
 abbrev pub tally : Parts → List ℕ
 tally p =
-    flag (p .«open») ∷ p .count ∷ p .weight ∷ p .people ∷ p .delegator ∷ p .vars ∷ p .asserted ∷ []
+    flag (p .«open») ∷ p .count ∷ p .weight ∷ p .principals ∷ p .delegator ∷ p .vars ∷ p .asserted ∷ []

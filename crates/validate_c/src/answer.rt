@@ -55,19 +55,19 @@ fn head(parts: Parts, out: &mut [u64])
     out[0] = bit(parts.open);
     out[1] = parts.count;
     out[2] = parts.weight as u64;
-    out[3] = parts.people as u64;
+    out[3] = parts.principals as u64;
     out[4] = parts.delegator as u64;
     out[5] = parts.vars as u64;
     out[6] = parts.asserted as u64;
 }
 
 // All of them, and the assertions behind.
-pub fn figures(parts: Parts, standing: &[u64], out: &mut [u64]) -> u64
-    requires { ⌜ (parts .asserted ≤ length (now standing)) × (length (now standing) ≤ 2048) × (2055 ≤ length (now out)) ⌝ }
-    ensures { λ r. ⌜ Says (found 0 (tally parts ++ take (parts .asserted) (now (standing .entry)))) (now (out .entry)) (now (out .exit)) r ⌝ }
+pub fn figures(parts: Parts, assertions: &[u64], out: &mut [u64]) -> u64
+    requires { ⌜ (parts .asserted ≤ length (now assertions)) × (length (now assertions) ≤ 2048) × (2055 ≤ length (now out)) ⌝ }
+    ensures { λ r. ⌜ Says (found 0 (tally parts ++ take (parts .asserted) (now (assertions .entry)))) (now (out .entry)) (now (out .exit)) r ⌝ }
 {
     let n = parts.asserted;
     head(parts, out);
-    copy_numbers(out, 7, &standing[0..n]);
+    copy_numbers(out, 7, &assertions[0..n]);
     (7 + n) as u64
 }

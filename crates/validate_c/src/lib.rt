@@ -1,11 +1,11 @@
 // The check of a state's buffer and the look-ups in it, for programs in other languages. They ask nothing of their caller but what the
 // types say: a buffer of another size than 65,536 bytes, and a room that is too small, are refused with a number.
-pub mod answer; // answers written for the caller
-pub mod look; // look-ups among the records of a text
+mod answer; // answers written for the caller
+mod look; // look-ups among the records of a text
 
 use validate::Checked;
 ghost use Rattle.language.specs.State.{State};
-ghost use Rattle.numbers.specs.Numbers.{people, variables};
+ghost use Rattle.named_rights.specs.Numbers.{principalsOf, variables};
 ghost use Rattle.validate_c.specs.Reported.{Reported, found, figures, nameOf, principalOf, variableOf};
 
 const BAD: u64 = 4294967296;
@@ -23,12 +23,12 @@ pub extern "C" fn state_check(state: &[u8], out: &mut [u64]) -> u64
     if out.len() < 2055 {
         return REFUSED;
     }
-    let mut people = [0u32; 4096];
+    let mut principals = [0u32; 4096];
     let mut vars = [0u32; 4096];
-    let mut standing = [0u64; 2048];
-    let checked = validate::check(state, &mut people, &mut vars, &mut standing);
+    let mut assertions = [0u64; 2048];
+    let checked = validate::check(state, &mut principals, &mut vars, &mut assertions);
     match checked {
-        Checked::Good(parts) => answer::figures(parts, &standing, out),
+        Checked::Good(parts) => answer::figures(parts, &assertions, out),
         Checked::Bad => BAD,
     }
 }
@@ -44,15 +44,15 @@ pub extern "C" fn state_principal(state: &[u8], name: &[u8], out: &mut [u8]) -> 
     if out.len() < 65536 {
         return REFUSED;
     }
-    let mut people = [0u32; 4096];
+    let mut principals = [0u32; 4096];
     let mut vars = [0u32; 4096];
-    let mut standing = [0u64; 2048];
-    let checked = validate::check(state, &mut people, &mut vars, &mut standing);
+    let mut assertions = [0u64; 2048];
+    let checked = validate::check(state, &mut principals, &mut vars, &mut assertions);
     match checked {
         Checked::Good(parts) => {
-            let from = parts.people_from;
-            let to = parts.people_to;
-            look::principal(&state[from..to], &people, parts.people, name, out)
+            let from = parts.principals_from;
+            let to = parts.principals_to;
+            look::principal(&state[from..to], &principals, parts.principals, name, out)
         }
         Checked::Bad => BAD,
     }
@@ -69,10 +69,10 @@ pub extern "C" fn state_variable(state: &[u8], name: &[u8], out: &mut [u8]) -> u
     if out.len() < 65536 {
         return REFUSED;
     }
-    let mut people = [0u32; 4096];
+    let mut principals = [0u32; 4096];
     let mut vars = [0u32; 4096];
-    let mut standing = [0u64; 2048];
-    let checked = validate::check(state, &mut people, &mut vars, &mut standing);
+    let mut assertions = [0u64; 2048];
+    let checked = validate::check(state, &mut principals, &mut vars, &mut assertions);
     match checked {
         Checked::Good(parts) => {
             let from = parts.vars_from;
@@ -86,7 +86,7 @@ pub extern "C" fn state_variable(state: &[u8], name: &[u8], out: &mut [u8]) -> u
 // The name of the principal of a number, in `out`.
 #[no_mangle]
 pub extern "C" fn state_principal_name(state: &[u8], number: usize, out: &mut [u8]) -> u64
-    ensures { λ r. ⌜ Reported 65536 (λ s. nameOf (people (s .store)) number) (now (state .entry)) (now (out .entry)) (now (out .exit)) r ⌝ }
+    ensures { λ r. ⌜ Reported 65536 (λ s. nameOf (principalsOf (s .store)) number) (now (state .entry)) (now (out .entry)) (now (out .exit)) r ⌝ }
 {
     if state.len() != 65536 {
         return REFUSED;
@@ -94,15 +94,15 @@ pub extern "C" fn state_principal_name(state: &[u8], number: usize, out: &mut [u
     if out.len() < 65536 {
         return REFUSED;
     }
-    let mut people = [0u32; 4096];
+    let mut principals = [0u32; 4096];
     let mut vars = [0u32; 4096];
-    let mut standing = [0u64; 2048];
-    let checked = validate::check(state, &mut people, &mut vars, &mut standing);
+    let mut assertions = [0u64; 2048];
+    let checked = validate::check(state, &mut principals, &mut vars, &mut assertions);
     match checked {
         Checked::Good(parts) => {
-            let from = parts.people_from;
-            let to = parts.people_to;
-            look::nth_name(&state[from..to], &people, parts.people, number, out)
+            let from = parts.principals_from;
+            let to = parts.principals_to;
+            look::nth_name(&state[from..to], &principals, parts.principals, number, out)
         }
         Checked::Bad => BAD,
     }
@@ -119,10 +119,10 @@ pub extern "C" fn state_variable_name(state: &[u8], number: usize, out: &mut [u8
     if out.len() < 65536 {
         return REFUSED;
     }
-    let mut people = [0u32; 4096];
+    let mut principals = [0u32; 4096];
     let mut vars = [0u32; 4096];
-    let mut standing = [0u64; 2048];
-    let checked = validate::check(state, &mut people, &mut vars, &mut standing);
+    let mut assertions = [0u64; 2048];
+    let checked = validate::check(state, &mut principals, &mut vars, &mut assertions);
     match checked {
         Checked::Good(parts) => {
             let from = parts.vars_from;

@@ -18,7 +18,8 @@ use Rattle.values.specs.Places.{Here, noField, FieldsAt, ElementAt, Elem
 use Rattle.text.specs.declared.Span.{Span}
 use Rattle.values.specs.Answers.{Taken, Nexts}
 use Rattle.values.specs.declared.Next.the-variants as NextIs
-use Rattle.values.proofs.Standing.{stops, past, part-is, again, moved, free-newline, string-clean, fields-valid}
+use Rattle.values.proofs.Standing.{stops, past, part-is, again, moved, free-newline, fields-valid}
+use Rattle.language.proofs.StateText.Clean.{string-clean}
 
 -- ---- one element: its first line, then its fields'
 

@@ -28,9 +28,6 @@ label-clean f h = Clean.name-clean (f .label) (both (isName (f .label)) (isStrin
 pub text-clean : (f : Field) → T (validField f) → T (isClean (f .text))
 text-clean f h = Clean.string-clean (f .text) (both (isName (f .label)) (isString (f .text)) h .1)
 
-pub string-clean : (t : Text) → T (isString t) → T (isClean t)
-string-clean = Clean.string-clean
-
 pub fields-valid : (fs : List Field) → T (validFields fs) → T (all validField fs)
 fields-valid fs h = three (ltb 0 (length fs)) (all validField fs) (distinct (map (λ f. f .label) fs)) h .1
 

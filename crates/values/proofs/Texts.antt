@@ -51,10 +51,6 @@ joined-append f (a ∷ l) m = ap (λ r. f a ++ r) (joined-append f l m) ∙ sym 
 pub list-element : (es : List Element) (e : Element) → valueText (list (es ++ (e ∷ []))) ≡ valueText (list es) ++ valueText (single e)
 list-element es e = ap (λ r. 76 ∷ 10 ∷ r) (joined-append elementText es (e ∷ []) ∙ ap (λ r. joined elementText es ++ r) (append-nil (elementText e)))
 
--- a list joined on, without its first line
-pub list-joined : (es fs : List Element) → valueText (list (es ++ fs)) ≡ valueText (list es) ++ joined elementText fs
-list-joined es fs = ap (λ r. 76 ∷ 10 ∷ r) (joined-append elementText es fs)
-
 -- a field added to a record
 pub record-field : (fs : List Field) (f : Field) → valueText (single (fields (fs ++ (f ∷ [])))) ≡ valueText (single (fields fs)) ++ fieldText f
 record-field fs f = ap (λ r. 82 ∷ 10 ∷ r) (joined-append fieldText fs (f ∷ []) ∙ ap (λ r. joined fieldText fs ++ r) (append-nil (fieldText f)))

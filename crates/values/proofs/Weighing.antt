@@ -18,7 +18,8 @@ use Rattle.language.proofs.Logic.Tests.{both}
 use Rattle.language.proofs.StateText.Lines.{isClean}
 use Rattle.values.specs.Encoding.{Holds}
 use Rattle.values.specs.Breaks.{breakOf, breaks}
-use Rattle.values.proofs.Standing.{label-clean, text-clean, string-clean, fields-valid}
+use Rattle.values.proofs.Standing.{label-clean, text-clean, fields-valid}
+use Rattle.language.proofs.StateText.Clean.{string-clean}
 
 breaks-append : (s t : Text) → breaks (s ++ t) ≡ breaks s + breaks t
 breaks-append [] t = omega arith

@@ -26,20 +26,21 @@ use Rattle.language.proofs.Meaning.ValidValues.{holding}
 use Rattle.language.proofs.Meaning.ValidCommands.{admin-known}
 use Rattle.language.proofs.Meaning.Adding.{put-all, put-there, put-names}
 use Rattle.language.proofs.Meaning.Stores.{put-shape, enter-shape}
-use Rattle.language.proofs.Meaning.Weights.{sum-append, put-new}
+use Rattle.language.proofs.Logic.Lists.{sum-append}
+use Rattle.language.proofs.Meaning.Weights.{put-new}
 use Rattle.store.specs.Held.{Variables}
 use Rattle.store.specs.Rows.{position, place, variableRow}
-use Rattle.store.specs.declared.mark.Found.{Found}
-use Rattle.store.specs.declared.mark.Found.the-variants.{At, Missing}
+use Rattle.store.specs.declared.index.Found.{Found}
+use Rattle.store.specs.declared.index.Found.the-variants.{At, Missing}
 use Rattle.store.proofs.Answers.{FoundVariable, variable-found, variable-missing, value-at}
-use Rattle.numbers.specs.Numbers.{people, variables, numbered, Standing}
-use Rattle.numbers.proofs.Few.{name-weighs}
-use Rattle.standing.proofs.Images.{member-below}
-use Rattle.running.specs.declared.Layout.{Layout}
-use Rattle.running.specs.Sessions.{Slices, slices, Running}
-use Rattle.running.proofs.Scoping.{locals-valid, sender-known, everyone}
-use Rattle.running.proofs.Room.{weighs, records-few, people-some, assertions-few}
-use Rattle.running.proofs.Changes.{withOtherLocals, withOtherShared, withBoth, same-numbers, other-locals, other-shared}
+use Rattle.named_rights.specs.Numbers.{principalsOf, variables, numbered, Standing}
+use Rattle.named_rights.proofs.Few.{name-weighs}
+use Rattle.named_rights.proofs.Places.{position-lt}
+use Rattle.session.specs.declared.Layout.{Layout}
+use Rattle.session.specs.Sessions.{Slices, slices, Running}
+use Rattle.session.proofs.Scoping.{locals-valid, sender-known, everyone}
+use Rattle.session.proofs.Room.{weighs, records-few, principals-some, assertions-few}
+use Rattle.session.proofs.Changes.{withOtherLocals, withOtherShared, withBoth, same-numbers, other-locals, other-shared}
 use Rattle.variables.specs.Puts.{Lies, Became}
 use Rattle.variables.specs.Grants.{grantWeight, grantNumbers}
 use Rattle.variables.proofs.Granting.{granting, grants, grants-weight, grants-entered, none-stands, all-numbers, some-grants}
@@ -71,9 +72,9 @@ module _ (s : Session) (x : Name) (v : Value) where
 -- ---- the texts
 
 -- a name that was found among variables, or was not
-module _ (vs : List Variable) (t : Text) (count : ℕ) (marks : List ℕ) (H : Variables vs t count marks) (x : Name) (r : Found) (F : r ≡ place (map variableRow vs) x) where
+module _ (vs : List Variable) (t : Text) (count : ℕ) (slots : List ℕ) (H : Variables vs t count slots) (x : Name) (r : Found) (F : r ≡ place (map variableRow vs) x) where
   pub there : (k a e : ℕ) → r ≡ At k a e → FoundVariable vs t x k a e
-  there k a e q = variable-found vs t count marks H x k a e (sym q ∙ F)
+  there k a e q = variable-found vs t count slots H x k a e (sym q ∙ F)
 
   pub not-there : r ≡ Missing → valueIn vs x ≡ none
   not-there q = variable-missing vs x (sym q ∙ F)
@@ -82,30 +83,30 @@ module _ (vs : List Variable) (t : Text) (count : ℕ) (marks : List ℕ) (H : V
   there-below k a e q = omega (arith, there k a e q .below, H .counted)
 
 module _ (s : Session) (l : Layout) (b : Slices) (R : Running s l b) where
-  pub locals-lie : Lies (s .locals) (b .locals) (l .«locals_len») (l .locals) (b .local-marks) (l .weight)
+  pub locals-lie : Lies (s .locals) (b .locals) (l .«locals_len») (l .locals) (b .local-slots) (l .weight)
   locals-lie = record {
     room = omega (arith, R .sized .locals-size);
     small = omega (arith, R .sized .locals-size);
-    marks-size = R .sized .local-marks-size;
+    slots-size = R .sized .local-slots-size;
     held = R .local-variables;
     within = R .locals-within;
     are-valid = locals-valid s l b R;
     weight-within = omega (arith, weighs s l b R);
   }
 
-  pub shared-lie : (w : ℕ) → l .weight ≤ w → Lies (s .store .variables) (b .vars) (l .«vars_len») (l .vars) (b .var-marks) w
+  pub shared-lie : (w : ℕ) → l .weight ≤ w → Lies (s .store .variables) (b .vars) (l .«vars_len») (l .vars) (b .variable-slots) w
   shared-lie w h = record {
     room = omega (arith, R .sized .vars-size);
     small = omega (arith, R .sized .vars-size);
-    marks-size = R .sized .var-marks-size;
+    slots-size = R .sized .variable-slots-size;
     held = R .variables;
     within = R .vars-within;
     are-valid = R .ready .is-good .store-shape .variables-valid;
     weight-within = omega (arith, weighs s l b R);
   }
 
-  pub sender-below : l .sender < l .people
-  sender-below = omega (arith, R .sender, everyone s l b R, member-below (people (s .store)) (s .sender) (sender-known s l b R))
+  pub sender-below : l .sender < l .principals
+  sender-below = omega (arith, R .sender, everyone s l b R, position-lt (principalsOf (s .store)) (s .sender) (sender-known s l b R))
 
   module _ (x : Name) (v : Value) (is-valid : T (validValue v)) where
     -- ---- a local
@@ -118,18 +119,18 @@ module _ (s : Session) (l : Layout) (b : Slices) (R : Running s l b) where
     local-full u e h =
         subst (λ (t : Session). limit < sessionWeight t) (sym (assign-local s x v u e)) (locals-full h)
 
-    pub local-put : (t : Text) (marks : List ℕ) (n count w : ℕ) → length t ≡ length (b .locals) → Became (s .locals) (put x v (s .locals)) (l .weight) t n count marks w
-        → Running (withLocals s (put x v (s .locals))) (withOtherLocals l n count w) (slices (b .people) (b .people-marks) (b .vars) (b .var-marks) t marks (b .standing))
-    local-put t marks n count w z B =
-        other-locals s l b R (put x v (s .locals)) t marks n count w (z ∙ R .sized .locals-size) (B .marks-size) (B .held) (B .within)
+    pub local-put : (t : Text) (slots : List ℕ) (n count w : ℕ) → length t ≡ length (b .locals) → Became (s .locals) (put x v (s .locals)) (l .weight) t n count slots w
+        → Running (withLocals s (put x v (s .locals))) (withOtherLocals l n count w) (slices (b .principals) (b .principal-slots) (b .vars) (b .variable-slots) t slots (b .assertions))
+    local-put t slots n count w z B =
+        other-locals s l b R (put x v (s .locals)) t slots n count w (z ∙ R .sized .locals-size) (B .slots-size) (B .held) (B .within)
         (put-all holding x v (s .locals) is-valid (R .ready .is-good .locals-valid)) (omega (arith, weighs s l b R, B .weighs)) (B .light)
 
-    pub local-done : (u : Value) → valueIn (s .locals) x ≡ some u → (t : Text) (marks : List ℕ) (n w : ℕ) → length t ≡ length (b .locals)
-        → Became (s .locals) (put x v (s .locals)) (l .weight) t n (l .locals) marks w
-        → Running (assign s x v) (withOtherLocals l n (l .locals) w) (slices (b .people) (b .people-marks) (b .vars) (b .var-marks) t marks (b .standing))
-    local-done u e t marks n w z B =
-        subst (λ (z : Session). Running z (withOtherLocals l n (l .locals) w) (slices (b .people) (b .people-marks) (b .vars) (b .var-marks) t marks (b .standing)))
-        (sym (assign-local s x v u e)) (local-put t marks n (l .locals) w z B)
+    pub local-done : (u : Value) → valueIn (s .locals) x ≡ some u → (t : Text) (slots : List ℕ) (n w : ℕ) → length t ≡ length (b .locals)
+        → Became (s .locals) (put x v (s .locals)) (l .weight) t n (l .locals) slots w
+        → Running (assign s x v) (withOtherLocals l n (l .locals) w) (slices (b .principals) (b .principal-slots) (b .vars) (b .variable-slots) t slots (b .assertions))
+    local-done u e t slots n w z B =
+        subst (λ (z : Session). Running z (withOtherLocals l n (l .locals) w) (slices (b .principals) (b .principal-slots) (b .vars) (b .variable-slots) t slots (b .assertions)))
+        (sym (assign-local s x v u e)) (local-put t slots n (l .locals) w z B)
 
     -- ---- a shared variable
 
@@ -143,14 +144,14 @@ module _ (s : Session) (l : Layout) (b : Slices) (R : Running s l b) where
           subst (λ (t : Session). limit < sessionWeight t) (sym (assign-shared s x v u none-local e))
           (let k : limit < sessionWeight (onShared s x v) = omega (arith, weighs s l b R) in k)
 
-      pub shared-done : valueIn (s .locals) x ≡ none → (u : Value) → valueIn (s .store .variables) x ≡ some u → (t : Text) (marks : List ℕ) (n w : ℕ) → length t ≡ length (b .vars)
-          → Became (s .store .variables) (put x v (s .store .variables)) (l .weight) t n (l .vars) marks w
-          → Running (assign s x v) (withOtherShared l n (l .vars) (l .asserted) w) (slices (b .people) (b .people-marks) t marks (b .locals) (b .local-marks) (b .standing))
-      shared-done none-local u e t marks n w z B =
-          subst (λ (z : Session). Running z (withOtherShared l n (l .vars) (l .asserted) w) (slices (b .people) (b .people-marks) t marks (b .locals) (b .local-marks) (b .standing)))
+      pub shared-done : valueIn (s .locals) x ≡ none → (u : Value) → valueIn (s .store .variables) x ≡ some u → (t : Text) (slots : List ℕ) (n w : ℕ) → length t ≡ length (b .vars)
+          → Became (s .store .variables) (put x v (s .store .variables)) (l .weight) t n (l .vars) slots w
+          → Running (assign s x v) (withOtherShared l n (l .vars) (l .asserted) w) (slices (b .principals) (b .principal-slots) t slots (b .locals) (b .local-slots) (b .assertions))
+      shared-done none-local u e t slots n w z B =
+          subst (λ (z : Session). Running z (withOtherShared l n (l .vars) (l .asserted) w) (slices (b .principals) (b .principal-slots) t slots (b .locals) (b .local-slots) (b .assertions)))
           (sym (assign-shared s x v u none-local e))
-          (other-shared s l b R (put x v (s .store .variables)) (s .store .assertions) t marks (b .standing) n (l .vars) (l .asserted) w (z ∙ R .sized .vars-size) (B .marks-size)
-          (R .sized .standing-size) (B .held) (B .within) (same-numbers (s .store) (put x v (s .store .variables)) (l .asserted) (b .standing) same-names (R .assertions)) shape
+          (other-shared s l b R (put x v (s .store .variables)) (s .store .assertions) t slots (b .assertions) n (l .vars) (l .asserted) w (z ∙ R .sized .vars-size) (B .slots-size)
+          (R .sized .assertions-size) (B .held) (B .within) (same-numbers (s .store) (put x v (s .store .variables)) (l .asserted) (b .assertions) same-names (R .assertions)) shape
           (omega (arith, weighs s l b R, B .weighs)) (B .light))
         where
           same-names : map (λ z. z .name) (put x v (s .store .variables)) ≡ variables (s .store)
@@ -191,13 +192,13 @@ module _ (s : Session) (l : Layout) (b : Slices) (R : Running s l b) where
             go true = tt
             go false = each rights
 
-        pub new-done : valueIn (s .locals) x ≡ none → (t : Text) (marks standing : List ℕ) (n w r : ℕ) → length t ≡ length (b .vars) → Became (s .store .variables) (put x v (s .store .variables)) (l .weight + extra) t n (l .vars + 1) marks w
-            → length standing ≡ 2048 → r ≤ length standing → take r standing ≡ take (l .asserted) (b .standing) ++ grantNumbers (l .vars) (l .sender)
-            → Running (assign s x v) (withOtherShared l n (l .vars + 1) r w) (slices (b .people) (b .people-marks) t marks (b .locals) (b .local-marks) standing)
-        new-done none-local t marks standing n w r z B size within left =
-            subst (λ (z : Session). Running z (withOtherShared l n (l .vars + 1) r w) (slices (b .people) (b .people-marks) t marks (b .locals) (b .local-marks) standing))
+        pub new-done : valueIn (s .locals) x ≡ none → (t : Text) (slots assertions : List ℕ) (n w r : ℕ) → length t ≡ length (b .vars) → Became (s .store .variables) (put x v (s .store .variables)) (l .weight + extra) t n (l .vars + 1) slots w
+            → length assertions ≡ 2048 → r ≤ length assertions → take r assertions ≡ take (l .asserted) (b .assertions) ++ grantNumbers (l .vars) (l .sender)
+            → Running (assign s x v) (withOtherShared l n (l .vars + 1) r w) (slices (b .principals) (b .principal-slots) t slots (b .locals) (b .local-slots) assertions)
+        new-done none-local t slots assertions n w r z B size within left =
+            subst (λ (z : Session). Running z (withOtherShared l n (l .vars + 1) r w) (slices (b .principals) (b .principal-slots) t slots (b .locals) (b .local-slots) assertions))
             (sym (assign-new s x v none-local new))
-            (other-shared s l b R (put x v (s .store .variables)) (entering (s .store .assertions) (granted s x)) t marks standing n (l .vars + 1) r w (z ∙ R .sized .vars-size) (B .marks-size)
+            (other-shared s l b R (put x v (s .store .variables)) (entering (s .store .assertions) (granted s x)) t slots assertions n (l .vars + 1) r w (z ∙ R .sized .vars-size) (B .slots-size)
             size (B .held) (B .within) stands′
             (enter-shape (withVariables (s .store) (put x v (s .store .variables))) shape (granted s x) grants-valid)
             (omega (arith, weighs s l b R, B .weighs, assertions-weigh)) (B .light))
@@ -221,24 +222,24 @@ module _ (s : Session) (l : Layout) (b : Slices) (R : Running s l b) where
             counted : l .vars ≡ length (variables (s .store))
             counted = R .variables .counted ∙ sym (length-map (s .store .variables) (λ (z : Variable). z .name))
 
-            stands′ : Standing (withBoth (s .store) (put x v (s .store .variables)) (entering (s .store .assertions) (granted s x))) r standing
+            stands′ : Standing (withBoth (s .store) (put x v (s .store .variables)) (entering (s .store .assertions) (granted s x))) r assertions
             stands′ = record {
               within = within;
               are =
                   left ∙ ap (λ (z : List ℕ). z ++ grantNumbers (l .vars) (l .sender)) (R .assertions .are)
                   ∙ sym (all-numbers (s .store) (R .ready .is-good .store-shape .order) (R .ready .is-good .store-shape .assertions-valid) x (s .sender) (l .vars) (l .sender) missing counted (R .sender))
-                  ∙ (λ i. map (numbered (people (s .store)) (names i)) (sym all-entered i));
+                  ∙ (λ i. map (numbered (principalsOf (s .store)) (names i)) (sym all-entered i));
             }
 
         -- room for them
-        pub grants-room : (t : Text) (marks : List ℕ) (n w : ℕ) → Became (s .store .variables) (put x v (s .store .variables)) (l .weight + extra) t n (l .vars + 1) marks w
-            → (l .asserted ≤ length (b .standing)) × (0 < l .sender → l .asserted + 4 ≤ length (b .standing)) × (l .vars < 4096) × (l .sender < 4096)
-        grants-room t marks n w B =
+        pub grants-room : (t : Text) (slots : List ℕ) (n w : ℕ) → Became (s .store .variables) (put x v (s .store .variables)) (l .weight + extra) t n (l .vars + 1) slots w
+            → (l .asserted ≤ length (b .assertions)) × (0 < l .sender → l .asserted + 4 ≤ length (b .assertions)) × (l .vars < 4096) × (l .sender < 4096)
+        grants-room t slots n w B =
             let few = records-few s l b R in
-            let two = people-some s l b R in
+            let two = principals-some s l b R in
             (R .assertions .within, room, omega (arith, few, two, R .light), omega (arith, sender-below, few, R .light))
           where
-            room : 0 < l .sender → l .asserted + 4 ≤ length (b .standing)
+            room : 0 < l .sender → l .asserted + 4 ≤ length (b .assertions)
             room h =
                 let z : l .sender ≡ 0 → ⊥ = λ e. omega (arith, e, h) in
                 let g : extra ≡ 4 * (length x + 2 + nameWeight (s .sender)) =
@@ -253,5 +254,5 @@ module _ (s : Session) (l : Layout) (b : Slices) (R : Running s l b) where
                   B .weighs,
                   B .light,
                   assertions-few s l b R,
-                  R .sized .standing-size,
+                  R .sized .assertions-size,
                 )

@@ -18,29 +18,20 @@ use Rattle.evaluate.specs.Drafts.{Lent}
 use Rattle.evaluate.specs.Results.{Written, TooHeavy, Valued}
 use Rattle.evaluate.specs.declared.result.Evaluated.{Evaluated}
 use Rattle.evaluate.specs.declared.result.Evaluated.the-variants as Is
-use Rattle.running.specs.declared.Layout.{Layout}
-use Rattle.running.specs.declared.Verdict.{Verdict}
-use Rattle.running.specs.Sessions.{Slices, Running}
-use Rattle.running.specs.Endings.{Ended}
-use Rattle.running.proofs.Scoping.{scope, sends}
-use Rattle.running.proofs.OneValue.{session-full, session-done}
+use Rattle.session.specs.declared.Verdict.{Verdict}
+use Rattle.session.specs.Sessions.{Slices}
+use Rattle.session.specs.Endings.{Ended}
+use Rattle.session.proofs.OneValue.{session-full, session-done}
 use Rattle.variables.specs.declared.assignment.Assigned.{Assigned}
 use Rattle.variables.specs.declared.assignment.Assigned.the-variants.{Full, Done}
 use Rattle.variables.specs.Assignments.{Assigns, verdictOf}
 use Rattle.variables.specs.Puts.{Weighs}
-use Rattle.variables.specs.Looks.{elementsIn, Scoped, Sending}
+use Rattle.lookup.specs.Looks.{elementsIn}
 
--- ---- a running session is what the parts ask for
+-- ---- room to evaluate in
 
-module _ (s : Session) (l : Layout) (b : Slices) (R : Running s l b) where
-  pub scoped : Scoped s l (b .vars) (b .var-marks) (b .locals) (b .local-marks)
-  scoped = record { scope = scope s l b R; vars-within = R .vars-within; locals-within = R .locals-within }
-
-  pub sending : Sending s l (b .vars) (b .var-marks) (b .standing)
-  sending = record { sends = sends s l b R; vars-within = R .vars-within }
-
-pub lent : (t : Text) (marks : List ℕ) → length t ≡ 45056 → length marks ≡ 4096 → Lent t marks
-lent t marks e f = record { out-size = omega (arith, e); marks-size = omega (arith, f) }
+pub lent : (t : Text) (slots : List ℕ) → length t ≡ 45056 → length slots ≡ 4096 → Lent t slots
+lent t slots e f = record { out-size = omega (arith, e); slots-size = omega (arith, f) }
 
 -- ---- the value that was evaluated
 

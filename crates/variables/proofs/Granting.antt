@@ -18,28 +18,23 @@ use Rattle.language.specs.State.{Value, Principal, Assertion, Store, admin, any
 use Rattle.language.specs.Weight.{nameWeight, assertionWeight}
 use Rattle.language.specs.Valid.{hasPassword, validOrder, validAssertion}
 use Rattle.language.specs.Commands.{entering}
-use Rattle.language.proofs.Logic.Tests.{both, and, three, and-three, ==→≡, ==-refl, ==-sym, true-of}
+use Rattle.language.proofs.Logic.Tests.{both, and, three, and-three, ==→≡, ==-refl, ==-sym, true-of, same-test}
 use Rattle.language.proofs.StateText.Names.{named-is, valued-is}
 use Rattle.store.specs.Held.{Principals}
 use Rattle.store.specs.Rows.{Row, noRow, rowAt, principalRow, position}
 use Rattle.store.proofs.Answers.{principal-names, position-name}
 use Rattle.edits.specs.Changes.{principalNames, variableNames}
-use Rattle.edits.proofs.Splicing.{map-append}
-use Rattle.numbers.specs.Numbers.{code, people, variables, numbered}
-use Rattle.rights.specs.Packed.{pack}
-use Rattle.standing.specs.Known.{known}
-use Rattle.standing.proofs.Images.{numbers-last}
+use Rattle.language.proofs.Logic.Lists.{map-append, any-last}
+use Rattle.named_rights.specs.Numbers.{code, principalsOf, variables, numbered}
+use Rattle.assertion.specs.Packed.{pack}
+use Rattle.assertion_list.specs.Known.{known}
+use Rattle.assertion_list.proofs.Images.{numbers-last}
 use Rattle.variables.specs.Grants.{grantWeight, grantNumbers}
 
 -- ---- the first two principals
 
-same-test : (k a p : Name) → T (k == a) → (k == p) ≡ (p == a)
-same-test k a p h = subst (λ (z : Name). (k == p) ≡ (p == z)) (==→≡ k a h) (go (k == p) (p == k) (==-sym k p) (==-sym p k))
-  where
-    go : (b c : Bool) → (T b → T c) → (T c → T b) → b ≡ c
-    go true c f g = sym (true-of c (f tt))
-    go false true f g = absurd (g tt)
-    go false false f g = refl
+same-name : (k a p : Name) → T (k == a) → (k == p) ≡ (p == a)
+same-name k a p h = subst (λ (z : Name). (k == p) ≡ (p == z)) (==→≡ k a h) (same-test (k == p) (p == k) (==-sym k p) (==-sym p k))
 
 -- admin comes first
 pub first-is : (ks : List Principal) (p : Name) → T (validOrder ks) → eqb (position (principalNames ks) p) 0 ≡ (p == admin)
@@ -47,7 +42,7 @@ first-is [] p o = absurd o
 first-is (k ∷ []) p o = absurd o
 first-is (k ∷ l ∷ ks) p o =
     let (h, r) = both ((k .name == admin) && hasPassword k && (l .name == anyone)) (all hasPassword ks) o in
-    go (k .name == p) (same-test (k .name) admin p (three (k .name == admin) (hasPassword k) (l .name == anyone) h .0))
+    go (k .name == p) (same-name (k .name) admin p (three (k .name == admin) (hasPassword k) (l .name == anyone) h .0))
   where
     m : ℕ
     m = position (principalNames (l ∷ ks)) p
@@ -57,9 +52,9 @@ first-is (k ∷ l ∷ ks) p o =
     go false e = eqb·suc-zero m ∙ e
 
 -- what stands between a record's first two bytes and its name's end
-pub name-at : (ks : List Principal) (t : Text) (count : ℕ) (marks : List ℕ) → Principals ks t count marks → (p : Name) (k : ℕ) → k < count → k ≡ position (principalNames ks) p
+pub name-at : (ks : List Principal) (t : Text) (count : ℕ) (slots : List ℕ) → Principals ks t count slots → (p : Name) (k : ℕ) → k < count → k ≡ position (principalNames ks) p
     → rowAt (map principalRow ks) k .name ≡ p
-name-at ks t count marks H p k h n =
+name-at ks t count slots H p k h n =
     let c : length (map principalRow ks) ≡ length ks = length-map ks principalRow in
     let d : length (principalNames ks) ≡ length ks = length-map ks (λ (q : Principal). q .name) in
     sym (List·getD-map (λ (r : Row). r .name) (map principalRow ks) k noRow) ∙ ap (λ (ns : List Name). getD ns k []) (principal-names ks)
@@ -96,16 +91,7 @@ module _ (x p : Name) where
   third-false false b c = refl
 
   stands-last : (l : List Assertion) (a b : Assertion) → stands (l ++ (a ∷ [])) b ≡ (stands l b || sameAssertion b a)
-  stands-last [] a b = go (sameAssertion b a)
-    where
-      go : (c : Bool) → (c || false) ≡ c
-      go true = refl
-      go false = refl
-  stands-last (c ∷ l) a b = go (sameAssertion b c) (stands-last l a b)
-    where
-      go : (d : Bool) → stands (l ++ (a ∷ [])) b ≡ (stands l b || sameAssertion b a) → (d || stands (l ++ (a ∷ [])) b) ≡ ((d || stands l b) || sameAssertion b a)
-      go true e = refl
-      go false e = e
+  stands-last l a b = any-last (sameAssertion b) l a
 
   other-right : (l : List Assertion) (r q : Right) → stands l (granting r) ≡ false → same r q ≡ false → stands (l ++ (granting q ∷ [])) (granting r) ≡ false
   other-right l r q e f =
@@ -181,7 +167,7 @@ position-end (y ∷ l) x h = go (y == x) h (position-end l x)
 stored : (l : List ℕ) (i a : ℕ) → i < length l → take (i + 1) (set l i a) ≡ take i l ++ (a ∷ [])
 stored l i a h = ap (λ (n : ℕ). take n (set l i a)) (add-one i) ∙ take-suc-set l i a h
 
-pub stored-four : (l : List ℕ) (n a b c d : ℕ) → n + 4 ≤ length l
+stored-four : (l : List ℕ) (n a b c d : ℕ) → n + 4 ≤ length l
     → take (n + 4) (set (set (set (set l n a) (n + 1) b) (n + 2) c) (n + 3) d) ≡ take n l ++ (a ∷ b ∷ c ∷ d ∷ [])
 stored-four l n a b c d h =
     let l₁ : List ℕ = set l n a in
@@ -204,25 +190,25 @@ stored-four l n a b c d h =
 
 module _ (s : Store) (o : T (validOrder (s .principals))) (h : T (all (validAssertion s) (s .assertions))) (x p : Name) (k sender : ℕ)
     (new : length (variables s) ≤ position (variables s) x) (kn : k ≡ length (variables s))
-    (sn : sender ≡ position (people s) p) where
-  number : (r : Right) → numbered (people s) (variables s ++ (x ∷ [])) (granting x p r) ≡ pack k 0 (code r) sender
+    (sn : sender ≡ position (principalsOf s) p) where
+  number : (r : Right) → numbered (principalsOf s) (variables s ++ (x ∷ [])) (granting x p r) ≡ pack k 0 (code r) sender
   number r = λ i. pack ((position-end (variables s) x new ∙ sym kn) i) (admin-first (s .principals) o i) (code r) (sym sn i)
 
-  grants-numbers : map (numbered (people s) (variables s ++ (x ∷ []))) (grants x p) ≡ grantNumbers k sender
+  grants-numbers : map (numbered (principalsOf s) (variables s ++ (x ∷ []))) (grants x p) ≡ grantNumbers k sender
   grants-numbers = go (p == admin) (eqb sender 0) (sym (ap (λ (n : ℕ). eqb n 0) sn ∙ first-is (s .principals) p o))
     where
-      go : (b c : Bool) → b ≡ c → map (numbered (people s) (variables s ++ (x ∷ []))) (if b then [] else map (granting x p) rights)
+      go : (b c : Bool) → b ≡ c → map (numbered (principalsOf s) (variables s ++ (x ∷ []))) (if b then [] else map (granting x p) rights)
           ≡ (if c then [] else pack k 0 0 sender ∷ pack k 0 1 sender ∷ pack k 0 2 sender ∷ pack k 0 3 sender ∷ [])
       go true c e = ap (λ (d : Bool). if_then_else_ {A = List ℕ} d [] (pack k 0 0 sender ∷ pack k 0 1 sender ∷ pack k 0 2 sender ∷ pack k 0 3 sender ∷ [])) e
       go false c e = (λ i. number read i ∷ number write i ∷ number append i ∷ number delegate i ∷ [])
           ∙ ap (λ (d : Bool). if_then_else_ {A = List ℕ} d [] (pack k 0 0 sender ∷ pack k 0 1 sender ∷ pack k 0 2 sender ∷ pack k 0 3 sender ∷ [])) e
 
   -- all assertions, with the new variable last
-  pub all-numbers : map (numbered (people s) (variables s ++ (x ∷ []))) (s .assertions ++ grants x p) ≡ map (numbered (people s) (variables s)) (s .assertions) ++ grantNumbers k sender
+  pub all-numbers : map (numbered (principalsOf s) (variables s ++ (x ∷ []))) (s .assertions ++ grants x p) ≡ map (numbered (principalsOf s) (variables s)) (s .assertions) ++ grantNumbers k sender
   all-numbers =
-      map-append (numbered (people s) (variables s ++ (x ∷ []))) (s .assertions) (grants x p)
-      ∙ (λ i. (ap (λ (qs : List Name). map (numbered qs (variables s ++ (x ∷ []))) (s .assertions)) (sym (append-nil (people s)))
-      ∙ numbers-last (people s) [] (variables s) (x ∷ []) (s .assertions) (all-known s (s .assertions) h)) i ++ grants-numbers i)
+      map-append (numbered (principalsOf s) (variables s ++ (x ∷ []))) (s .assertions) (grants x p)
+      ∙ (λ i. (ap (λ (qs : List Name). map (numbered qs (variables s ++ (x ∷ []))) (s .assertions)) (sym (append-nil (principalsOf s)))
+      ∙ numbers-last (principalsOf s) [] (variables s) (x ∷ []) (s .assertions) (all-known s (s .assertions) h)) i ++ grants-numbers i)
 
 -- ---- what the code answers
 

@@ -2,6 +2,5 @@
 pub mod Weighing
 pub mod Granting
 pub mod Assigning
-pub mod Looking
 pub mod Extending
 pub mod Ending

@@ -3,11 +3,10 @@
 use mathlib.Core.Path.{_≡_, sym, ap, subst, _∙_}
 use mathlib.Core.Option.{Option, none, some}
 use mathlib.Core.List.{List, [], _∷_, _++_}
-use Prim.Native.Nat.{ℕ, zero, suc, _+_, _*_, _-_, _≤_, _<_}
-use native.Mathlib.Nat.{not-suc-le-zero, le-of-suc-le-suc}
+use Prim.Native.Nat.{ℕ, _+_, _*_, _-_, _≤_, _<_}
 use native.Mathlib.Omega.{arith}
 use lib.Dec.{T}
-use lib.ListN.{length, take, getD, length-append}
+use lib.ListN.{length, take, length-append}
 use lib.Seq.{length-take-le}
 use Rattle.language.specs.Text.{Text, all, sum, present}
 use Rattle.language.specs.Syntax.{Name}
@@ -20,8 +19,10 @@ use Rattle.language.proofs.Logic.Tests.{both, and, all-append}
 use Rattle.language.proofs.StateText.Bound.{variables-bound}
 use Rattle.language.proofs.StateText.Names.{variable-name}
 use Rattle.language.proofs.Meaning.Adding.{put-all}
-use Rattle.language.proofs.Meaning.Weights.{sum-append, put-old, put-new}
-use Rattle.store.specs.Held.{Variables, part}
+use Rattle.language.proofs.Logic.Lists.{sum-append, sum-at}
+use Rattle.language.proofs.Meaning.Weights.{put-old, put-new}
+use Rattle.store.specs.Held.{Variables}
+use Rattle.text.specs.Parts.{part}
 use Rattle.store.specs.Rows.{position}
 use Rattle.store.specs.Contents.{variableAt, ValueAt}
 use Rattle.store.proofs.Records.{all-at, joined-append}
@@ -30,15 +31,10 @@ use Rattle.store.proofs.Holders.{variable-text}
 use Rattle.edits.specs.Changes.{variableNames}
 use Rattle.edits.proofs.Putting as Putting
 use Rattle.values.specs.Encoding.{Holds}
-use Rattle.running.proofs.Room.{variables-two}
+use Rattle.session.proofs.Room.{variables-two}
 use Rattle.variables.specs.Puts.{Lies, Weighs, Extra, Became, Becomes}
 use Rattle.variables.specs.declared.put.Put.{Put}
 use Rattle.variables.specs.declared.put.Put.the-variants as Is
-
-sum-at : {A : Type 0} (f : A → ℕ) (l : List A) (k : ℕ) (d : A) → k < length l → f (getD l k d) ≤ sum f l
-sum-at f [] k d h = absurd (not-suc-le-zero h)
-sum-at f (a ∷ l) zero d h = omega arith
-sum-at f (a ∷ l) (suc k) d h = omega (arith, sum-at f l k d (le-of-suc-le-suc h))
 
 -- the value of variable k, and that it is valid
 pub value-holds : (vs : List Variable) (t : Text) (k s e : ℕ) → T (all validVariable vs) → k < length vs → ValueAt vs t k s e → Holds (variableAt vs k .value) (part t s e)
@@ -51,7 +47,7 @@ value-holds vs t k s e h l A = record {
 pub fits : (ws : List Variable) → T (all validVariable ws) → sum variableWeight ws ≤ limit → length (variablesText ws) ≤ 32768
 fits ws h k = omega (arith, variables-bound ws h)
 
-module _ {vs : List Variable} {buf : Text} {len count : ℕ} {marks : List ℕ} {total : ℕ} (L : Lies vs buf len count marks total) where
+module _ {vs : List Variable} {buf : Text} {len count : ℕ} {slots : List ℕ} {total : ℕ} (L : Lies vs buf len count slots total) where
   pub len-is : len ≡ length (variablesText vs)
   len-is = sym (length-take-le len buf (L .within)) ∙ ap length (L .held .is-text)
 
@@ -82,10 +78,10 @@ module _ {vs : List Variable} {buf : Text} {len count : ℕ} {marks : List ℕ} 
       pub replaced-fits : total - old + weight ≤ limit → length (variablesText (put x v vs)) ≤ 32768
       replaced-fits f = fits (put x v vs) (put-valid v (W .held .is-valid)) (omega (arith, grown, q, old-within, L .weight-within))
 
-      pub replaced : (buf′ : Text) (r : ℕ) (marks′ : List ℕ) → total - old + weight ≤ limit → length buf′ ≡ length buf → length marks′ ≡ length marks → r ≤ length buf
-          → Variables (put x v vs) (take r buf′) count marks′ → Became vs (put x v vs) total buf′ r count marks′ (total - old + weight)
-      replaced buf′ r marks′ f e m l H = record {
-        marks-size = m ∙ L .marks-size;
+      pub replaced : (buf′ : Text) (r : ℕ) (slots′ : List ℕ) → total - old + weight ≤ limit → length buf′ ≡ length buf → length slots′ ≡ length slots → r ≤ length buf
+          → Variables (put x v vs) (take r buf′) count slots′ → Became vs (put x v vs) total buf′ r count slots′ (total - old + weight)
+      replaced buf′ r slots′ f e m l H = record {
+        slots-size = m ∙ L .slots-size;
         held = H;
         within = omega (arith, e, l);
         weighs = omega (arith, grown, q, old-within);
@@ -120,10 +116,10 @@ module _ {vs : List Variable} {buf : Text} {len count : ℕ} {marks : List ℕ} 
       pub extended-fits : total + weight ≤ limit → length (variablesText (put x (list (es ++ fs)) vs)) ≤ 32768
       extended-fits f = fits (put x (list (es ++ fs)) vs) (put-valid (list (es ++ fs)) both-valid) (omega (arith, lengthened, L .weight-within))
 
-      pub extended : (buf′ : Text) (r : ℕ) (marks′ : List ℕ) → total + weight ≤ limit → length buf′ ≡ length buf → length marks′ ≡ length marks → r ≤ length buf
-          → Variables (put x (list (es ++ fs)) vs) (take r buf′) count marks′ → Became vs (put x (list (es ++ fs)) vs) total buf′ r count marks′ (total + weight)
-      extended buf′ r marks′ f e m l H = record {
-        marks-size = m ∙ L .marks-size;
+      pub extended : (buf′ : Text) (r : ℕ) (slots′ : List ℕ) → total + weight ≤ limit → length buf′ ≡ length buf → length slots′ ≡ length slots → r ≤ length buf
+          → Variables (put x (list (es ++ fs)) vs) (take r buf′) count slots′ → Became vs (put x (list (es ++ fs)) vs) total buf′ r count slots′ (total + weight)
+      extended buf′ r slots′ f e m l H = record {
+        slots-size = m ∙ L .slots-size;
         held = H;
         within = omega (arith, e, l);
         weighs = omega (arith, lengthened);
@@ -136,7 +132,7 @@ module _ {vs : List Variable} {buf : Text} {len count : ℕ} {marks : List ℕ} 
   few = omega (arith, variables-two vs (L .are-valid), L .held .counted, L .weight-within)
 
   module _ (x : Name) (v : Value) (src : Text) (weight : ℕ) (N : T (isName x)) (W : Weighs v src weight) where
-    pub added-room : total + 1 + length x + weight ≤ limit → (length buf ≤ 65536) × (len + 3 + length x + length src ≤ length buf) × (count < length marks)
+    pub added-room : total + 1 + length x + weight ≤ limit → (length buf ≤ 65536) × (len + 3 + length x + length src ≤ length buf) × (count < length slots)
     added-room f =
         let ws : List Variable = vs ++ (record { name = x; value = v } ∷ []) in
         let valid : T (all validVariable ws) = all-append validVariable vs (record { name = x; value = v } ∷ []) (L .are-valid) (and (validVariable (record { name = x; value = v })) (all validVariable []) (and (isName x) (validValue v) N (W .held .is-valid)) tt) in
@@ -147,7 +143,7 @@ module _ {vs : List Variable} {buf : Text} {len count : ℕ} {marks : List ℕ} 
         ∙ length-append (variablesText vs) _ ∙ omega (arith, length-append (variableText x v) []) in
         let u : length (variableText x v) ≡ 3 + length x + length src =
         ap length (variable-text x v) ∙ omega (arith, length-append x (9 ∷ valueText v), ap length (W .held .is-text)) in
-        (L .small, omega (arith, L .room, len-is), omega (arith, L .marks-size, few))
+        (L .small, omega (arith, L .room, len-is), omega (arith, L .slots-size, few))
 
     module _ (new : valueIn vs x ≡ none) where
       more : sum variableWeight (put x v vs) ≡ sum variableWeight vs + (1 + length x + weight)
@@ -156,12 +152,12 @@ module _ {vs : List Variable} {buf : Text} {len count : ℕ} {marks : List ℕ} 
       pub added-full : limit < total + 1 + length x + weight → limit + sum variableWeight vs < total + sum variableWeight (put x v vs)
       added-full f = omega (arith, more)
 
-      pub added : (buf′ : Text) (r : ℕ) (marks′ : List ℕ) → total + 1 + length x + weight ≤ limit → length buf′ ≡ length buf → length marks′ ≡ length marks → r ≤ length buf
-          → Variables (vs ++ (record { name = x; value = v } ∷ [])) (take r buf′) (count + 1) marks′
-          → Became vs (put x v vs) total buf′ r (count + 1) marks′ (total + 1 + length x + weight)
-      added buf′ r marks′ f e m l H = record {
-        marks-size = m ∙ L .marks-size;
-        held = subst (λ (ws : List Variable). Variables ws (take r buf′) (count + 1) marks′) (sym (Putting.put-new vs x v new)) H;
+      pub added : (buf′ : Text) (r : ℕ) (slots′ : List ℕ) → total + 1 + length x + weight ≤ limit → length buf′ ≡ length buf → length slots′ ≡ length slots → r ≤ length buf
+          → Variables (vs ++ (record { name = x; value = v } ∷ [])) (take r buf′) (count + 1) slots′
+          → Became vs (put x v vs) total buf′ r (count + 1) slots′ (total + 1 + length x + weight)
+      added buf′ r slots′ f e m l H = record {
+        slots-size = m ∙ L .slots-size;
+        held = subst (λ (ws : List Variable). Variables ws (take r buf′) (count + 1) slots′) (sym (Putting.put-new vs x v new)) H;
         within = omega (arith, e, l);
         weighs = omega (arith, more);
         light = f;
@@ -169,9 +165,9 @@ module _ {vs : List Variable} {buf : Text} {len count : ℕ} {marks : List ℕ} 
 
 -- ---- the answer
 
-module _ (vs ws : List Variable) (total : ℕ) (r : Put) (buf : Text) (count : ℕ) (marks : List ℕ) (B : Becomes vs ws total r buf count marks) where
+module _ (vs ws : List Variable) (total : ℕ) (r : Put) (buf : Text) (count : ℕ) (slots : List ℕ) (B : Becomes vs ws total r buf count slots) where
   pub put-full : r ≡ Is.Full → limit + sum variableWeight vs < total + sum variableWeight ws
-  put-full e = subst (λ (z : Put). Becomes vs ws total z buf count marks) e B
+  put-full e = subst (λ (z : Put). Becomes vs ws total z buf count slots) e B
 
-  pub put-done : (n w : ℕ) → r ≡ Is.Done n w → Became vs ws total buf n count marks w
-  put-done n w e = subst (λ (z : Put). Becomes vs ws total z buf count marks) e B
+  pub put-done : (n w : ℕ) → r ≡ Is.Done n w → Became vs ws total buf n count slots w
+  put-done n w e = subst (λ (z : Put). Becomes vs ws total z buf count slots) e B

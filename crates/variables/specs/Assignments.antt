@@ -9,23 +9,23 @@ use Rattle.language.specs.State.{valueIn}
 use Rattle.language.specs.Weight.{limit}
 use Rattle.language.specs.Values.{Session}
 use Rattle.language.specs.Commands.{sessionWeight}
-use Rattle.running.specs.declared.Layout.{Layout}
-use Rattle.running.specs.declared.Verdict.{Verdict}
-use Rattle.running.specs.declared.Verdict.the-variants as Ends
-use Rattle.running.specs.Sessions.{Slices, slices, Running}
+use Rattle.session.specs.declared.Layout.{Layout}
+use Rattle.session.specs.declared.Verdict.{Verdict}
+use Rattle.session.specs.declared.Verdict.the-variants as Ends
+use Rattle.session.specs.Sessions.{Slices, slices, Running}
 use Rattle.variables.specs.declared.assignment.Assigned.{Assigned}
 use Rattle.variables.specs.declared.assignment.Assigned.the-variants.{Full, Done}
 
 -- the buffers hold some session, whatever holds its locals
-pub record SomeShared (l : Layout) (people : Text) (people-marks : List ℕ) (vars : Text) (var-marks standing : List ℕ) : Type 0 where
+pub record SomeShared (l : Layout) (principals : Text) (principal-slots : List ℕ) (vars : Text) (variable-slots assertions : List ℕ) : Type 0 where
   pub session : Session
   pub locals : Text
-  pub local-marks : List ℕ
-  pub running : Running session l (slices people people-marks vars var-marks locals local-marks standing)
+  pub local-slots : List ℕ
+  pub running : Running session l (slices principals principal-slots vars variable-slots locals local-slots assertions)
 
 -- and no shared variable has that name
-pub record SomeNew (l : Layout) (people : Text) (people-marks : List ℕ) (vars : Text) (var-marks standing : List ℕ) (x : Name) : Type 0 where
-  pub some : SomeShared l people people-marks vars var-marks standing
+pub record SomeNew (l : Layout) (principals : Text) (principal-slots : List ℕ) (vars : Text) (variable-slots assertions : List ℕ) (x : Name) : Type 0 where
+  pub some : SomeShared l principals principal-slots vars variable-slots assertions
   pub is-new : valueIn (some .session .store .variables) x ≡ none
 
 -- the session s is there, or is too heavy

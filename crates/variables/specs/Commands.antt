@@ -9,7 +9,7 @@ use Rattle.language.specs.Identifiers.{isIdentifier}
 use Rattle.text.specs.declared.Span.{Span}
 use Rattle.text.specs.Meaning.{part, Within}
 use Rattle.syntax.specs.declared.value.Expr as Read
-use Rattle.variables.specs.Looks.{Said}
+use Rattle.lookup.specs.Looks.{Said}
 
 -- the program's text names a variable, and says an expression
 pub record Names (t : Text) (x : Span) (e : Read.Expr) : Type 0 where

@@ -8,8 +8,8 @@ use Rattle.language.specs.Text.{Text}
 use Rattle.language.specs.Syntax.{Name}
 use Rattle.language.specs.State.{Element, Value, single, list, valueIn}
 use Rattle.language.specs.Values.{Session, lookup}
-use Rattle.running.specs.declared.Layout.{Layout}
-use Rattle.running.specs.Sessions.{Slices, Running}
+use Rattle.session.specs.declared.Layout.{Layout}
+use Rattle.session.specs.Sessions.{Slices, Running}
 use Rattle.variables.specs.Puts.{Extra}
 use Rattle.variables.specs.Assignments.{SomeShared}
 
@@ -32,8 +32,8 @@ pub record SomeList (l : Layout) (b : Slices) (x : Name) : Type 0 where
   pub is-list : lookup session x ≡ some (list elements)
 
 -- the name is a shared list's in some session, and t is the text of more elements
-pub record SomeSharedList (l : Layout) (people : Text) (people-marks : List ℕ) (vars : Text) (var-marks standing : List ℕ) (x : Name) (t : Text) (weight : ℕ) : Type 0 where
-  pub some-shared : SomeShared l people people-marks vars var-marks standing
+pub record SomeSharedList (l : Layout) (principals : Text) (principal-slots : List ℕ) (vars : Text) (variable-slots assertions : List ℕ) (x : Name) (t : Text) (weight : ℕ) : Type 0 where
+  pub some-shared : SomeShared l principals principal-slots vars variable-slots assertions
   pub elements : List Element
   pub more : List Element
   pub is-list : valueIn (some-shared .session .store .variables) x ≡ some (list elements)

@@ -6,7 +6,7 @@ use Rattle.language.specs.Text.{if_then_else_, _==_}
 use Rattle.language.specs.Syntax.{Name}
 use Rattle.language.specs.State.{admin}
 use Rattle.language.specs.Weight.{nameWeight}
-use Rattle.rights.specs.Packed.{pack}
+use Rattle.assertion.specs.Packed.{pack}
 
 -- its weight, where the variable's name has n bytes
 abbrev pub grantWeight : ℕ → Name → ℕ

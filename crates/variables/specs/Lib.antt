@@ -2,6 +2,5 @@
 pub mod Puts
 pub mod Grants
 pub mod Assignments
-pub mod Looks
 pub mod Extensions
 pub mod Commands

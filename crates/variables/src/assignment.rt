@@ -4,9 +4,9 @@ use super::grants::grant_weight;
 use super::put::Put;
 use super::put::add;
 use super::put::replace;
-use running::Layout;
-use store::mark::Found;
-use store::mark::find;
+use session::Layout;
+use store::index::Found;
+use store::index::find;
 ghost use mathlib.Core.Path.{_≡_};
 ghost use mathlib.Core.List.{List};
 ghost use mathlib.Core.Option.{none};
@@ -17,8 +17,8 @@ ghost use Rattle.language.specs.State.{Value, valueIn};
 ghost use Rattle.language.specs.Identifiers.{isName};
 ghost use Rattle.language.specs.Values.{Session};
 ghost use Rattle.language.specs.Commands.{assign};
-ghost use Rattle.running.specs.Sessions.{slices, Running, SomeRunning};
-ghost use Rattle.running.proofs.Changes.{withOtherLocals, withOtherShared};
+ghost use Rattle.session.specs.Sessions.{slices, Running, SomeRunning};
+ghost use Rattle.session.proofs.Changes.{withOtherLocals, withOtherShared};
 ghost use Rattle.variables.specs.Puts.{Weighs, SomeWeighed};
 ghost use Rattle.variables.specs.Assignments.{SomeShared, SomeNew, Assigns};
 
@@ -32,8 +32,8 @@ pub fn with_locals(l: Layout, len: usize, count: usize, weight: usize) -> Layout
     ensures { λ r. ⌜ r ≡ withOtherLocals l len count weight ⌝ }
 {
     Layout {
-        people_len: l.people_len,
-        people: l.people,
+        principals_len: l.principals_len,
+        principals: l.principals,
         vars_len: l.vars_len,
         vars: l.vars,
         locals_len: len,
@@ -51,8 +51,8 @@ pub fn with_shared(l: Layout, len: usize, count: usize, asserted: usize, weight:
     ensures { λ r. ⌜ r ≡ withOtherShared l len count asserted weight ⌝ }
 {
     Layout {
-        people_len: l.people_len,
-        people: l.people,
+        principals_len: l.principals_len,
+        principals: l.principals,
         vars_len: len,
         vars: count,
         locals_len: l.locals_len,
@@ -67,36 +67,36 @@ pub fn with_shared(l: Layout, len: usize, count: usize, asserted: usize, weight:
 
 // A new shared variable, with what its maker is granted.
 fn make(
-    people: &[u8],
-    people_marks: &[u32],
+    principals: &[u8],
+    principal_slots: &[u32],
     vars: &mut [u8],
-    var_marks: &mut [u32],
-    standing: &mut [u64],
+    variable_slots: &mut [u32],
+    assertions: &mut [u64],
     l: Layout,
     name: &[u8],
     value: &[u8],
     weight: usize,
 ) -> Assigned
-    requires { ⌜ SomeNew l (now people) (now «people_marks») (now vars) (now «var_marks») (now standing) (now name) × T (isName (now name)) × SomeWeighed (now value) weight ⌝ }
+    requires { ⌜ SomeNew l (now principals) (now «principal_slots») (now vars) (now «variable_slots») (now assertions) (now name) × T (isName (now name)) × SomeWeighed (now value) weight ⌝ }
     ensures { λ r. ⌜ ((s : Session) (lo : Text) (lm : List ℕ) (v : Value)
-        → Running s l (slices (now (people .entry)) (now («people_marks» .entry)) (now (vars .entry)) (now («var_marks» .entry)) lo lm (now (standing .entry)))
+        → Running s l (slices (now (principals .entry)) (now («principal_slots» .entry)) (now (vars .entry)) (now («variable_slots» .entry)) lo lm (now (assertions .entry)))
         → valueIn (s .locals) (now (name .entry)) ≡ none → valueIn (s .store .variables) (now (name .entry)) ≡ none → Weighs v (now (value .entry)) weight
-        → Assigns r (assign s (now (name .entry)) v) (slices (now (people .entry)) (now («people_marks» .entry)) (now (vars .exit)) (now («var_marks» .exit)) lo lm (now (standing .exit)))) ⌝ }
+        → Assigns r (assign s (now (name .entry)) v) (slices (now (principals .entry)) (now («principal_slots» .entry)) (now (vars .exit)) (now («variable_slots» .exit)) lo lm (now (assertions .exit)))) ⌝ }
 {
-    let people_len = l.people_len;
+    let principals_len = l.principals_len;
     let sender = l.sender;
     let count = l.vars;
     let extra = grant_weight(
-        &people[..people_len],
-        people_marks,
-        l.people,
+        &principals[..principals_len],
+        principal_slots,
+        l.principals,
         sender,
         name.len(),
     );
     let put = add(
         vars,
         l.vars_len,
-        var_marks,
+        variable_slots,
         count,
         name,
         value,
@@ -106,31 +106,31 @@ fn make(
     let Put::Done { len, weight: w } = put else {
         return Assigned::Full;
     };
-    let asserted = grant(standing, l.asserted, count, sender);
+    let asserted = grant(assertions, l.asserted, count, sender);
     Assigned::Done(with_shared(l, len, count + 1, asserted, w))
 }
 
 // A shared variable, old or new.
 fn assign_shared(
-    people: &[u8],
-    people_marks: &[u32],
+    principals: &[u8],
+    principal_slots: &[u32],
     vars: &mut [u8],
-    var_marks: &mut [u32],
-    standing: &mut [u64],
+    variable_slots: &mut [u32],
+    assertions: &mut [u64],
     l: Layout,
     name: &[u8],
     value: &[u8],
     weight: usize,
 ) -> Assigned
-    requires { ⌜ SomeShared l (now people) (now «people_marks») (now vars) (now «var_marks») (now standing) × T (isName (now name)) × SomeWeighed (now value) weight ⌝ }
+    requires { ⌜ SomeShared l (now principals) (now «principal_slots») (now vars) (now «variable_slots») (now assertions) × T (isName (now name)) × SomeWeighed (now value) weight ⌝ }
     ensures { λ r. ⌜ ((s : Session) (lo : Text) (lm : List ℕ) (v : Value)
-        → Running s l (slices (now (people .entry)) (now («people_marks» .entry)) (now (vars .entry)) (now («var_marks» .entry)) lo lm (now (standing .entry)))
+        → Running s l (slices (now (principals .entry)) (now («principal_slots» .entry)) (now (vars .entry)) (now («variable_slots» .entry)) lo lm (now (assertions .entry)))
         → valueIn (s .locals) (now (name .entry)) ≡ none → Weighs v (now (value .entry)) weight
-        → Assigns r (assign s (now (name .entry)) v) (slices (now (people .entry)) (now («people_marks» .entry)) (now (vars .exit)) (now («var_marks» .exit)) lo lm (now (standing .exit)))) ⌝ }
+        → Assigns r (assign s (now (name .entry)) v) (slices (now (principals .entry)) (now («principal_slots» .entry)) (now (vars .exit)) (now («variable_slots» .exit)) lo lm (now (assertions .exit)))) ⌝ }
 {
     let len = l.vars_len;
     let count = l.vars;
-    let found = find(&vars[..len], var_marks, count, name);
+    let found = find(&vars[..len], variable_slots, count, name);
     let Found::At {
         number,
         start: _,
@@ -138,18 +138,27 @@ fn assign_shared(
     } = found
     else {
         return make(
-            people,
-            people_marks,
+            principals,
+            principal_slots,
             vars,
-            var_marks,
-            standing,
+            variable_slots,
+            assertions,
             l,
             name,
             value,
             weight,
         );
     };
-    let put = replace(vars, len, var_marks, count, number, value, weight, l.weight);
+    let put = replace(
+        vars,
+        len,
+        variable_slots,
+        count,
+        number,
+        value,
+        weight,
+        l.weight,
+    );
     let Put::Done { len: n, weight: w } = put else {
         return Assigned::Full;
     };
@@ -158,28 +167,28 @@ fn assign_shared(
 
 // The variable of that name gets the value whose text is `value`, and which has the weight `weight`.
 pub fn assign(
-    people: &[u8],
-    people_marks: &[u32],
+    principals: &[u8],
+    principal_slots: &[u32],
     vars: &mut [u8],
-    var_marks: &mut [u32],
+    variable_slots: &mut [u32],
     locals: &mut [u8],
-    local_marks: &mut [u32],
-    standing: &mut [u64],
+    local_slots: &mut [u32],
+    assertions: &mut [u64],
     l: Layout,
     name: &[u8],
     value: &[u8],
     weight: usize,
 ) -> Assigned
-    requires { ⌜ SomeRunning l (slices (now people) (now «people_marks») (now vars) (now «var_marks») (now locals) (now «local_marks») (now standing)) ⌝ }
+    requires { ⌜ SomeRunning l (slices (now principals) (now «principal_slots») (now vars) (now «variable_slots») (now locals) (now «local_slots») (now assertions)) ⌝ }
     requires { ⌜ T (isName (now name)) × SomeWeighed (now value) weight ⌝ }
     ensures { λ r. ⌜ ((s : Session) (v : Value)
-        → Running s l (slices (now (people .entry)) (now («people_marks» .entry)) (now (vars .entry)) (now («var_marks» .entry)) (now (locals .entry)) (now («local_marks» .entry)) (now (standing .entry)))
+        → Running s l (slices (now (principals .entry)) (now («principal_slots» .entry)) (now (vars .entry)) (now («variable_slots» .entry)) (now (locals .entry)) (now («local_slots» .entry)) (now (assertions .entry)))
         → Weighs v (now (value .entry)) weight
-        → Assigns r (assign s (now (name .entry)) v) (slices (now (people .entry)) (now («people_marks» .entry)) (now (vars .exit)) (now («var_marks» .exit)) (now (locals .exit)) (now («local_marks» .exit)) (now (standing .exit)))) ⌝ }
+        → Assigns r (assign s (now (name .entry)) v) (slices (now (principals .entry)) (now («principal_slots» .entry)) (now (vars .exit)) (now («variable_slots» .exit)) (now (locals .exit)) (now («local_slots» .exit)) (now (assertions .exit)))) ⌝ }
 {
     let len = l.locals_len;
     let count = l.locals;
-    let found = find(&locals[..len], local_marks, count, name);
+    let found = find(&locals[..len], local_slots, count, name);
     let Found::At {
         number,
         start: _,
@@ -187,11 +196,11 @@ pub fn assign(
     } = found
     else {
         return assign_shared(
-            people,
-            people_marks,
+            principals,
+            principal_slots,
             vars,
-            var_marks,
-            standing,
+            variable_slots,
+            assertions,
             l,
             name,
             value,
@@ -201,7 +210,7 @@ pub fn assign(
     let put = replace(
         locals,
         len,
-        local_marks,
+        local_slots,
         count,
         number,
         value,

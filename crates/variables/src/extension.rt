@@ -4,9 +4,9 @@ use super::assignment::with_locals;
 use super::assignment::with_shared;
 use super::put::Put;
 use super::put::extend;
-use running::Layout;
-use store::mark::Found;
-use store::mark::find;
+use session::Layout;
+use store::index::Found;
+use store::index::find;
 use values::Kind;
 ghost use mathlib.Core.Path.{_≡_};
 ghost use mathlib.Core.List.{List, _++_};
@@ -18,7 +18,7 @@ ghost use Rattle.language.specs.State.{Element, Value, list, valueIn};
 ghost use Rattle.language.specs.Identifiers.{isName};
 ghost use Rattle.language.specs.Values.{Session, lookup};
 ghost use Rattle.language.specs.Commands.{assign, extend};
-ghost use Rattle.running.specs.Sessions.{slices, Running};
+ghost use Rattle.session.specs.Sessions.{slices, Running};
 ghost use Rattle.variables.specs.Puts.{Weighs, SomeWeighed, Extra};
 ghost use Rattle.variables.specs.Assignments.{Assigns};
 ghost use Rattle.variables.specs.Extensions.{Adds, SomeSharedList, SomeList};
@@ -50,25 +50,25 @@ fn elements_of(value: &[u8], weight: usize) -> Elements
 
 // A shared list.
 fn join_shared(
-    people: &[u8],
-    people_marks: &[u32],
+    principals: &[u8],
+    principal_slots: &[u32],
     vars: &mut [u8],
-    var_marks: &mut [u32],
-    standing: &[u64],
+    variable_slots: &mut [u32],
+    assertions: &[u64],
     l: Layout,
     name: &[u8],
     more: &[u8],
     weight: usize,
 ) -> Assigned
-    requires { ⌜ SomeSharedList l (now people) (now «people_marks») (now vars) (now «var_marks») (now standing) (now name) (now more) weight × T (isName (now name)) × (weight ≤ 65536) ⌝ }
+    requires { ⌜ SomeSharedList l (now principals) (now «principal_slots») (now vars) (now «variable_slots») (now assertions) (now name) (now more) weight × T (isName (now name)) × (weight ≤ 65536) ⌝ }
     ensures { λ r. ⌜ ((s : Session) (lo : Text) (lm : List ℕ) (es fs : List Element)
-        → Running s l (slices (now (people .entry)) (now («people_marks» .entry)) (now (vars .entry)) (now («var_marks» .entry)) lo lm (now (standing .entry)))
+        → Running s l (slices (now (principals .entry)) (now («principal_slots» .entry)) (now (vars .entry)) (now («variable_slots» .entry)) lo lm (now (assertions .entry)))
         → valueIn (s .locals) (now (name .entry)) ≡ none → valueIn (s .store .variables) (now (name .entry)) ≡ some (list es) → Extra fs (now (more .entry)) weight
-        → Assigns r (assign s (now (name .entry)) (list (es ++ fs))) (slices (now (people .entry)) (now («people_marks» .entry)) (now (vars .exit)) (now («var_marks» .exit)) lo lm (now (standing .entry)))) ⌝ }
+        → Assigns r (assign s (now (name .entry)) (list (es ++ fs))) (slices (now (principals .entry)) (now («principal_slots» .entry)) (now (vars .exit)) (now («variable_slots» .exit)) lo lm (now (assertions .entry)))) ⌝ }
 {
     let len = l.vars_len;
     let count = l.vars;
-    let found = find(&vars[..len], var_marks, count, name);
+    let found = find(&vars[..len], variable_slots, count, name);
     let Found::At {
         number,
         start: _,
@@ -77,7 +77,16 @@ fn join_shared(
     else {
         return Assigned::Full;
     };
-    let put = extend(vars, len, var_marks, count, number, more, weight, l.weight);
+    let put = extend(
+        vars,
+        len,
+        variable_slots,
+        count,
+        number,
+        more,
+        weight,
+        l.weight,
+    );
     let Put::Done { len: n, weight: w } = put else {
         return Assigned::Full;
     };
@@ -86,31 +95,31 @@ fn join_shared(
 
 // The list of that name gets what the value adds, whose text is `value` and which has the weight `weight`.
 pub fn join(
-    people: &[u8],
-    people_marks: &[u32],
+    principals: &[u8],
+    principal_slots: &[u32],
     vars: &mut [u8],
-    var_marks: &mut [u32],
+    variable_slots: &mut [u32],
     locals: &mut [u8],
-    local_marks: &mut [u32],
-    standing: &[u64],
+    local_slots: &mut [u32],
+    assertions: &[u64],
     l: Layout,
     name: &[u8],
     value: &[u8],
     weight: usize,
 ) -> Assigned
-    requires { ⌜ SomeList l (slices (now people) (now «people_marks») (now vars) (now «var_marks») (now locals) (now «local_marks») (now standing)) (now name) ⌝ }
+    requires { ⌜ SomeList l (slices (now principals) (now «principal_slots») (now vars) (now «variable_slots») (now locals) (now «local_slots») (now assertions)) (now name) ⌝ }
     requires { ⌜ T (isName (now name)) × SomeWeighed (now value) weight ⌝ }
     ensures { λ r. ⌜ ((s : Session) (v : Value) (es : List Element)
-        → Running s l (slices (now (people .entry)) (now («people_marks» .entry)) (now (vars .entry)) (now («var_marks» .entry)) (now (locals .entry)) (now («local_marks» .entry)) (now (standing .entry)))
+        → Running s l (slices (now (principals .entry)) (now («principal_slots» .entry)) (now (vars .entry)) (now («variable_slots» .entry)) (now (locals .entry)) (now («local_slots» .entry)) (now (assertions .entry)))
         → lookup s (now (name .entry)) ≡ some (list es) → Weighs v (now (value .entry)) weight
-        → Assigns r (assign s (now (name .entry)) (list (extend es v))) (slices (now (people .entry)) (now («people_marks» .entry)) (now (vars .exit)) (now («var_marks» .exit)) (now (locals .exit)) (now («local_marks» .exit)) (now (standing .entry)))) ⌝ }
+        → Assigns r (assign s (now (name .entry)) (list (extend es v))) (slices (now (principals .entry)) (now («principal_slots» .entry)) (now (vars .exit)) (now («variable_slots» .exit)) (now (locals .exit)) (now («local_slots» .exit)) (now (assertions .entry)))) ⌝ }
 {
     let more = elements_of(value, weight);
     let from = more.from;
     let to = value.len();
     let len = l.locals_len;
     let count = l.locals;
-    let found = find(&locals[..len], local_marks, count, name);
+    let found = find(&locals[..len], local_slots, count, name);
     let Found::At {
         number,
         start: _,
@@ -118,11 +127,11 @@ pub fn join(
     } = found
     else {
         return join_shared(
-            people,
-            people_marks,
+            principals,
+            principal_slots,
             vars,
-            var_marks,
-            standing,
+            variable_slots,
+            assertions,
             l,
             name,
             &value[from..to],
@@ -132,7 +141,7 @@ pub fn join(
     let put = extend(
         locals,
         len,
-        local_marks,
+        local_slots,
         count,
         number,
         &value[from..to],

@@ -1,9 +1,8 @@
 // The commands set, append and local on a running session.
 pub mod assignment; // a variable holds a value, whichever variable it is
-pub mod extension; // a list gets more elements
-pub mod grants; // what the maker of a variable is granted
-pub mod look; // what a session says of a name and of an expression
-pub mod put; // one text of variables changed, where the session stays light enough
+mod extension; // a list gets more elements
+mod grants; // what the maker of a variable is granted
+mod put; // one text of variables changed, where the session stays light enough
 
 use assignment::Assigned;
 use assignment::assign;
@@ -12,8 +11,8 @@ use evaluate::result::Evaluated;
 use extension::join;
 use put::Put;
 use put::add;
-use running::Layout;
-use running::Verdict;
+use session::Layout;
+use session::Verdict;
 use syntax::value::Expr;
 use text::Span;
 ghost use mathlib.Core.Path.{_≡_};
@@ -31,8 +30,8 @@ ghost use Rattle.language.specs.Values.{Session, isDefined};
 ghost use Rattle.language.specs.Commands.{step, withLocals};
 ghost use Rattle.text.specs.Meaning.{part};
 ghost use Rattle.syntax.specs.Values.{exprMeant};
-ghost use Rattle.running.specs.Sessions.{slices, Running, SomeRunning};
-ghost use Rattle.running.specs.Endings.{Ended};
+ghost use Rattle.session.specs.Sessions.{slices, Running, SomeRunning};
+ghost use Rattle.session.specs.Endings.{Ended};
 ghost use Rattle.variables.specs.Puts.{SomeLying, Weighs, SomeWeighed};
 ghost use Rattle.variables.specs.Assignments.{Assigns, verdictOf};
 ghost use Rattle.variables.specs.Commands.{Names, Scratch};
@@ -48,13 +47,13 @@ fn verdict(a: Assigned) -> Verdict
 
 // set x = e
 pub fn set(
-    people: &[u8],
-    people_marks: &[u32],
+    principals: &[u8],
+    principal_slots: &[u32],
     vars: &mut [u8],
-    var_marks: &mut [u32],
+    variable_slots: &mut [u32],
     locals: &mut [u8],
-    local_marks: &mut [u32],
-    standing: &mut [u64],
+    local_slots: &mut [u32],
+    assertions: &mut [u64],
     value: &mut [u8],
     labels: &mut [u32],
     l: Layout,
@@ -62,22 +61,22 @@ pub fn set(
     x: Span,
     e: Expr,
 ) -> Verdict
-    requires { ⌜ SomeRunning l (slices (now people) (now «people_marks») (now vars) (now «var_marks») (now locals) (now «local_marks») (now standing)) ⌝ }
+    requires { ⌜ SomeRunning l (slices (now principals) (now «principal_slots») (now vars) (now «variable_slots») (now locals) (now «local_slots») (now assertions)) ⌝ }
     requires { ⌜ Names (now text) x e × Scratch (now value) (now labels) ⌝ }
     ensures { λ r. ⌜ ((s : Session) (y : Syntax.Expr)
-        → Running s l (slices (now (people .entry)) (now («people_marks» .entry)) (now (vars .entry)) (now («var_marks» .entry)) (now (locals .entry)) (now («local_marks» .entry)) (now (standing .entry)))
+        → Running s l (slices (now (principals .entry)) (now («principal_slots» .entry)) (now (vars .entry)) (now («variable_slots» .entry)) (now (locals .entry)) (now («local_slots» .entry)) (now (assertions .entry)))
         → exprMeant (now (text .entry)) e ≡ some y
         → Ended r (step s (Syntax.set (part (now (text .entry)) x) y))
-        (slices (now (people .entry)) (now («people_marks» .entry)) (now (vars .exit)) (now («var_marks» .exit)) (now (locals .exit)) (now («local_marks» .exit)) (now (standing .exit)))) ⌝ }
+        (slices (now (principals .entry)) (now («principal_slots» .entry)) (now (vars .exit)) (now («variable_slots» .exit)) (now (locals .exit)) (now («local_slots» .exit)) (now (assertions .exit)))) ⌝ }
 {
-    if !look::may_use(vars, var_marks, standing, l, text, x, e, 1) {
+    if !lookup::may_use(vars, variable_slots, assertions, l, text, x, e, 1) {
         return Verdict::Denied;
     }
-    let v = look::worth(
+    let v = lookup::worth(
         vars,
-        var_marks,
+        variable_slots,
         locals,
-        local_marks,
+        local_slots,
         l,
         text,
         e,
@@ -89,13 +88,13 @@ pub fn set(
             let a = x.start;
             let b = x.end;
             let done = assign(
-                people,
-                people_marks,
+                principals,
+                principal_slots,
                 vars,
-                var_marks,
+                variable_slots,
                 locals,
-                local_marks,
-                standing,
+                local_slots,
+                assertions,
                 l,
                 &text[a..b],
                 &value[..len],
@@ -110,13 +109,13 @@ pub fn set(
 
 // append to x with e
 pub fn append(
-    people: &[u8],
-    people_marks: &[u32],
+    principals: &[u8],
+    principal_slots: &[u32],
     vars: &mut [u8],
-    var_marks: &mut [u32],
+    variable_slots: &mut [u32],
     locals: &mut [u8],
-    local_marks: &mut [u32],
-    standing: &[u64],
+    local_slots: &mut [u32],
+    assertions: &[u64],
     value: &mut [u8],
     labels: &mut [u32],
     l: Layout,
@@ -124,27 +123,27 @@ pub fn append(
     x: Span,
     e: Expr,
 ) -> Verdict
-    requires { ⌜ SomeRunning l (slices (now people) (now «people_marks») (now vars) (now «var_marks») (now locals) (now «local_marks») (now standing)) ⌝ }
+    requires { ⌜ SomeRunning l (slices (now principals) (now «principal_slots») (now vars) (now «variable_slots») (now locals) (now «local_slots») (now assertions)) ⌝ }
     requires { ⌜ Names (now text) x e × Scratch (now value) (now labels) ⌝ }
     ensures { λ r. ⌜ ((s : Session) (y : Syntax.Expr)
-        → Running s l (slices (now (people .entry)) (now («people_marks» .entry)) (now (vars .entry)) (now («var_marks» .entry)) (now (locals .entry)) (now («local_marks» .entry)) (now (standing .entry)))
+        → Running s l (slices (now (principals .entry)) (now («principal_slots» .entry)) (now (vars .entry)) (now («variable_slots» .entry)) (now (locals .entry)) (now («local_slots» .entry)) (now (assertions .entry)))
         → exprMeant (now (text .entry)) e ≡ some y
         → Ended r (step s (Syntax.append-to (part (now (text .entry)) x) y))
-        (slices (now (people .entry)) (now («people_marks» .entry)) (now (vars .exit)) (now («var_marks» .exit)) (now (locals .exit)) (now («local_marks» .exit)) (now (standing .entry)))) ⌝ }
+        (slices (now (principals .entry)) (now («principal_slots» .entry)) (now (vars .exit)) (now («variable_slots» .exit)) (now (locals .exit)) (now («local_slots» .exit)) (now (assertions .entry)))) ⌝ }
 {
-    if !look::may_append(vars, var_marks, standing, l, text, x, e) {
+    if !lookup::may_append(vars, variable_slots, assertions, l, text, x, e) {
         return Verdict::Denied;
     }
     let a = x.start;
     let b = x.end;
-    if !look::is_list(vars, var_marks, locals, local_marks, l, &text[a..b]) {
+    if !lookup::is_list(vars, variable_slots, locals, local_slots, l, &text[a..b]) {
         return Verdict::Failed;
     }
-    let v = look::worth(
+    let v = lookup::worth(
         vars,
-        var_marks,
+        variable_slots,
         locals,
-        local_marks,
+        local_slots,
         l,
         text,
         e,
@@ -154,13 +153,13 @@ pub fn append(
     match v {
         Evaluated::Value { len, weight } => {
             let done = join(
-                people,
-                people_marks,
+                principals,
+                principal_slots,
                 vars,
-                var_marks,
+                variable_slots,
                 locals,
-                local_marks,
-                standing,
+                local_slots,
+                assertions,
                 l,
                 &text[a..b],
                 &value[..len],
@@ -176,23 +175,23 @@ pub fn append(
 // A new local.
 fn declare(
     locals: &mut [u8],
-    local_marks: &mut [u32],
+    local_slots: &mut [u32],
     l: Layout,
     name: &[u8],
     value: &[u8],
     weight: usize,
 ) -> Assigned
-    requires { ⌜ SomeLying (now locals) (l .«locals_len») (l .locals) (now «local_marks») (l .weight) × T (isName (now name)) × SomeWeighed (now value) weight × (l .weight ≤ 8192) ⌝ }
+    requires { ⌜ SomeLying (now locals) (l .«locals_len») (l .locals) (now «local_slots») (l .weight) × T (isName (now name)) × SomeWeighed (now value) weight × (l .weight ≤ 8192) ⌝ }
     ensures { λ r. ⌜ ((s : Session) (pe : Text) (pm : List ℕ) (sv : Text) (sm st : List ℕ) (v : Value)
-        → Running s l (slices pe pm sv sm (now (locals .entry)) (now («local_marks» .entry)) st)
+        → Running s l (slices pe pm sv sm (now (locals .entry)) (now («local_slots» .entry)) st)
         → isDefined s (now (name .entry)) ≡ false → Weighs v (now (value .entry)) weight
-        → Assigns r (withLocals s (put (now (name .entry)) v (s .locals))) (slices pe pm sv sm (now (locals .exit)) (now («local_marks» .exit)) st)) ⌝ }
+        → Assigns r (withLocals s (put (now (name .entry)) v (s .locals))) (slices pe pm sv sm (now (locals .exit)) (now («local_slots» .exit)) st)) ⌝ }
 {
     let count = l.locals;
     let put = add(
         locals,
         l.locals_len,
-        local_marks,
+        local_slots,
         count,
         name,
         value,
@@ -207,13 +206,13 @@ fn declare(
 
 // local x = e
 pub fn local(
-    people: &[u8],
-    people_marks: &[u32],
+    principals: &[u8],
+    principal_slots: &[u32],
     vars: &[u8],
-    var_marks: &[u32],
+    variable_slots: &[u32],
     locals: &mut [u8],
-    local_marks: &mut [u32],
-    standing: &[u64],
+    local_slots: &mut [u32],
+    assertions: &[u64],
     value: &mut [u8],
     labels: &mut [u32],
     l: Layout,
@@ -221,27 +220,27 @@ pub fn local(
     x: Span,
     e: Expr,
 ) -> Verdict
-    requires { ⌜ SomeRunning l (slices (now people) (now «people_marks») (now vars) (now «var_marks») (now locals) (now «local_marks») (now standing)) ⌝ }
+    requires { ⌜ SomeRunning l (slices (now principals) (now «principal_slots») (now vars) (now «variable_slots») (now locals) (now «local_slots») (now assertions)) ⌝ }
     requires { ⌜ Names (now text) x e × (length (now value) ≡ 45056) × (length (now labels) ≡ 4096) ⌝ }
     ensures { λ r. ⌜ ((s : Session) (y : Syntax.Expr)
-        → Running s l (slices (now (people .entry)) (now («people_marks» .entry)) (now (vars .entry)) (now («var_marks» .entry)) (now (locals .entry)) (now («local_marks» .entry)) (now (standing .entry)))
+        → Running s l (slices (now (principals .entry)) (now («principal_slots» .entry)) (now (vars .entry)) (now («variable_slots» .entry)) (now (locals .entry)) (now («local_slots» .entry)) (now (assertions .entry)))
         → exprMeant (now (text .entry)) e ≡ some y
         → Ended r (step s (Syntax.local (part (now (text .entry)) x) y))
-        (slices (now (people .entry)) (now («people_marks» .entry)) (now (vars .entry)) (now («var_marks» .entry)) (now (locals .exit)) (now («local_marks» .exit)) (now (standing .entry)))) ⌝ }
+        (slices (now (principals .entry)) (now («principal_slots» .entry)) (now (vars .entry)) (now («variable_slots» .entry)) (now (locals .exit)) (now («local_slots» .exit)) (now (assertions .entry)))) ⌝ }
 {
-    if !look::may_read(vars, var_marks, standing, l, text, e) {
+    if !lookup::may_read(vars, variable_slots, assertions, l, text, e) {
         return Verdict::Denied;
     }
     let a = x.start;
     let b = x.end;
-    if look::is_defined(vars, var_marks, locals, local_marks, l, &text[a..b]) {
+    if lookup::is_defined(vars, variable_slots, locals, local_slots, l, &text[a..b]) {
         return Verdict::Failed;
     }
-    let v = look::worth(
+    let v = lookup::worth(
         vars,
-        var_marks,
+        variable_slots,
         locals,
-        local_marks,
+        local_slots,
         l,
         text,
         e,
@@ -250,7 +249,7 @@ pub fn local(
     );
     match v {
         Evaluated::Value { len, weight } => {
-            let done = declare(locals, local_marks, l, &text[a..b], &value[..len], weight);
+            let done = declare(locals, local_slots, l, &text[a..b], &value[..len], weight);
             verdict(done)
         }
         Evaluated::Missing => Verdict::Failed,

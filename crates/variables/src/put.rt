@@ -27,11 +27,11 @@ pub enum Put {
 }
 
 // What the value of a variable weighs.
-fn weight_of(text: &[u8], marks: &[u32], count: usize, number: usize) -> usize
-    requires { ⌜ SomeValid (now text) count (now marks) × (number < count) ⌝ }
-    ensures { λ r. ⌜ ((vs : List Variable) → Variables vs (now (text .entry)) count (now (marks .entry)) → T (all validVariable vs) → r ≡ valueWeight (variableAt vs number .value)) ⌝ }
+fn weight_of(text: &[u8], slots: &[u32], count: usize, number: usize) -> usize
+    requires { ⌜ SomeValid (now text) count (now slots) × (number < count) ⌝ }
+    ensures { λ r. ⌜ ((vs : List Variable) → Variables vs (now (text .entry)) count (now (slots .entry)) → T (all validVariable vs) → r ≡ valueWeight (variableAt vs number .value)) ⌝ }
 {
-    let at = value_of(text, marks, count, number);
+    let at = value_of(text, slots, count, number);
     let a = at.start;
     let b = at.end;
     values::weigh(&text[a..b])
@@ -41,24 +41,24 @@ fn weight_of(text: &[u8], marks: &[u32], count: usize, number: usize) -> usize
 pub fn replace(
     buf: &mut [u8],
     len: usize,
-    marks: &mut [u32],
+    slots: &mut [u32],
     count: usize,
     number: usize,
     value: &[u8],
     weight: usize,
     total: usize,
 ) -> Put
-    requires { ⌜ SomeNamed (now buf) len count (now marks) total number × SomeWeighed (now value) weight × (total ≤ limit) ⌝ }
-    ensures { λ r. ⌜ ((vs : List Variable) (x : Name) (v : Value) → Lies vs (now (buf .entry)) len count (now (marks .entry)) total
+    requires { ⌜ SomeNamed (now buf) len count (now slots) total number × SomeWeighed (now value) weight × (total ≤ limit) ⌝ }
+    ensures { λ r. ⌜ ((vs : List Variable) (x : Name) (v : Value) → Lies vs (now (buf .entry)) len count (now (slots .entry)) total
         → number ≡ position (variableNames vs) x → Weighs v (now (value .entry)) weight
-        → Becomes vs (put x v vs) total r (now (buf .exit)) count (now (marks .exit))) ⌝ }
+        → Becomes vs (put x v vs) total r (now (buf .exit)) count (now (slots .exit))) ⌝ }
 {
-    let old = weight_of(&buf[..len], marks, count, number);
+    let old = weight_of(&buf[..len], slots, count, number);
     let after = total - old + weight;
     if 8192 < after {
         return Put::Full;
     }
-    let n = set_value(buf, len, marks, count, number, value);
+    let n = set_value(buf, len, slots, count, number, value);
     Put::Done {
         len: n,
         weight: after,
@@ -69,23 +69,23 @@ pub fn replace(
 pub fn add(
     buf: &mut [u8],
     len: usize,
-    marks: &mut [u32],
+    slots: &mut [u32],
     count: usize,
     name: &[u8],
     value: &[u8],
     weight: usize,
     total: usize,
 ) -> Put
-    requires { ⌜ SomeLying (now buf) len count (now marks) total × SomeWeighed (now value) weight × T (isName (now name)) × (total ≤ 65536) ⌝ }
-    ensures { λ r. ⌜ ((vs : List Variable) (v : Value) → Lies vs (now (buf .entry)) len count (now (marks .entry)) total
+    requires { ⌜ SomeLying (now buf) len count (now slots) total × SomeWeighed (now value) weight × T (isName (now name)) × (total ≤ 65536) ⌝ }
+    ensures { λ r. ⌜ ((vs : List Variable) (v : Value) → Lies vs (now (buf .entry)) len count (now (slots .entry)) total
         → valueIn vs (now (name .entry)) ≡ none → Weighs v (now (value .entry)) weight
-        → Becomes vs (put (now (name .entry)) v vs) total r (now (buf .exit)) (count + 1) (now (marks .exit))) ⌝ }
+        → Becomes vs (put (now (name .entry)) v vs) total r (now (buf .exit)) (count + 1) (now (slots .exit))) ⌝ }
 {
     let after = total + 1 + name.len() + weight;
     if 8192 < after {
         return Put::Full;
     }
-    let n = add_variable(buf, len, marks, count, name, value);
+    let n = add_variable(buf, len, slots, count, name, value);
     Put::Done {
         len: n,
         weight: after,
@@ -96,23 +96,23 @@ pub fn add(
 pub fn extend(
     buf: &mut [u8],
     len: usize,
-    marks: &mut [u32],
+    slots: &mut [u32],
     count: usize,
     number: usize,
     more: &[u8],
     weight: usize,
     total: usize,
 ) -> Put
-    requires { ⌜ SomeListed (now buf) len count (now marks) total number (now more) weight × (total ≤ limit) × (weight ≤ 65536) ⌝ }
-    ensures { λ r. ⌜ ((vs : List Variable) (x : Name) (es fs : List Element) → Lies vs (now (buf .entry)) len count (now (marks .entry)) total
+    requires { ⌜ SomeListed (now buf) len count (now slots) total number (now more) weight × (total ≤ limit) × (weight ≤ 65536) ⌝ }
+    ensures { λ r. ⌜ ((vs : List Variable) (x : Name) (es fs : List Element) → Lies vs (now (buf .entry)) len count (now (slots .entry)) total
         → number ≡ position (variableNames vs) x → valueIn vs x ≡ some (list es) → Extra fs (now (more .entry)) weight
-        → Becomes vs (put x (list (es ++ fs)) vs) total r (now (buf .exit)) count (now (marks .exit))) ⌝ }
+        → Becomes vs (put x (list (es ++ fs)) vs) total r (now (buf .exit)) count (now (slots .exit))) ⌝ }
 {
     let after = total + weight;
     if 8192 < after {
         return Put::Full;
     }
-    let n = append_value(buf, len, marks, count, number, more);
+    let n = append_value(buf, len, slots, count, number, more);
     Put::Done {
         len: n,
         weight: after,

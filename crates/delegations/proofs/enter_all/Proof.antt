@@ -9,7 +9,7 @@ use Rattle.language.specs.Values.{Session}
 use Rattle.language.specs.Commands.{assertionsOn, entering}
 use Rattle.store.specs.Rows.{principalRow, variableRow}
 use Rattle.store.proofs.Holders.{principals-rows, variables-rows, some-principals, some-variables}
-use Rattle.running.specs.Sessions.{slices, Running}
+use Rattle.session.specs.Sessions.{slices, Running}
 use Rattle.delegations.specs.declared.Entered.{Entered}
 use Rattle.delegations.specs.Entering.{Asserts, Delegates, Ends, entered}
 use Rattle.delegations.proofs.Lists.{assertionAt}
@@ -18,19 +18,20 @@ use Rattle.delegations.proofs.enter_all.Statement.{statement}
 use Rattle.delegations.proofs.enter_all.Tie as tie
 
 abbrev Inv-loop : tie.InvT-loop
-Inv-loop people people-marks vars var-marks locals local-marks standing₀ targets count q right p people-len principals vars-len variables pair k₀ i₀ standing k i =
-    (i ≤ count) × (length standing ≡ length standing₀) × ((s : Session) (xs : List Name) (from : Name) (of : Right) (to : Name)
-    → Delegates s k₀ (slices people people-marks vars var-marks locals local-marks standing₀) targets count q right p xs from of to
-    → Running (entered s (assertionsOn (take i xs) from of to)) k (slices people people-marks vars var-marks locals local-marks standing))
+Inv-loop principals principal-slots vars variable-slots locals local-slots assertions₀ targets count q right p principals-len principal-count vars-len variables pair k₀ i₀ assertions k i =
+    (i ≤ count) × (length assertions ≡ length assertions₀) × ((s : Session) (xs : List Name) (from : Name) (of : Right) (to : Name)
+    → Delegates s k₀ (slices principals principal-slots vars variable-slots locals local-slots assertions₀) targets count q right p xs from of to
+    → Running (entered s (assertionsOn (take i xs) from of to)) k (slices principals principal-slots vars variable-slots locals local-slots assertions))
 
 abbrev μ-loop : tie.MeasureT-loop
-μ-loop people people-marks vars var-marks locals local-marks standing₀ targets count q right p people-len principals vars-len variables pair k₀ i₀ standing k i =
+μ-loop principals principal-slots vars variable-slots locals local-slots assertions₀ targets count q right p principals-len principal-count vars-len variables pair k₀ i₀ assertions k i =
     count - i
 
 short : (c : tie.After-variable Inv-loop μ-loop) → (c .variable .result ≤ 255) × (c .before .before .before .before .pair .result ≤ 510)
 short c =
-    let a = c .before .before .before .before .before .before .before .before .before .before .before .before .before .args in
-    let P = c .before .before .before .before .before .before .before .before .before .before .before .before .before .pre in
+    let start = c .before .before .before .before .before .before .before .before .before .before .before .before .before in
+    let a = start .args in
+    let P = start .pre in
     let s = P .session in
     let R = P .delegates .running in (
       target-short s (a .l) _ (a .targets .now) (a .count) (a .q) (a .right) (a .p) (P .variables-named) (P .from) (P .of-right) (P .to) (P .delegates) (c .before .before .before .loop .i) (c .before .before .loop-test .taken) _
@@ -39,55 +40,70 @@ short c =
           (c .before .before .before .before .pair .ensures (map principalRow (s .store .principals)) (principals-rows (s .store .principals) _ _ _ (R .principals))),
     )
 
-one : (c : tie.After-packed Inv-loop μ-loop) (s : Session) (xs : List Name) (from : Name) (of : Right) (to : Name) → let a = c .before .before .before .before .before .before .before .before .before .before .before .before .before .before .args in let l = c .before .before .before .before .loop in
-    Delegates s (a .l) (slices (a .people .now) (a .people-marks .now) (a .vars .now) (a .var-marks .now) (a .locals .now) (a .local-marks .now) (a .standing .now)) (a .targets .now) (a .count) (a .q) (a .right) (a .p) xs from of to
-    → Asserts (entered s (assertionsOn (take (l .i) xs) from of to)) (l .k) (slices (a .people .now) (a .people-marks .now) (a .vars .now) (a .var-marks .now) (a .locals .now) (a .local-marks .now) (l .standing)) (l .standing)
+one : (c : tie.After-packed Inv-loop μ-loop) (s : Session) (xs : List Name) (from : Name) (of : Right) (to : Name)
+    → let a = c .before .before .before .before .before .before .before .before .before .before .before .before .before .before .args in let l = c .before .before .before .before .loop in
+    Delegates s (a .l) (slices (a .principals .now) (a .principal-slots .now) (a .vars .now) (a .variable-slots .now) (a .locals .now) (a .local-slots .now) (a .assertions .now)) (a .targets .now) (a .count) (a .q) (a .right) (a .p) xs from of to
+    → Asserts (entered s (assertionsOn (take (l .i) xs) from of to)) (l .k) (slices (a .principals .now) (a .principal-slots .now) (a .vars .now) (a .variable-slots .now) (a .locals .now) (a .local-slots .now) (l .assertions)) (l .assertions)
     (assertionAt xs from of to (l .i)) (c .packed .result) (c .before .variable .result + 1 + c .before .before .before .before .before .pair .result)
 one c s xs from of to D =
-    let a = c .before .before .before .before .before .before .before .before .before .before .before .before .before .before .args in
+    let back-5 = c .before .before .before .before .before in
+    let start = back-5 .before .before .before .before .before .before .before .before .before in
+    let a = start .args in
     let l = c .before .before .before .before .loop in
     let R = D .running in
     asserts-at s (a .l) _ (a .targets .now) (a .count) (a .q) (a .right) (a .p) xs from of to D (l .i) (c .before .before .before .loop-test .taken)
-    (entering (s .store .assertions) (assertionsOn (take (l .i) xs) from of to)) (l .k) (l .standing) (c .packed .result) (c .before .variable .result + 1 + c .before .before .before .before .before .pair .result) (c .before .before .before .before .before .pair .result)
+    (entering (s .store .assertions) (assertionsOn (take (l .i) xs) from of to)) (l .k) (l .assertions) (c .packed .result) (c .before .variable .result + 1 + back-5 .pair .result) (back-5 .pair .result)
     (l .inv .2 s xs from of to D) (c .packed .ensures)
-    (c .before .before .before .before .before .pair .ensures (map principalRow (s .store .principals)) (principals-rows (s .store .principals) _ _ _ (R .principals)))
-    (ap (λ (n : ℕ). n + 1 + c .before .before .before .before .before .pair .result) (c .before .variable .ensures (map variableRow (s .store .variables)) (variables-rows (s .store .variables) _ _ _ (R .variables))))
+    (back-5 .pair .ensures (map principalRow (s .store .principals)) (principals-rows (s .store .principals) _ _ _ (R .principals)))
+    (ap (λ (n : ℕ). n + 1 + back-5 .pair .result) (c .before .variable .ensures (map variableRow (s .store .variables)) (variables-rows (s .store .variables) _ _ _ (R .variables))))
 
-next-ends : (c : tie.After-enter-one Inv-loop μ-loop) (s : Session) (xs : List Name) (from : Name) (of : Right) (to : Name) → let a = c .before .before .before .before .before .before .before .before .before .before .before .before .before .before .before .before .args in let l = c .before .before .before .before .before .before .loop in
-    Delegates s (a .l) (slices (a .people .now) (a .people-marks .now) (a .vars .now) (a .var-marks .now) (a .locals .now) (a .local-marks .now) (a .standing .now)) (a .targets .now) (a .count) (a .q) (a .right) (a .p) xs from of to
+-- the function's start, as these places see it
+abbrev start-after-enter-one : tie.After-enter-one Inv-loop μ-loop → tie.Start Inv-loop μ-loop
+start-after-enter-one c = c .before .before .before .before .before .before .before .before .before .before .before .before .before .before .before .before
+
+next-ends : (c : tie.After-enter-one Inv-loop μ-loop) (s : Session) (xs : List Name) (from : Name) (of : Right) (to : Name) → let a = (start-after-enter-one c) .args in let l = c .before .before .before .before .before .before .loop in
+    Delegates s (a .l) (slices (a .principals .now) (a .principal-slots .now) (a .vars .now) (a .variable-slots .now) (a .locals .now) (a .local-slots .now) (a .assertions .now)) (a .targets .now) (a .count) (a .q) (a .right) (a .p) xs from of to
     → (r : Entered) → c .enter-one .result ≡ r → Ends r (entered (entered s (assertionsOn (take (l .i) xs) from of to)) (assertionAt xs from of to (l .i) ∷ []))
-    (slices (a .people .now) (a .people-marks .now) (a .vars .now) (a .var-marks .now) (a .locals .now) (a .local-marks .now) (c .enter-one .last .0))
+    (slices (a .principals .now) (a .principal-slots .now) (a .vars .now) (a .variable-slots .now) (a .locals .now) (a .local-slots .now) (c .enter-one .last .0))
 next-ends c s xs from of to D r e =
-    let a = c .before .before .before .before .before .before .before .before .before .before .before .before .before .before .before .before .args in
-    let l = c .before .before .before .before .before .before .loop in
+    let back-6 = c .before .before .before .before .before .before in
+    let start = back-6 .before .before .before .before .before .before .before .before .before .before in
+    let a = start .args in
+    let l = back-6 .loop in
     subst (λ (r : Entered). Ends r (entered (entered s (assertionsOn (take (l .i) xs) from of to)) (assertionAt xs from of to (l .i) ∷ []))
-    (slices (a .people .now) (a .people-marks .now) (a .vars .now) (a .var-marks .now) (a .locals .now) (a .local-marks .now) (c .enter-one .last .0))) e
+    (slices (a .principals .now) (a .principal-slots .now) (a .vars .now) (a .variable-slots .now) (a .locals .now) (a .local-slots .now) (c .enter-one .last .0))) e
     (c .enter-one .ensures _ _ _ (one (c .before .before) s xs from of to D))
 
 pair-requires : tie.Need-pair-requires Inv-loop μ-loop
 pair-requires c κs =
-    let st = c .before .before .before .before .before .before .before .before in
+    let back-8 = c .before .before .before .before .before .before .before .before in
+    let st = back-8 in
     let a = st .args in
     let D = st .pre .delegates in
     let s = st .pre .session in
     let R = D .running in
-    (R .people-within, some-principals (s .store .principals) _ _ _ (R .principals), principal-below s (a .l) _ R (st .pre .from) (a .q) (D .giver), principal-below s (a .l) _ R (st .pre .to) (a .p) (D .taker))
+    (R .principals-within, some-principals (s .store .principals) _ _ _ (R .principals), principal-below s (a .l) _ R (st .pre .from) (a .q) (D .giver), principal-below s (a .l) _ R (st .pre .to) (a .p) (D .taker))
 
 loop-holds : tie.Need-loop-holds Inv-loop μ-loop
 loop-holds c = (omega arith, refl, λ s xs from of to D. D .running)
 
 mul-x : tie.Need-mul-x Inv-loop μ-loop
-mul-x c = let w = c .before .before .before .before .before .before .before .before .before .before .before .pre .delegates .within in omega (arith, w)
+mul-x c =
+    let start = c .before .before .before .before .before .before .before .before .before .before .before in
+    let w = start .pre .delegates .within in omega (arith, w)
 
 shared-slice-read-x : tie.Need-shared-slice-read-x Inv-loop μ-loop
-shared-slice-read-x c = let w = c .before .before .before .before .before .before .before .before .before .before .before .before .pre .delegates .within in omega (arith, w)
+shared-slice-read-x c =
+    let start = c .before .before .before .before .before .before .before .before .before .before .before .before in
+    let w = start .pre .delegates .within in omega (arith, w)
 
 cast-x : tie.Need-cast-x Inv-loop μ-loop
 cast-x c = omega (arith, c .shared-slice-known8 .given (c .before .before .loop .i))
 
 variable-requires : tie.Need-variable-requires Inv-loop μ-loop
 variable-requires c κs =
-    let st = c .before .before .before .before .before .before .before .before .before .before .before .before in
+    let back-12 = c .before .before .before .before .before .before .before .before .before .before .before .before in
+    let st = back-12 in
     let a = st .args in
     let P = st .pre in
     let R = P .delegates .running in
@@ -102,7 +118,8 @@ add-weight-2 c = let h = short (c) in omega (arith, h .0, h .1)
 
 packed-requires : tie.Need-packed-requires Inv-loop μ-loop
 packed-requires c κs =
-    let st = c .before .before .before .before .before .before .before .before .before .before .before .before .before in
+    let back-13 = c .before .before .before .before .before .before .before .before .before .before .before .before .before in
+    let st = back-13 in
     let a = st .args in
     let P = st .pre in
     let s = P .session in
@@ -116,7 +133,8 @@ packed-requires c κs =
 
 enter-one-requires : tie.Need-enter-one-requires Inv-loop μ-loop
 enter-one-requires c κs =
-    let P = c .before .before .before .before .before .before .before .before .before .before .before .before .before .before .before .pre in
+    let start = c .before .before .before .before .before .before .before .before .before .before .before .before .before .before .before in
+    let P = start .pre in
     record { session = _; buffers = _; assertion = _; asserts = one (c .before) (P .session) (P .variables-named) (P .from) (P .of-right) (P .to) (P .delegates) }
 
 enum-known-next : tie.Need-enum-known-next Inv-loop μ-loop
@@ -126,36 +144,52 @@ enum-told : tie.Need-enum-told Inv-loop μ-loop
 enum-told c = search needs
 
 same-length : tie.Need-same-length Inv-loop μ-loop
-same-length c = c .before .before .before .before .enter-one .kept .0 ∙ c .before .before .before .before .before .before .before .before .before .before .loop .inv .1
+same-length c =
+    let back-10 = c .before .before .before .before .before .before .before .before .before .before in
+    c .before .before .before .before .enter-one .kept .0 ∙ back-10 .loop .inv .1
 
 returns : tie.Need-returns Inv-loop μ-loop
 returns c s xs from of to D =
-    let a = c .before .before .before .before .before .before .before .before .before .before .before .before .before .before .before .before .before .before .before .before .args in
-    entered-over s (a .l) _ (a .targets .now) (a .count) (a .q) (a .right) (a .p) xs from of to D (c .before .before .before .before .before .before .before .before .before .before .loop .i) (c .before .before .before .before .before .before .before .before .before .loop-test .taken)
+    let back-9 = c .before .before .before .before .before .before .before .before .before in
+    let back-10 = back-9 .before in
+    let start = back-10 .before .before .before .before .before .before .before .before .before .before in
+    let a = start .args in
+    entered-over s (a .l) _ (a .targets .now) (a .count) (a .q) (a .right) (a .p) xs from of to D (back-10 .loop .i) (back-9 .loop-test .taken)
     (next-ends (c .before .before .before .before) s xs from of to D _ (c .enum-told .given .1))
 
 add-i : tie.Need-add-i Inv-loop μ-loop
-add-i c = let h : c .before .before .before .before .before .before .before .before .before .before .before .loop .i < c .before .before .before .before .before .before .before .before .before .before .before .before .before .before .before .before .before .before .before .before .before .args .count = c .before .before .before .before .before .before .before .before .before .before .loop-test .taken in omega (arith, h, c .before .before .before .before .before .before .before .before .before .before .before .before .before .before .before .before .before .before .before .before .before .fits .count)
+add-i c =
+    let back-10 = c .before .before .before .before .before .before .before .before .before .before in
+    let back-11 = back-10 .before in
+    let start = back-11 .before .before .before .before .before .before .before .before .before .before in
+    let h : back-11 .loop .i < start .args .count = back-10 .loop-test .taken in omega (arith, h, start .fits .count)
 
 loop-less : tie.Need-loop-less Inv-loop μ-loop
-loop-less c = omega (arith, c .before .before .before .before .before .before .before .before .before .before .loop-test .taken)
+loop-less c =
+    let back-10 = c .before .before .before .before .before .before .before .before .before .before in
+    omega (arith, back-10 .loop-test .taken)
 
 loop-again : tie.Need-loop-again Inv-loop μ-loop
-loop-again c = (
-  omega (arith, c .before .before .before .before .before .before .before .before .before .before .loop-test .taken),
-  c .before .before .before .before .before .enter-one .kept .0 ∙ c .before .before .before .before .before .before .before .before .before .before .before .loop .inv .1,
-  λ s xs from of to D.
-      let a = c .before .before .before .before .before .before .before .before .before .before .before .before .before .before .before .before .before .before .before .before .before .args in
-      entered-next s (a .l) _ (a .targets .now) (a .count) (a .q) (a .right) (a .p) xs from of to D (c .before .before .before .before .before .before .before .before .before .before .before .loop .i) (c .before .before .before .before .before .before .before .before .before .before .loop-test .taken) (c .before .next .given .0 .0) _
-      (next-ends (c .before .before .before .before .before) s xs from of to D _ (c .before .next .given .1)),
-)
+loop-again c =
+    let back-5 = c .before .before .before .before .before in
+    let back-10 = back-5 .before .before .before .before .before in
+    let back-11 = back-10 .before in
+    let start = back-11 .before .before .before .before .before .before .before .before .before .before in (
+      omega (arith, back-10 .loop-test .taken),
+      back-5 .enter-one .kept .0 ∙ back-11 .loop .inv .1,
+      λ s xs from of to D.
+          let a = start .args in
+          entered-next s (a .l) _ (a .targets .now) (a .count) (a .q) (a .right) (a .p) xs from of to D (back-11 .loop .i) (back-10 .loop-test .taken) (c .before .next .given .0 .0) _
+          (next-ends back-5 s xs from of to D _ (c .before .next .given .1)),
+    )
 
 same-length-2 : tie.Need-same-length-2 Inv-loop μ-loop
 same-length-2 c = c .before .loop .inv .1
 
 returns-2 : tie.Need-returns-2 Inv-loop μ-loop
 returns-2 c s xs from of to D =
-    let a = c .before .before .before .before .before .before .before .before .before .before .before .args in
+    let start = c .before .before .before .before .before .before .before .before .before .before .before in
+    let a = start .args in
     entered-last s (a .l) _ (a .targets .now) (a .count) (a .q) (a .right) (a .p) xs from of to D (c .before .loop .i) (c .loop-test .left) (c .before .loop .k) _ (c .before .loop .inv .2 s xs from of to D)
 
 pub enter-all-spec : {M : Type 1} → statement M

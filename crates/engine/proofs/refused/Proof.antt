@@ -11,8 +11,12 @@ use Rattle.engine.specs.Ends.{RestWithin, unlessBroken}
 use Rattle.engine.proofs.refused.Statement.{statement}
 use Rattle.engine.proofs.refused.Tie as tie
 
-is-there : (c : tie.After-body-at) (b : Bool) → c .body-at .result ≡ b → b ≡ present (restFrom (now (c .before .before .before .before .before .args .text)) (c .before .before .before .before .before .args .rest))
-is-there c b is = sym is ∙ c .body-at .ensures ∙ sym (ap (λ (r : Rest). present (restFrom (now (c .before .before .before .before .before .args .text)) r)) (c .before .before .rest .given .1))
+-- the function's start, as these places see it
+abbrev start-after-body-at : tie.After-body-at → tie.Start
+start-after-body-at c = c .before .before .before .before .before
+
+is-there : (c : tie.After-body-at) (b : Bool) → c .body-at .result ≡ b → b ≡ present (restFrom (now (start-after-body-at c .args .text)) (start-after-body-at c .args .rest))
+is-there c b is = sym is ∙ c .body-at .ensures ∙ sym (ap (λ (r : Rest). present (restFrom (now (start-after-body-at c .args .text)) r)) (c .before .before .rest .given .1))
 
 enum-known-rest : tie.Need-enum-known-rest
 enum-known-rest c = search needs
@@ -24,13 +28,19 @@ returns : tie.Need-returns
 returns c = search needs
 
 body-at-requires : tie.Need-body-at-requires
-body-at-requires c κs = subst (RestWithin (now (c .before .before .before .before .args .text))) (c .before .rest .given .1) (c .before .before .before .before .pre)
+body-at-requires c κs =
+    let start = c .before .before .before .before in
+    subst (RestWithin (now (start .args .text))) (c .before .rest .given .1) (start .pre)
 
 returns-2 : tie.Need-returns-2
-returns-2 c = ap (λ (b : Bool). unlessBroken b (c .before .before .before .before .before .before .args .how)) (is-there (c .before) true (c .if1 .taken))
+returns-2 c =
+    let start = c .before .before .before .before .before .before in
+    ap (λ (b : Bool). unlessBroken b (start .args .how)) (is-there (c .before) true (c .if1 .taken))
 
 returns-3 : tie.Need-returns-3
-returns-3 c = ap (λ (b : Bool). unlessBroken b (c .before .before .before .before .before .before .args .how)) (is-there (c .before) false (c .if1 .left))
+returns-3 c =
+    let start = c .before .before .before .before .before .before in
+    ap (λ (b : Bool). unlessBroken b (start .args .how)) (is-there (c .before) false (c .if1 .left))
 
 pub refused-spec : {M : Type 1} → statement M
 refused-spec =

@@ -38,9 +38,11 @@ shared-slice-read-if2 c = search needs
 
 returns-2 : tie.Need-returns-2 Inv-loop μ-loop
 returns-2 c =
-    let a = c .before .before .before .before .before .before .args in
-    let i = c .before .before .before .before .before .loop .i in
-    omega (arith, c .before .before .before .before .before .loop .inv, ap length (run-stop isDigit (now (a .text)) i (search needs) (digit-high (getD (now (a .text)) i 0) (c .if2 .taken))))
+    let back-5 = c .before .before .before .before .before in
+    let start = back-5 .before in
+    let a = start .args in
+    let i = back-5 .loop .i in
+    omega (arith, back-5 .loop .inv, ap length (run-stop isDigit (now (a .text)) i (search needs) (digit-high (getD (now (a .text)) i 0) (c .if2 .taken))))
 
 add-i : tie.Need-add-i Inv-loop μ-loop
 add-i c = search needs
@@ -50,9 +52,11 @@ loop-less c = search needs
 
 loop-again : tie.Need-loop-again Inv-loop μ-loop
 loop-again c =
-    let a = c .before .before .before .before .before .before .args in
-    let i = c .before .before .before .before .before .loop .i in
-    omega (arith, c .before .before .before .before .before .loop .inv, ap length (run-on isDigit (now (a .text)) i (search needs) (digit-in (getD (now (a .text)) i 0) (c .before .before .if1 .left) (c .if2 .left))))
+    let back-5 = c .before .before .before .before .before in
+    let start = back-5 .before in
+    let a = start .args in
+    let i = back-5 .loop .i in
+    omega (arith, back-5 .loop .inv, ap length (run-on isDigit (now (a .text)) i (search needs) (digit-in (getD (now (a .text)) i 0) (c .before .before .if1 .left) (c .if2 .left))))
 
 returns-3 : tie.Need-returns-3 Inv-loop μ-loop
 returns-3 c =

@@ -24,7 +24,8 @@ is-letter-requires c κs = search needs
 
 returns-3 : tie.Need-returns-3
 returns-3 c =
-    let w = now (c .before .before .before .before .before .before .args .w) in
+    let start = c .before .before .before .before .before .before in
+    let w = now (start .args .w) in
     sym (name-start w (sym (c .before .is-letter .ensures) ∙ not-true _ (c .if3 .taken)))
 
 is-keyword-requires : tie.Need-is-keyword-requires
@@ -32,9 +33,10 @@ is-keyword-requires c κs = search needs
 
 returns-4 : tie.Need-returns-4
 returns-4 c =
-    let w = now (c .before .before .before .before .before .before .before .args .w) in
+    let start = c .before .before .before .before .before .before .before in
+    let w = now (start .args .w) in
     let l : isLetter (class (getD w 0 0)) ≡ true = sym (c .before .before .is-letter .ensures) ∙ not-false _ (c .before .if3 .left) in
-    ap not (c .is-keyword .ensures) ∙ sym (name-kept w (omega arith) (omega arith) l (c .before .before .before .before .before .before .before .pre))
+    ap not (c .is-keyword .ensures) ∙ sym (name-kept w (omega arith) (omega arith) l (start .pre))
 
 pub is-name-spec : {M : Type 1} → statement M
 is-name-spec =

@@ -7,8 +7,10 @@ use lib.Dec.{T}
 use Rattle.language.specs.Text.{all}
 use Rattle.language.specs.Bytes.{wordByte}
 use Rattle.language.specs.Identifiers.{isName}
-use Rattle.lines.specs.Cuts.{CutMeant, Field, part}
-use Rattle.lines.proofs.Cuts.{name-word, narrower, refused}
+use Rattle.lines.specs.Cuts.{CutMeant, Field}
+use Rattle.text.specs.Parts.{part}
+use Rattle.lines.proofs.Cuts.{narrower, refused}
+use Rattle.language.proofs.StateText.Clean.{name-word}
 use borrow.Author.Needs.{needs}
 use Rattle.lines.proofs.name_end.Statement.{statement}
 use Rattle.lines.proofs.name_end.Tie as tie
@@ -17,9 +19,13 @@ use Rattle.lines.proofs.name_end.Lts as lts
 use Rattle.lines.proofs.is_name.Reads as is-name-reads
 use Rattle.lines.proofs.run_cut.Reads as run-cut-reads
 
-field : (c : tie.After-cut) → let a = c .before .before .before .before .args in Field (all wordByte) (a .stop) (now (a .text)) (a .at) (c .cut .given .0 .0)
+-- the function's start, as these places see it
+abbrev start-after-cut : tie.After-cut → tie.Start
+start-after-cut c = c .before .before .before .before
+
+field : (c : tie.After-cut) → let a = (start-after-cut c) .args in Field (all wordByte) (a .stop) (now (a .text)) (a .at) (c .cut .given .0 .0)
 field c =
-    let a = c .before .before .before .before .args in
+    let a = (start-after-cut c) .args in
     subst (λ k. CutMeant (all wordByte) (a .stop) (now (a .text)) (a .at) k) (c .cut .given .1) (c .before .before .run-cut .ensures)
 
 run-cut-requires : tie.Need-run-cut-requires
@@ -50,16 +56,20 @@ is-name-requires c κs = field (c .before .before) .is-fine
 
 returns-2 : tie.Need-returns-2
 returns-2 c =
-    let a = c .before .before .before .before .before .before .before .before .args in
-    let e = c .before .before .before .before .cut .given .0 .0 in
-    refused wordByte isName name-word (a .stop) (c .before .before .before .before .before .before .before .before .pre .1) (now (a .text)) (a .at) e (field (c .before .before .before .before)) (sym (c .before .is-name .ensures) ∙ not-true _ (c .if1 .taken))
+    let back-4 = c .before .before .before .before in
+    let start = back-4 .before .before .before .before in
+    let a = start .args in
+    let e = back-4 .cut .given .0 .0 in
+    refused wordByte isName name-word (a .stop) (start .pre .1) (now (a .text)) (a .at) e (field back-4) (sym (c .before .is-name .ensures) ∙ not-true _ (c .if1 .taken))
 
 returns-3 : tie.Need-returns-3
 returns-3 c =
-    let a = c .before .before .before .before .before .before .before .before .args in
-    let e = c .before .before .before .before .cut .given .0 .0 in
+    let back-4 = c .before .before .before .before in
+    let start = back-4 .before .before .before .before in
+    let a = start .args in
+    let e = back-4 .cut .given .0 .0 in
     let n : isName (part (now (a .text)) (a .at) e) ≡ true = sym (c .before .is-name .ensures) ∙ not-false _ (c .if1 .left) in
-    narrower wordByte isName name-word (a .stop) (c .before .before .before .before .before .before .before .before .pre .1) (now (a .text)) (a .at) e (field (c .before .before .before .before)) (subst (λ (b : Bool). T b) (sym n) tt)
+    narrower wordByte isName name-word (a .stop) (start .pre .1) (now (a .text)) (a .at) e (field back-4) (subst (λ (b : Bool). T b) (sym n) tt)
 
 pub name-end-spec : {M : Type 1} → statement M
 name-end-spec =

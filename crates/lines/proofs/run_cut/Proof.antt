@@ -22,15 +22,18 @@ shared-slice-read-if2 : tie.Need-shared-slice-read-if2
 shared-slice-read-if2 c = search needs
 
 returns-2 : tie.Need-returns-2
-returns-2 c = λ x r h d.
-    let a = c .before .before .before .before .before .args in
-    let f = found (inAlphabet (a .a)) (a .stop) (c .before .before .before .before .before .pre .1) (now (a .text)) (a .at) (c .before .before .before .run-end .result) (c .before .before .before .before .before .pre .0) (c .before .before .before .run-end .ensures .0) x r h d in
+returns-2 c =
+    let start = c .before .before .before .before .before in
+    λ x r h d.
+    let a = start .args in
+    let f = found (inAlphabet (a .a)) (a .stop) (start .pre .1) (now (a .text)) (a .at) (c .before .before .before .run-end .result) (start .pre .0) (c .before .before .before .run-end .ensures .0) x r h d in
     c .if2 .taken (f .1)
 
 returns-3 : tie.Need-returns-3
 returns-3 c =
-    let a = c .before .before .before .before .before .args in
-    is-field (inAlphabet (a .a)) (a .stop) (c .before .before .before .before .before .pre .1) (now (a .text)) (a .at) (c .before .before .before .run-end .result) (c .before .before .before .before .before .pre .0) (c .before .before .before .run-end .ensures .0) (omega arith) (c .if2 .left)
+    let start = c .before .before .before .before .before in
+    let a = start .args in
+    is-field (inAlphabet (a .a)) (a .stop) (start .pre .1) (now (a .text)) (a .at) (c .before .before .before .run-end .result) (start .pre .0) (c .before .before .before .run-end .ensures .0) (omega arith) (c .if2 .left)
 
 pub run-cut-spec : {M : Type 1} → statement M
 run-cut-spec =

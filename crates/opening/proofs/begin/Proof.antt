@@ -1,7 +1,7 @@
 -- `opening::begin` meets its contract. Two copies; all else is as the check of the state's buffer left it.
 -- Assumes nothing.
 use native.Mathlib.Omega.{arith}
-use Rattle.opening.proofs.Copies.{people-fit, begun}
+use Rattle.opening.proofs.Copies.{principals-fit, begun}
 use borrow.Author.Needs.{needs}
 use Rattle.opening.proofs.begin.Statement.{statement}
 use Rattle.opening.proofs.begin.Tie as tie
@@ -17,9 +17,10 @@ part-copy-in-end c = search needs
 
 copy-in-requires : tie.Need-copy-in-requires
 copy-in-requires c κs =
-    let a = c .before .before .before .before .before .before .before .before .before .before .args in
-    let P = c .before .before .before .before .before .before .before .before .before .before .pre .0 in
-    omega (arith, c .before .before .before .before .before .before .before .before .before .before .pre .1 .people-size, people-fit (a .state .now) (a .people-marks .now) (a .var-marks .now) (a .standing .now) (a .parts) (P .state) (P .represents) (P .is-valid))
+    let start = c .before .before .before .before .before .before .before .before .before .before in
+    let a = start .args in
+    let P = start .pre .0 in
+    omega (arith, start .pre .1 .principals-size, principals-fit (a .state .now) (a .principal-slots .now) (a .variable-slots .now) (a .assertions .now) (a .parts) (P .state) (P .represents) (P .is-valid))
 
 sub-copy-in-2 : tie.Need-sub-copy-in-2
 sub-copy-in-2 c = search needs
@@ -41,9 +42,11 @@ same-length-2 c = search needs
 
 returns : tie.Need-returns
 returns c s p R v e k =
-    let a = c .before .before .before .before .before .before .before .before .before .before .before .before .before .before .before .before .before .before .args in
-    begun (a .state .now) (a .people-marks .now) (a .var-marks .now) (a .standing .now) (a .parts) s R v (a .people .now) _ (a .vars .now) _ (a .locals .now) (a .local-marks .now) _ _
-    (c .before .before .before .before .before .before .before .before .before .before .before .before .before .before .before .before .before .before .pre .1) (c .before .before .before .before .before .before .before .copy-in .ensures) (c .before .before .copy-in2 .ensures) p (a .sender) e k
+    let back-7 = c .before .before .before .before .before .before .before in
+    let start = back-7 .before .before .before .before .before .before .before .before .before .before .before in
+    let a = start .args in
+    begun (a .state .now) (a .principal-slots .now) (a .variable-slots .now) (a .assertions .now) (a .parts) s R v (a .principals .now) _ (a .vars .now) _ (a .locals .now) (a .local-slots .now) _ _
+    (start .pre .1) (back-7 .copy-in .ensures) (c .before .before .copy-in2 .ensures) p (a .sender) e k
 
 pub begin-spec : {M : Type 1} → statement M
 begin-spec =

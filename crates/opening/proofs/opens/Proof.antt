@@ -13,18 +13,26 @@ use borrow.Author.Needs.{needs}
 use Rattle.opening.proofs.opens.Statement.{statement}
 use Rattle.opening.proofs.opens.Tie as tie
 
-kept-at : (c : tie.After-kept) (ks : List Principal) → let a = c .before .before .before .before .before .before .args in Principals ks (a .people .now) (a .count) (a .marks .now)
-    → PasswordAt ks (a .people .now) (a .number) (Kept (c .kept .given .0 .0) (c .kept .given .0 .1 .0))
-kept-at c ks K = let a = c .before .before .before .before .before .before .args in subst (PasswordAt ks (a .people .now) (a .number)) (c .kept .given .1) (c .before .before .password-of .ensures ks K)
+-- the function's start, as these places see it
+abbrev start-after-kept : tie.After-kept → tie.Start
+start-after-kept c = c .before .before .before .before .before .before
 
-within : (c : tie.After-kept) → PasswordIn (c .before .before .before .before .before .before .args .people .now) (Kept (c .kept .given .0 .0) (c .kept .given .0 .1 .0))
-within c = let P = c .before .before .before .before .before .before .pre .0 in kept-at c (P .principals) (P .held) .within
+kept-at : (c : tie.After-kept) (ks : List Principal) → let a = (start-after-kept c) .args in Principals ks (a .principals .now) (a .count) (a .slots .now)
+    → PasswordAt ks (a .principals .now) (a .number) (Kept (c .kept .given .0 .0) (c .kept .given .0 .1 .0))
+kept-at c ks K =
+    let start = start-after-kept c in
+    let a = start .args in subst (PasswordAt ks (a .principals .now) (a .number)) (c .kept .given .1) (c .before .before .password-of .ensures ks K)
+
+within : (c : tie.After-kept) → PasswordIn (start-after-kept c .args .principals .now) (Kept (c .kept .given .0 .0) (c .kept .given .0 .1 .0))
+within c =
+    let start = start-after-kept c in
+    let P = start .pre .0 in kept-at c (P .principals) (P .held) .within
 
 password-of-requires : tie.Need-password-of-requires
 password-of-requires c κs =
     let a = c .before .before .before .args in
     let P = c .before .before .before .pre in
-    (some-principals (P .0 .principals) (a .people .now) (a .count) (a .marks .now) (P .0 .held), P .1)
+    (some-principals (P .0 .principals) (a .principals .now) (a .count) (a .slots .now) (P .0 .held), P .1)
 
 enum-known-kept : tie.Need-enum-known-kept
 enum-known-kept c = search needs
@@ -45,12 +53,15 @@ enum-told : tie.Need-enum-told
 enum-told c = search needs
 
 returns : tie.Need-returns
-returns c ks K = c .same-bytes .ensures ∙ ap (Run.opens (c .before .before .before .before .before .before .before .before .before .args .password .now)) (kept-at (c .before .before .before) ks K .meant)
+returns c ks K =
+    let start = c .before .before .before .before .before .before .before .before .before in
+    c .same-bytes .ensures ∙ ap (Run.opens (start .args .password .now)) (kept-at (c .before .before .before) ks K .meant)
 
 returns-2 : tie.Need-returns-2
 returns-2 c ks K =
-    let a = c .before .before .before .before .before .before .args in
-    let A : PasswordAt ks (a .people .now) (a .number) Absent = subst (PasswordAt ks (a .people .now) (a .number)) (c .enum-told .given .1) (c .before .before .password-of .ensures ks K) in
+    let start = c .before .before .before .before .before .before in
+    let a = start .args in
+    let A : PasswordAt ks (a .principals .now) (a .number) Absent = subst (PasswordAt ks (a .principals .now) (a .number)) (c .enum-told .given .1) (c .before .before .password-of .ensures ks K) in
     ap (Run.opens (a .password .now)) (A .meant)
 
 pub opens-spec : {M : Type 1} → statement M

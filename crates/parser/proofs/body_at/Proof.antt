@@ -21,14 +21,19 @@ abbrev μ-loop : tie.MeasureT-loop
 μ-loop text at p₀ p =
     length text - p
 
-first : (c : tie.After-read Inv-loop μ-loop) (r : Rest) → c .read .given .0 .1 .0 ≡ r → First (now (c .before .before .before .before .before .args .text)) (c .before .before .before .loop .p) (c .read .given .0 .0) r
-first c r is =
-    known (First (now (c .before .before .before .before .before .args .text)) (c .before .before .before .loop .p) (c .read .given .0 .0)) (known (ReadFrom (now (c .before .before .before .before .before .args .text)) (c .before .before .before .loop .p)) (c .before .before .read-at .ensures) (c .read .given .1)) is
+-- the function's start, as these places see it
+abbrev start-after-read : tie.After-read Inv-loop μ-loop → tie.Start Inv-loop μ-loop
+start-after-read c = c .before .before .before .before .before
 
-going : (c : tie.After-read Inv-loop μ-loop) (r : Rest) → c .read .given .0 .1 .0 ≡ r → present (bodyFrom (now (c .before .before .before .before .before .args .text)) (c .before .before .before .before .before .args .at)) ≡ present (restFrom (now (c .before .before .before .before .before .args .text)) r)
+first : (c : tie.After-read Inv-loop μ-loop) (r : Rest) → c .read .given .0 .1 .0 ≡ r → First (now (start-after-read c .args .text)) (c .before .before .before .loop .p) (c .read .given .0 .0) r
+first c r is =
+    let start = start-after-read c in
+    known (First (now (start .args .text)) (c .before .before .before .loop .p) (c .read .given .0 .0)) (known (ReadFrom (now (start .args .text)) (c .before .before .before .loop .p)) (c .before .before .read-at .ensures) (c .read .given .1)) is
+
+going : (c : tie.After-read Inv-loop μ-loop) (r : Rest) → c .read .given .0 .1 .0 ≡ r → present (bodyFrom (now (start-after-read c .args .text)) (start-after-read c .args .at)) ≡ present (restFrom (now (start-after-read c .args .text)) r)
 going c r is =
     let F = first c r is in
-    c .before .before .before .loop .inv .1 ∙ ap present (F .all) ∙ bound (restFrom (now (c .before .before .before .before .before .args .text)) r) (λ cs. F .command ∷ cs)
+    c .before .before .before .loop .inv .1 ∙ ap present (F .all) ∙ bound (restFrom (now (start-after-read c .args .text)) r) (λ cs. F .command ∷ cs)
 
 loop-holds : tie.Need-loop-holds Inv-loop μ-loop
 loop-holds c = search needs
@@ -58,7 +63,9 @@ loop-less : tie.Need-loop-less Inv-loop μ-loop
 loop-less c = let q = first (c .before .before .before .before) _ (c .before .rest .given .1) .placed in omega (arith, q .0, q .1)
 
 loop-again : tie.Need-loop-again Inv-loop μ-loop
-loop-again c = let q = first (c .before .before .before .before) _ (c .before .rest .given .1) .placed in (q .1, going (c .before .before .before .before) _ (c .before .rest .given .1))
+loop-again c =
+    let back-4 = c .before .before .before .before in
+    let q = first back-4 _ (c .before .rest .given .1) .placed in (q .1, going back-4 _ (c .before .rest .given .1))
 
 pub body-at-spec : {M : Type 1} → statement M
 body-at-spec =

@@ -21,8 +21,12 @@ parsed c r is =
     let t = now (c .before .before .before .args .text) in
     parse-is t (omega arith) ∙ ap (λ (z : Option (List (List Token))). z >>= program) (c .next-line .ensures .0 ∙ ap (stepMeant t) is)
 
-placed : (c : tie.After-step) → StepPlaced (now (c .before .before .before .before .before .args .text)) 0 (StepIs.Tokens (c .step .given .0 .0) (c .step .given .0 .1 .0))
-placed c = known (StepPlaced (now (c .before .before .before .before .before .args .text)) 0) (c .before .before .next-line .ensures .1) (c .step .given .1)
+-- the function's start, as these places see it
+abbrev start-after-step : tie.After-step → tie.Start
+start-after-step c = c .before .before .before .before .before
+
+placed : (c : tie.After-step) → StepPlaced (now (start-after-step c .args .text)) 0 (StepIs.Tokens (c .step .given .0 .0) (c .step .given .0 .1 .0))
+placed c = known (StepPlaced (now (start-after-step c .args .text)) 0) (c .before .before .next-line .ensures .1) (c .step .given .1)
 
 returns : tie.Need-returns
 returns c = (parse-long (now (c .before .before .args .text)) (c .if1 .taken), tt)
@@ -44,9 +48,11 @@ enum-told c = search needs
 
 returns-2 : tie.Need-returns-2
 returns-2 c =
-    let t = now (c .before .before .before .before .before .before .before .before .before .args .text) in
+    let back-6 = c .before .before .before .before .before .before in
+    let start = back-6 .before .before .before in
+    let t = now (start .args .text) in
     let g = c .before .before .before .before .step .given in
-    (parsed (c .before .before .before .before .before .before) _ (g .1) ∙ no-login (lex (drop (g .0 .0) t)) (lexedFrom t (g .0 .1 .0)) (told (loginMeant t) (c .before .before .login-line .ensures .0) (c .enum-told .given .1)), tt)
+    (parsed back-6 _ (g .1) ∙ no-login (lex (drop (g .0 .0) t)) (lexedFrom t (g .0 .1 .0)) (told (loginMeant t) (c .before .before .login-line .ensures .0) (c .enum-told .given .1)), tt)
 
 enum-told-2 : tie.Need-enum-told-2
 enum-told-2 c = search needs
@@ -56,13 +62,16 @@ enum-told-3 c = search needs
 
 returns-3 : tie.Need-returns-3
 returns-3 c =
-    let t = now (c .before .before .before .before .before .before .before .before .before .before .args .text) in
-    let g = c .before .before .before .before .before .step .given in
+    let back-5 = c .before .before .before .before .before in
+    let back-7 = back-5 .before .before in
+    let start = back-7 .before .before .before in
+    let t = now (start .args .text) in
+    let g = back-5 .step .given in
     let x = c .before .before .before .login-line in
     let k = c .before .first .given in
     let p = known (LoginWithin t) (x .ensures .1) (k .1) in (
-      parsed (c .before .before .before .before .before .before .before) _ (g .1) ∙ with-login (lex (drop (g .0 .0) t)) (lexedFrom t (g .0 .1 .0)) (told (loginMeant t) (x .ensures .0) (k .1)),
-      (p .0, p .1, placed (c .before .before .before .before .before) .2, omega arith),
+      parsed back-7 _ (g .1) ∙ with-login (lex (drop (g .0 .0) t)) (lexedFrom t (g .0 .1 .0)) (told (loginMeant t) (x .ensures .0) (k .1)),
+      (p .0, p .1, placed back-5 .2, omega arith),
     )
 
 returns-4 : tie.Need-returns-4

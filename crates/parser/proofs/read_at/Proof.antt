@@ -21,11 +21,22 @@ use Rattle.parser.proofs.read_at.Tie as tie
 after-comments : (c : tie.After-next-line) (r : Step) → c .next-line .result ≡ r → lexedFrom (now (c .before .before .args .text)) (c .before .before .args .at) ≡ stepMeant (now (c .before .before .args .text)) r
 after-comments c r is = c .next-line .ensures .0 ∙ ap (stepMeant (now (c .before .before .args .text))) is
 
-placed : (c : tie.After-step) → StepPlaced (now (c .before .before .before .before .args .text)) (c .before .before .before .before .args .at) (StepIs.Tokens (c .step .given .0 .0) (c .step .given .0 .1 .0))
-placed c = known (StepPlaced (now (c .before .before .before .before .args .text)) (c .before .before .before .before .args .at)) (c .before .before .next-line .ensures .1) (c .step .given .1)
+-- the function's start, as these places see it
+abbrev start-after-step : tie.After-step → tie.Start
+start-after-step c = c .before .before .before .before
 
-no-command : (c : tie.After-enum-told) → whole anyCommand (lex (drop (c .before .before .before .before .step .given .0 .0) (now (c .before .before .before .before .before .before .before .before .args .text)))) ≡ none
-no-command c = told (lineReadMeant (now (c .before .before .before .before .before .before .before .before .args .text))) (c .before .before .command-line .ensures .0) (c .enum-told .given .1)
+abbrev start-after-enum-told : tie.After-enum-told → tie.Start
+start-after-enum-told c = c .before .before .before .before .before .before .before .before
+
+placed : (c : tie.After-step) → StepPlaced (now (start-after-step c .args .text)) (start-after-step c .args .at) (StepIs.Tokens (c .step .given .0 .0) (c .step .given .0 .1 .0))
+placed c =
+    let start = start-after-step c in
+    known (StepPlaced (now (start .args .text)) (start .args .at)) (c .before .before .next-line .ensures .1) (c .step .given .1)
+
+no-command : (c : tie.After-enum-told) → whole anyCommand (lex (drop (c .before .before .before .before .step .given .0 .0) (now (start-after-enum-told c .args .text)))) ≡ none
+no-command c =
+    let start = start-after-enum-told c in
+    told (lineReadMeant (now (start .args .text))) (c .before .before .command-line .ensures .0) (c .enum-told .given .1)
 
 next-line-requires : tie.Need-next-line-requires
 next-line-requires c κs = search needs
@@ -41,12 +52,15 @@ enum-known-line c = search needs
 
 returns : tie.Need-returns
 returns c =
-    let t = now (c .before .before .before .before .before .before .before .before .before .args .text) in
-    let q = placed (c .before .before .before .before .before) in
-    let g = c .before .before .before .before .before .step .given in
+    let back-5 = c .before .before .before .before .before in
+    let back-7 = back-5 .before .before in
+    let start = back-7 .before .before in
+    let t = now (start .args .text) in
+    let q = placed back-5 in
+    let g = back-5 .step .given in
     let x = c .before .before .before .command-line in
     let k = c .before .line .given in
-    first-command t (c .before .before .before .before .before .before .before .before .before .args .at) (g .0 .0) (g .0 .1 .0) (q .0) (q .1) (q .2) (after-comments (c .before .before .before .before .before .before .before) _ (g .1)) (k .0 .0)
+    first-command t (start .args .at) (g .0 .0) (g .0 .1 .0) (q .0) (q .1) (q .2) (after-comments back-7 _ (g .1)) (k .0 .0)
     (known (LineWithin t) (x .ensures .1) (k .1)) (told (lineReadMeant t) (x .ensures .0) (k .1))
 
 enum-told : tie.Need-enum-told
@@ -63,22 +77,31 @@ enum-told-2 c = search needs
 
 returns-2 : tie.Need-returns-2
 returns-2 c =
-    let t = now (c .before .before .before .before .before .before .before .before .before .before .before .args .text) in
-    let q = placed (c .before .before .before .before .before .before .before) in
-    let g = c .before .before .before .before .before .before .before .step .given in
-    neither t (c .before .before .before .before .before .before .before .before .before .before .before .args .at) (g .0 .0) (g .0 .1 .0) (q .0) (q .1) (q .2) (after-comments (c .before .before .before .before .before .before .before .before .before) _ (g .1)) (no-command (c .before .before .before))
+    let back-7 = c .before .before .before .before .before .before .before in
+    let back-9 = back-7 .before .before in
+    let start = back-9 .before .before in
+    let t = now (start .args .text) in
+    let q = placed back-7 in
+    let g = back-7 .step .given in
+    neither t (start .args .at) (g .0 .0) (g .0 .1 .0) (q .0) (q .1) (q .2) (after-comments back-9 _ (g .1)) (no-command (c .before .before .before))
     (told (lineReadMeant t) (c .before .before .ending-line .ensures .0) (c .enum-told2 .given .1))
 
 stars-at-requires : tie.Need-stars-at-requires
-stars-at-requires c κs = placed (c .before .before .before .before .before .before .before .before) .2
+stars-at-requires c κs =
+    let back-8 = c .before .before .before .before .before .before .before .before in
+    placed back-8 .2
 
 returns-3 : tie.Need-returns-3
 returns-3 c =
-    let t = now (c .before .before .before .before .before .before .before .before .before .before .before .before .before .before .args .text) in
-    let q = placed (c .before .before .before .before .before .before .before .before .before .before) in
-    let g = c .before .before .before .before .before .before .before .before .before .before .step .given in
+    let back-6 = c .before .before .before .before .before .before in
+    let back-10 = back-6 .before .before .before .before in
+    let back-12 = back-10 .before .before in
+    let start = back-12 .before .before in
+    let t = now (start .args .text) in
+    let q = placed back-10 in
+    let g = back-10 .step .given in
     let x = c .before .stars-at in
-    no-stars t (c .before .before .before .before .before .before .before .before .before .before .before .before .before .before .args .at) (g .0 .0) (g .0 .1 .0) (q .0) (q .1) (q .2) (after-comments (c .before .before .before .before .before .before .before .before .before .before .before .before) _ (g .1)) (no-command (c .before .before .before .before .before .before))
+    no-stars t (start .args .at) (g .0 .0) (g .0 .1 .0) (q .0) (q .1) (q .2) (after-comments back-12 _ (g .1)) (no-command back-6)
     (sym (x .ensures) ∙ not-true (x .result) (c .if1 .taken))
 
 enum-told-3 : tie.Need-enum-told-3
@@ -89,13 +112,17 @@ enum-told-4 c = search needs
 
 returns-4 : tie.Need-returns-4
 returns-4 c =
-    let t = now (c .before .before .before .before .before .before .before .before .before .before .before .before .before .before .args .text) in
-    let q = placed (c .before .before .before .before .before .before .before .before .before .before) in
-    let g = c .before .before .before .before .before .before .before .before .before .before .step .given in
+    let back-6 = c .before .before .before .before .before .before in
+    let back-10 = back-6 .before .before .before .before in
+    let back-12 = back-10 .before .before in
+    let start = back-12 .before .before in
+    let t = now (start .args .text) in
+    let q = placed back-10 in
+    let g = back-10 .step .given in
     let x = c .before .stars-at in
     let y = c .before .before .before .before .before .ending-line in
     let k = c .before .before .before .ending .given in
-    first-ending t (c .before .before .before .before .before .before .before .before .before .before .before .before .before .before .args .at) (g .0 .0) (g .0 .1 .0) (q .0) (q .1) (q .2) (after-comments (c .before .before .before .before .before .before .before .before .before .before .before .before) _ (g .1)) (no-command (c .before .before .before .before .before .before)) (k .0 .0)
+    first-ending t (start .args .at) (g .0 .0) (g .0 .1 .0) (q .0) (q .1) (q .2) (after-comments back-12 _ (g .1)) (no-command back-6) (k .0 .0)
     (known (LineWithin t) (y .ensures .1) (k .1)) (told (lineReadMeant t) (y .ensures .0) (k .1)) (sym (x .ensures) ∙ not-false (x .result) (c .if1 .left))
 
 returns-5 : tie.Need-returns-5

@@ -20,10 +20,15 @@ abbrev μ-loop : tie.MeasureT-loop
 μ-loop text at kinds₀ p₀ n₀ kinds p n =
     length text - p
 
-first : (c : tie.After-read Inv-loop μ-loop) (r : Rest) → c .read .given .0 .1 .0 ≡ r → First (c .before .before .before .before .before .before .args .text .now) (c .before .before .before .loop .p) (c .read .given .0 .0) r
+-- the function's start, as these places see it
+abbrev start-after-read : tie.After-read Inv-loop μ-loop → tie.Start Inv-loop μ-loop
+start-after-read c = c .before .before .before .before .before .before
+
+first : (c : tie.After-read Inv-loop μ-loop) (r : Rest) → c .read .given .0 .1 .0 ≡ r → First (start-after-read c .args .text .now) (c .before .before .before .loop .p) (c .read .given .0 .0) r
 first c r is =
-    known (First (c .before .before .before .before .before .before .args .text .now) (c .before .before .before .loop .p) (c .read .given .0 .0))
-    (known (ReadFrom (c .before .before .before .before .before .before .args .text .now) (c .before .before .before .loop .p)) (c .before .before .read-at .ensures) (c .read .given .1)) is
+    let start = start-after-read c in
+    known (First (start .args .text .now) (c .before .before .before .loop .p) (c .read .given .0 .0))
+    (known (ReadFrom (start .args .text .now) (c .before .before .before .loop .p)) (c .before .before .read-at .ensures) (c .read .given .1)) is
 
 loop-holds : tie.Need-loop-holds Inv-loop μ-loop
 loop-holds c = begins _ _ _ (c .before .before .pre .0)
@@ -38,19 +43,30 @@ enum-told : tie.Need-enum-told Inv-loop μ-loop
 enum-told c = search needs
 
 same-length : tie.Need-same-length Inv-loop μ-loop
-same-length c = below (c .before .before .before .before .before .before .args .text .now) (c .before .before .before .before .before .before .args .at) (c .before .before .before .before .before .before .args .kinds .now) (c .before .before .before .loop .kinds) (c .before .before .before .loop .p) (c .before .before .before .loop .n) (c .before .before .before .before .before .before .pre .1) (c .before .before .before .before .before .before .pre .2) (c .before .before .before .loop .inv)
+same-length c =
+    let start = c .before .before .before .before .before .before in
+    below (start .args .text .now) (start .args .at) (start .args .kinds .now) (c .before .before .before .loop .kinds) (c .before .before .before .loop .p) (c .before .before .before .loop .n) (start .pre .1) (start .pre .2) (c .before .before .before .loop .inv)
 
 returns : tie.Need-returns Inv-loop μ-loop
-returns c cs e = not-broken (c .before .before .before .before .before .before .args .text .now) (c .before .before .before .before .before .before .args .at) (c .before .before .before .before .before .before .args .kinds .now) (c .before .before .before .loop .kinds) (c .before .before .before .loop .p) (c .before .before .before .loop .n) (c .before .before .before .before .before .before .pre .1) (c .before .before .before .before .before .before .pre .2) (c .before .before .before .loop .inv) (known (ReadFrom (c .before .before .before .before .before .before .args .text .now) (c .before .before .before .loop .p)) (c .before .before .read-at .ensures) (c .enum-told .given .1))
+returns c cs e =
+    let start = c .before .before .before .before .before .before in
+    not-broken (start .args .text .now) (start .args .at) (start .args .kinds .now) (c .before .before .before .loop .kinds) (c .before .before .before .loop .p) (c .before .before .before .loop .n) (start .pre .1) (start .pre .2)
+    (c .before .before .before .loop .inv) (known (ReadFrom (start .args .text .now) (c .before .before .before .loop .p)) (c .before .before .read-at .ensures) (c .enum-told .given .1))
 
 kind-requires : tie.Need-kind-requires Inv-loop μ-loop
 kind-requires c κs = search needs
 
 slice-write-kinds : tie.Need-slice-write-kinds Inv-loop μ-loop
-slice-write-kinds c = write-fits (c .before .before .before .before .before .before .before .before .args .text .now) (c .before .before .before .before .before .before .before .before .args .at) (c .before .before .before .before .before .before .before .before .args .kinds .now) (c .before .before .before .before .before .loop .kinds) (c .before .before .before .before .before .loop .p) (c .before .before .before .before .before .loop .n) (c .before .before .before .before .before .before .before .before .pre .1) (c .before .before .before .before .before .before .before .before .pre .2) (c .before .before .before .before .before .loop .inv) (c .before .before .read .given .0 .0) _ (first (c .before .before) _ refl)
+slice-write-kinds c =
+    let back-5 = c .before .before .before .before .before in
+    let start = back-5 .before .before .before in
+    write-fits (start .args .text .now) (start .args .at) (start .args .kinds .now) (back-5 .loop .kinds) (back-5 .loop .p) (back-5 .loop .n) (start .pre .1) (start .pre .2) (back-5 .loop .inv) (c .before .before .read .given .0 .0) _ (first (c .before .before) _ refl)
 
 add-n : tie.Need-add-n Inv-loop μ-loop
-add-n c = omega (arith, c .before .before .before .before .before .loop .inv .pace, c .before .before .before .before .before .loop .inv .within, c .before .before .before .before .before .before .before .before .pre .1)
+add-n c =
+    let back-5 = c .before .before .before .before .before in
+    let start = back-5 .before .before .before in
+    omega (arith, back-5 .loop .inv .pace, back-5 .loop .inv .within, start .pre .1)
 
 enum-known-rest : tie.Need-enum-known-rest Inv-loop μ-loop
 enum-known-rest c = search needs
@@ -59,20 +75,30 @@ enum-told-2 : tie.Need-enum-told-2 Inv-loop μ-loop
 enum-told-2 c = search needs
 
 same-length-2 : tie.Need-same-length-2 Inv-loop μ-loop
-same-length-2 c = ap length (ap (λ (b : ℕ). put (c .before .before .before .before .before .before .before .loop .kinds) (c .before .before .before .before .before .before .before .loop .n) b) (c .before .before .kind .ensures)) ∙ length-set (c .before .before .before .before .before .before .before .loop .kinds) (c .before .before .before .before .before .before .before .loop .n) _ ∙ below (c .before .before .before .before .before .before .before .before .before .before .args .text .now) (c .before .before .before .before .before .before .before .before .before .before .args .at) (c .before .before .before .before .before .before .before .before .before .before .args .kinds .now) (c .before .before .before .before .before .before .before .loop .kinds) (c .before .before .before .before .before .before .before .loop .p) (c .before .before .before .before .before .before .before .loop .n) (c .before .before .before .before .before .before .before .before .before .before .pre .1) (c .before .before .before .before .before .before .before .before .before .before .pre .2) (c .before .before .before .before .before .before .before .loop .inv)
+same-length-2 c =
+    let back-7 = c .before .before .before .before .before .before .before in
+    let start = back-7 .before .before .before in
+    ap length (ap (λ (b : ℕ). put (back-7 .loop .kinds) (back-7 .loop .n) b) (c .before .before .kind .ensures)) ∙ length-set (back-7 .loop .kinds) (back-7 .loop .n) _ ∙ below (start .args .text .now) (start .args .at)
+    (start .args .kinds .now) (back-7 .loop .kinds) (back-7 .loop .p) (back-7 .loop .n) (start .pre .1) (start .pre .2) (back-7 .loop .inv)
 
 returns-2 : tie.Need-returns-2 Inv-loop μ-loop
 returns-2 c cs e =
-    subst (λ (b : ℕ). Listed cs (c .before .before .before .before .before .before .before .before .before .before .args .kinds .now) (put (c .before .before .before .before .before .before .before .loop .kinds) (c .before .before .before .before .before .before .before .loop .n) b) (c .before .before .before .before .before .before .before .loop .n + 1)) (sym (c .before .before .kind .ensures))
-    (ends (c .before .before .before .before .before .before .before .before .before .before .args .text .now) (c .before .before .before .before .before .before .before .before .before .before .args .at) (c .before .before .before .before .before .before .before .before .before .before .args .kinds .now) (c .before .before .before .before .before .before .before .loop .kinds) (c .before .before .before .before .before .before .before .loop .p) (c .before .before .before .before .before .before .before .loop .n) (c .before .before .before .before .before .before .before .before .before .before .pre .1) (c .before .before .before .before .before .before .before .before .before .before .pre .2) (c .before .before .before .before .before .before .before .loop .inv) (c .before .before .before .before .read .given .0 .0) (first (c .before .before .before .before) _ (c .enum-told2 .given .1)) cs e)
+    let back-4 = c .before .before .before .before in
+    let back-7 = back-4 .before .before .before in
+    let start = back-7 .before .before .before in
+    subst (λ (b : ℕ). Listed cs (start .args .kinds .now) (put (back-7 .loop .kinds) (back-7 .loop .n) b) (back-7 .loop .n + 1)) (sym (c .before .before .kind .ensures))
+    (ends (start .args .text .now) (start .args .at) (start .args .kinds .now) (back-7 .loop .kinds) (back-7 .loop .p) (back-7 .loop .n) (start .pre .1) (start .pre .2) (back-7 .loop .inv) (back-4 .read .given .0 .0) (first back-4 _ (c .enum-told2 .given .1)) cs e)
 
 loop-less : tie.Need-loop-less Inv-loop μ-loop
 loop-less c = let q = first (c .before .before .before .before .before) _ (c .before .rest .given .1) .placed in omega (arith, q .0, q .1)
 
 loop-again : tie.Need-loop-again Inv-loop μ-loop
 loop-again c =
-    subst (λ (b : ℕ). Going (c .before .before .before .before .before .before .before .before .before .before .before .args .text .now) (c .before .before .before .before .before .before .before .before .before .before .before .args .at) (c .before .before .before .before .before .before .before .before .before .before .before .args .kinds .now) (put (c .before .before .before .before .before .before .before .before .loop .kinds) (c .before .before .before .before .before .before .before .before .loop .n) b) (c .before .rest .given .0 .0) (c .before .before .before .before .before .before .before .before .loop .n + 1)) (sym (c .before .before .before .kind .ensures))
-    (goes-on (c .before .before .before .before .before .before .before .before .before .before .before .args .text .now) (c .before .before .before .before .before .before .before .before .before .before .before .args .at) (c .before .before .before .before .before .before .before .before .before .before .before .args .kinds .now) (c .before .before .before .before .before .before .before .before .loop .kinds) (c .before .before .before .before .before .before .before .before .loop .p) (c .before .before .before .before .before .before .before .before .loop .n) (c .before .before .before .before .before .before .before .before .before .before .before .pre .1) (c .before .before .before .before .before .before .before .before .before .before .before .pre .2) (c .before .before .before .before .before .before .before .before .loop .inv) (c .before .before .before .before .before .read .given .0 .0) _ (first (c .before .before .before .before .before) _ (c .before .rest .given .1)))
+    let back-5 = c .before .before .before .before .before in
+    let back-8 = back-5 .before .before .before in
+    let start = back-8 .before .before .before in
+    subst (λ (b : ℕ). Going (start .args .text .now) (start .args .at) (start .args .kinds .now) (put (back-8 .loop .kinds) (back-8 .loop .n) b) (c .before .rest .given .0 .0) (back-8 .loop .n + 1)) (sym (c .before .before .before .kind .ensures))
+    (goes-on (start .args .text .now) (start .args .at) (start .args .kinds .now) (back-8 .loop .kinds) (back-8 .loop .p) (back-8 .loop .n) (start .pre .1) (start .pre .2) (back-8 .loop .inv) (back-5 .read .given .0 .0) _ (first back-5 _ (c .before .rest .given .1)))
 
 pub list-spec : {M : Type 1} → statement M
 list-spec =

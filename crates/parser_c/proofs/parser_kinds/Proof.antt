@@ -13,19 +13,33 @@ use borrow.Author.Needs.{needs}
 use Rattle.parser_c.proofs.parser_kinds.Statement.{statement}
 use Rattle.parser_c.proofs.parser_kinds.Tie as tie
 
-placed : (c : tie.After-head) → let g = c .head .given .0 in HeadWithin (c .before .before .before .before .before .before .args .text .now) (Login (g .0) (g .1 .0) (g .1 .1 .0))
-placed c = known (HeadWithin (c .before .before .before .before .before .before .args .text .now)) (c .before .before .login .ensures .1) (c .head .given .1)
+-- the function's start, as these places see it
+abbrev start-after-head : tie.After-head → tie.Start
+start-after-head c = c .before .before .before .before .before .before
+
+abbrev start-else2 : tie.Else2 → tie.Start
+start-else2 c = c .before .before .before .before .before .before .before .before .before
+
+placed : (c : tie.After-head) → let g = c .head .given .0 in HeadWithin (start-after-head c .args .text .now) (Login (g .0) (g .1 .0) (g .1 .1 .0))
+placed c =
+    let start = start-after-head c in
+    known (HeadWithin (start .args .text .now)) (c .before .before .login .ensures .1) (c .head .given .1)
 
 abbrev opening : tie.After-head → Opening
-opening c = let g = c .head .given .0 in record { sender = part (c .before .before .before .before .before .before .args .text .now) (g .0); password = part (c .before .before .before .before .before .before .args .text .now) (g .1 .0) }
+opening c =
+    let start = start-after-head c in
+    let g = c .head .given .0 in record { sender = part (start .args .text .now) (g .0); password = part (start .args .text .now) (g .1 .0) }
 
-parsed : (c : tie.After-head) → let t = c .before .before .before .before .before .before .args .text .now in parse t ≡ withBody (opening c) (bodyFrom t (c .head .given .0 .1 .1 .0))
-parsed c = c .before .before .login .ensures .0 ∙ ap (headMeant (c .before .before .before .before .before .before .args .text .now)) (c .head .given .1)
+parsed : (c : tie.After-head) → let t = (start-after-head c) .args .text .now in parse t ≡ withBody (opening c) (bodyFrom t (c .head .given .0 .1 .1 .0))
+parsed c =
+    let start = start-after-head c in
+    c .before .before .login .ensures .0 ∙ ap (headMeant (start .args .text .now)) (c .head .given .1)
 
-listing : (c : tie.Else2) → SomeCommands (c .before .before .before .before .before .before .before .before .before .args .text .now) (c .before .before .before .head .given .0 .1 .1 .0)
+listing : (c : tie.Else2) → SomeCommands (start-else2 c .args .text .now) (c .before .before .before .head .given .0 .1 .1 .0)
 listing c =
+    let start = start-else2 c in
     let b = c .before .body-at in
-    some-commands (c .before .before .before .before .before .before .before .before .before .args .text .now) (c .before .before .before .head .given .0 .1 .1 .0) (placed (c .before .before .before) .2) (sym (b .ensures) ∙ not-false (b .result) (c .if2 .left))
+    some-commands (start .args .text .now) (c .before .before .before .head .given .0 .1 .1 .0) (placed (c .before .before .before) .2) (sym (b .ensures) ∙ not-false (b .result) (c .if2 .left))
 
 returns : tie.Need-returns
 returns c = record { refuses = λ h. (refl, refl); answers = λ h. absurd (omega arith) }
@@ -41,11 +55,12 @@ body-at-requires c κs = placed (c .before) .2
 
 returns-2 : tie.Need-returns-2
 returns-2 c =
-    let t = c .before .before .before .before .before .before .before .before .before .args .text .now in
+    let start = c .before .before .before .before .before .before .before .before .before in
+    let t = start .args .text .now in
     let b = c .before .body-at in
     record {
       refuses = λ h. absurd (omega arith);
-      answers = λ h. answers-none t (c .before .before .before .before .before .before .before .before .before .args .kinds .now)
+      answers = λ h. answers-none t (start .args .kinds .now)
           (no-commands t (opening (c .before .before .before)) (bodyFrom t (c .before .before .before .head .given .0 .1 .1 .0)) (parsed (c .before .before .before)) (sym (b .ensures) ∙ not-true (b .result) (c .if2 .taken)));
     }
 
@@ -60,19 +75,22 @@ same-length c = search needs
 
 returns-3 : tie.Need-returns-3
 returns-3 c =
-    let t = c .before .before .before .before .before .before .before .before .before .before .before .before .before .args .text .now in
+    let back-7 = c .before .before .before .before .before .before .before in
+    let start = back-7 .before .before .before .before .before .before in
+    let t = start .args .text .now in
     let L = listing (c .before .before .before .before) in
     record {
       refuses = λ h. absurd (omega arith);
-      answers = λ h. answers-some t _ (parsed-as t (opening (c .before .before .before .before .before .before .before)) (bodyFrom t (c .before .before .before .before .before .before .before .head .given .0 .1 .1 .0)) (parsed (c .before .before .before .before .before .before .before)) (L .are)) (c .before .before .list .ensures (L .commands) (L .are));
+      answers = λ h. answers-some t _ (parsed-as t (opening back-7) (bodyFrom t (back-7 .head .given .0 .1 .1 .0)) (parsed back-7) (L .are)) (c .before .before .list .ensures (L .commands) (L .are));
     }
 
 returns-4 : tie.Need-returns-4
 returns-4 c =
-    let t = c .before .before .before .before .before .before .args .text .now in
+    let start = c .before .before .before .before .before .before in
+    let t = start .args .text .now in
     record {
       refuses = λ h. absurd (omega arith);
-      answers = λ h. answers-none t (c .before .before .before .before .before .before .args .kinds .now) (c .before .before .login .ensures .0 ∙ ap (headMeant t) (c .enum-told .given .1));
+      answers = λ h. answers-none t (start .args .kinds .now) (c .before .before .login .ensures .0 ∙ ap (headMeant t) (c .enum-told .given .1));
     }
 
 pub parser-kinds-spec : {M : Type 1} → statement M

@@ -3,9 +3,9 @@
 use mathlib.Core.Path.{_≡_}
 use Rattle.language.specs.Values.{Session}
 use Rattle.text.specs.Meaning.{part}
-use Rattle.running.specs.Sessions.{slices, Running}
+use Rattle.session.specs.Sessions.{slices, Running}
 use Rattle.store.specs.Rows.{position}
-use Rattle.numbers.specs.Numbers.{people}
+use Rattle.named_rights.specs.Numbers.{principalsOf}
 use Rattle.store.proofs.Holders.{some-principals}
 use Rattle.principals.proofs.Finding.{row-number, number-below}
 use Rattle.principals.proofs.Naming.{delegator-denied, delegator-failed, delegator-done}
@@ -13,13 +13,21 @@ use borrow.Author.Needs.{needs}
 use Rattle.principals.proofs.default_delegator.Statement.{statement}
 use Rattle.principals.proofs.default_delegator.Tie as tie
 
-number-is : (c : tie.After-number-of) (s : Session) → let a = c .before .before .before .before .before .before .before .before .before .before .before .args in
-    Running s (a .l) (slices (a .people .now) (a .people-marks .now) (a .vars .now) (a .var-marks .now) (a .locals .now) (a .local-marks .now) (a .standing .now))
-    → c .number-of .result ≡ position (people (s .store)) (part (a .text .now) (a .p))
-number-is c s R = row-number s (c .before .before .before .before .before .before .before .before .before .before .before .args .l) _ R _ (c .number-of .result) (c .number-of .ensures)
+-- the function's start, as these places see it
+abbrev start-after-number-of : tie.After-number-of → tie.Start
+start-after-number-of c = c .before .before .before .before .before .before .before .before .before .before .before
+
+number-is : (c : tie.After-number-of) (s : Session) → let a = (start-after-number-of c) .args in
+    Running s (a .l) (slices (a .principals .now) (a .principal-slots .now) (a .vars .now) (a .variable-slots .now) (a .locals .now) (a .local-slots .now) (a .assertions .now))
+    → c .number-of .result ≡ position (principalsOf (s .store)) (part (a .text .now) (a .p))
+number-is c s R =
+    let start = start-after-number-of c in
+    row-number s (start .args .l) _ R _ (c .number-of .result) (c .number-of .ensures)
 
 returns : tie.Need-returns
-returns c s R = delegator-denied s (c .before .before .before .before .before .before .before .before .before .args .l) _ R _ (c .if1 .taken)
+returns c s R =
+    let start = c .before .before .before .before .before .before .before .before .before in
+    delegator-denied s (start .args .l) _ R _ (c .if1 .taken)
 
 sub-number-of : tie.Need-sub-number-of
 sub-number-of c = search needs
@@ -31,16 +39,21 @@ part-number-of-end : tie.Need-part-number-of-end
 part-number-of-end c = search needs
 
 number-of-requires : tie.Need-number-of-requires
-number-of-requires c κs = let P = c .before .before .before .before .before .before .before .before .before .before .pre .0 in (P .running .people-within, some-principals (P .session .store .principals) _ _ _ (P .running .principals))
+number-of-requires c κs =
+    let start = c .before .before .before .before .before .before .before .before .before .before in
+    let P = start .pre .0 in (P .running .principals-within, some-principals (P .session .store .principals) _ _ _ (P .running .principals))
 
 returns-2 : tie.Need-returns-2
-returns-2 c s R = delegator-failed s (c .before .before .before .before .before .before .before .before .before .before .before .before .args .l) _ R (part (c .before .before .before .before .before .before .before .before .before .before .before .before .args .text .now) (c .before .before .before .before .before .before .before .before .before .before .before .before .args .p)) (c .before .number-of .result) (number-is (c .before) s R) (c .before .before .before .if1 .left) (c .if2 .taken)
+returns-2 c s R =
+    let start = c .before .before .before .before .before .before .before .before .before .before .before .before in
+    delegator-failed s (start .args .l) _ R (part (start .args .text .now) (start .args .p)) (c .before .number-of .result) (number-is (c .before) s R) (c .before .before .before .if1 .left) (c .if2 .taken)
 
 returns-3 : tie.Need-returns-3
 returns-3 c s R =
-    let n : c .before .number-of .result ≡ position (people (s .store)) (part (c .before .before .before .before .before .before .before .before .before .before .before .before .args .text .now) (c .before .before .before .before .before .before .before .before .before .before .before .before .args .p)) = number-is (c .before) s R in
-    delegator-done s (c .before .before .before .before .before .before .before .before .before .before .before .before .args .l) _ R (part (c .before .before .before .before .before .before .before .before .before .before .before .before .args .text .now) (c .before .before .before .before .before .before .before .before .before .before .before .before .args .p)) (c .before .number-of .result) n (c .before .before .before .if1 .left)
-    (number-below s (c .before .before .before .before .before .before .before .before .before .before .before .before .args .l) _ R _ _ n (c .if2 .left)) (c .before .before .before .before .before .before .before .before .before .before .before .before .pre .1 .1)
+    let start = c .before .before .before .before .before .before .before .before .before .before .before .before in
+    let n : c .before .number-of .result ≡ position (principalsOf (s .store)) (part (start .args .text .now) (start .args .p)) = number-is (c .before) s R in
+    delegator-done s (start .args .l) _ R (part (start .args .text .now) (start .args .p)) (c .before .number-of .result) n (c .before .before .before .if1 .left)
+    (number-below s (start .args .l) _ R _ _ n (c .if2 .left)) (start .pre .1 .1)
 
 pub default-delegator-spec : {M : Type 1} → statement M
 default-delegator-spec =

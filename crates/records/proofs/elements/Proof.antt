@@ -20,18 +20,26 @@ use Rattle.records.proofs.element_at.Reads as element-at-reads
 use Rattle.records.proofs.goes_on.Reads as goes-on-reads
 
 abbrev Inv-loop : tie.InvT-loop
-Inv-loop text at w marks₀ i₀ now₀ marks i now =
-    (length marks ≡ length marks₀) × (now ≤ 8192) × Listing text at w i now
+Inv-loop text at w slots₀ i₀ now₀ slots i now =
+    (length slots ≡ length slots₀) × (now ≤ 8192) × Listing text at w i now
 
 abbrev μ-loop : tie.MeasureT-loop
-μ-loop text at w marks₀ i₀ now₀ marks i now =
+μ-loop text at w slots₀ i₀ now₀ slots i now =
     length text - i
 
-on : (c : tie.Then1 Inv-loop μ-loop) → T (offElement (drop (c .before .before .loop .i) (Ref.now (c .before .before .before .before .before .args .text)))) → ⊥
-on c h = subst (λ (b : Bool). T b) (not-true (offElement (drop (c .before .before .loop .i) (Ref.now (c .before .before .before .before .before .args .text)))) (sym (c .before .goes-on .ensures) ∙ c .if1 .taken)) h
+-- the function's start, as these places see it
+abbrev start-then1 : tie.Then1 Inv-loop μ-loop → tie.Start Inv-loop μ-loop
+start-then1 c = c .before .before .before .before .before
 
-one : (c : tie.After-item Inv-loop μ-loop) → One elementText validElement elementWeight offField (Ref.now (c .before .before .before .before .before .before .before .before .before .before .before .args .text)) (c .before .before .before .before .before .before .before .before .loop .i) (c .before .before .before .before .before .before .before .before .loop .now + 1) (c .item .given .0 .0) (c .item .given .0 .1 .0)
-one c = subst (λ k. ElementMeant (Ref.now (c .before .before .before .before .before .before .before .before .before .before .before .args .text)) (c .before .before .before .before .before .before .before .before .loop .i) (c .before .before .before .before .before .before .before .before .loop .now + 1) k) (c .item .given .1) (c .before .before .before .before .element-at .ensures)
+on : (c : tie.Then1 Inv-loop μ-loop) → T (offElement (drop (c .before .before .loop .i) (Ref.now (start-then1 c .args .text)))) → ⊥
+on c h = subst (λ (b : Bool). T b) (not-true (offElement (drop (c .before .before .loop .i) (Ref.now (start-then1 c .args .text)))) (sym (c .before .goes-on .ensures) ∙ c .if1 .taken)) h
+
+one : (c : tie.After-item Inv-loop μ-loop) → One elementText validElement elementWeight offField (Ref.now (c .before .before .before .before .before .before .before .before .before .before .before .args .text))
+    (c .before .before .before .before .before .before .before .before .loop .i) (c .before .before .before .before .before .before .before .before .loop .now + 1) (c .item .given .0 .0) (c .item .given .0 .1 .0)
+one c =
+    let back-8 = c .before .before .before .before .before .before .before .before in
+    let start = back-8 .before .before .before in
+    subst (λ k. ElementMeant (Ref.now (start .args .text)) (back-8 .loop .i) (back-8 .loop .now + 1) k) (c .item .given .1) (c .before .before .before .before .element-at .ensures)
 
 loop-holds : tie.Need-loop-holds Inv-loop μ-loop
 loop-holds c = (refl, c .before .before .pre .1, listing-start (Ref.now (c .before .before .args .text)) (c .before .before .args .at) (c .before .before .args .w) (c .before .before .pre .0 .start))
@@ -61,27 +69,38 @@ enum-told : tie.Need-enum-told Inv-loop μ-loop
 enum-told c = search needs
 
 same-length : tie.Need-same-length Inv-loop μ-loop
-same-length c = c .before .before .before .before .element-at .kept .1 .1 .1 .0 ∙ c .before .before .before .before .before .before .before .before .loop .inv .0
+same-length c =
+    let back-8 = c .before .before .before .before .before .before .before .before in
+    c .before .before .before .before .element-at .kept .1 .1 .1 .0 ∙ back-8 .loop .inv .0
 
 returns : tie.Need-returns Inv-loop μ-loop
 returns c =
-    let l = c .before .before .before .before .before .before .before .before .loop in
-    elements-stuck (Ref.now (c .before .before .before .before .before .before .before .before .before .before .before .args .text)) (c .before .before .before .before .before .before .before .before .before .before .before .args .at) (c .before .before .before .before .before .before .before .before .before .before .before .args .w) (l .i) (l .now) (l .inv .2) (on (c .before .before .before .before .before .before))
-    (subst (λ k. ElementMeant (Ref.now (c .before .before .before .before .before .before .before .before .before .before .before .args .text)) (l .i) (l .now + 1) k) (c .enum-told .given .1) (c .before .before .before .before .element-at .ensures))
+    let back-6 = c .before .before .before .before .before .before in
+    let back-8 = back-6 .before .before in
+    let start = back-8 .before .before .before in
+    let l = back-8 .loop in
+    elements-stuck (Ref.now (start .args .text)) (start .args .at) (start .args .w) (l .i) (l .now) (l .inv .2) (on back-6)
+    (subst (λ k. ElementMeant (Ref.now (start .args .text)) (l .i) (l .now + 1) k) (c .enum-told .given .1) (c .before .before .before .before .element-at .ensures))
 
 loop-less : tie.Need-loop-less Inv-loop μ-loop
 loop-less c =
-    let l = c .before .before .before .before .before .before .before .before .before .loop in
-    let h = element-ahead (Ref.now (c .before .before .before .before .before .before .before .before .before .before .before .before .args .text)) (c .before .before .before .before .before .before .before .before .before .before .before .before .args .at) (c .before .before .before .before .before .before .before .before .before .before .before .before .args .w) (l .i) (l .now) (l .inv .2) (on (c .before .before .before .before .before .before .before)) _ _ (one (c .before)) in
+    let back-7 = c .before .before .before .before .before .before .before in
+    let back-9 = back-7 .before .before in
+    let start = back-9 .before .before .before in
+    let l = back-9 .loop in
+    let h = element-ahead (Ref.now (start .args .text)) (start .args .at) (start .args .w) (l .i) (l .now) (l .inv .2) (on back-7) _ _ (one (c .before)) in
     let k = one (c .before) .reads .high in
     omega (arith, h, k)
 
 loop-again : tie.Need-loop-again Inv-loop μ-loop
 loop-again c =
-    let l = c .before .before .before .before .before .before .before .before .before .loop in (
+    let back-7 = c .before .before .before .before .before .before .before in
+    let back-9 = back-7 .before .before in
+    let start = back-9 .before .before .before in
+    let l = back-9 .loop in (
       c .before .before .before .before .before .element-at .kept .1 .1 .1 .0 ∙ l .inv .0,
-      element-light (Ref.now (c .before .before .before .before .before .before .before .before .before .before .before .before .args .text)) (c .before .before .before .before .before .before .before .before .before .before .before .before .args .at) (c .before .before .before .before .before .before .before .before .before .before .before .before .args .w) (l .i) (l .now) (l .inv .2) (on (c .before .before .before .before .before .before .before)) _ _ (one (c .before)),
-      elements-next (Ref.now (c .before .before .before .before .before .before .before .before .before .before .before .before .args .text)) (c .before .before .before .before .before .before .before .before .before .before .before .before .args .at) (c .before .before .before .before .before .before .before .before .before .before .before .before .args .w) (l .i) (l .now) (l .inv .2) (on (c .before .before .before .before .before .before .before)) _ _ (one (c .before)),
+      element-light (Ref.now (start .args .text)) (start .args .at) (start .args .w) (l .i) (l .now) (l .inv .2) (on back-7) _ _ (one (c .before)),
+      elements-next (Ref.now (start .args .text)) (start .args .at) (start .args .w) (l .i) (l .now) (l .inv .2) (on back-7) _ _ (one (c .before)),
     )
 
 same-length-2 : tie.Need-same-length-2 Inv-loop μ-loop
@@ -89,9 +108,10 @@ same-length-2 c = c .before .before .loop .inv .0
 
 returns-2 : tie.Need-returns-2 Inv-loop μ-loop
 returns-2 c =
+    let start = c .before .before .before .before .before in
     let l = c .before .before .loop in
-    elements-good (Ref.now (c .before .before .before .before .before .args .text)) (c .before .before .before .before .before .args .at) (c .before .before .before .before .before .args .w) (l .i) (l .now) (l .inv .2)
-    (subst (λ (b : Bool). T b) (sym (not-false (offElement (drop (c .before .before .loop .i) (Ref.now (c .before .before .before .before .before .args .text)))) (sym (c .before .goes-on .ensures) ∙ c .if1 .left))) tt) (l .inv .1)
+    elements-good (Ref.now (start .args .text)) (start .args .at) (start .args .w) (l .i) (l .now) (l .inv .2)
+    (subst (λ (b : Bool). T b) (sym (not-false (offElement (drop (c .before .before .loop .i) (Ref.now (start .args .text)))) (sym (c .before .goes-on .ensures) ∙ c .if1 .left))) tt) (l .inv .1)
 
 pub elements-spec : {M : Type 1} → statement M
 elements-spec =

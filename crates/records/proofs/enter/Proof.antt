@@ -3,16 +3,16 @@ use Prim.Native.Nat.{ℕ, _+_, _*_, _-_}
 use native.Mathlib.Omega.{arith}
 use denote.Ref.{now}
 use lib.ListN.{set}
-use Rattle.lines.specs.Cuts.{part}
-use Rattle.store.proofs.Prints.{print-small}
-use Rattle.records.proofs.Marking.{is-there, is-new}
+use Rattle.text.specs.Parts.{part}
+use Rattle.store.proofs.Hashes.{hash-small}
+use Rattle.records.proofs.Indexing.{is-there, is-new}
 use borrow.Author.Needs.{needs}
 use Rattle.records.proofs.enter.Statement.{statement}
 use Rattle.records.proofs.enter.Tie as tie
 use Rattle.records.proofs.enter.Reads as reads
 use Rattle.records.proofs.enter.Lts as lts
-use Rattle.store.proofs.mark.find.Reads as find-reads
-use Rattle.store.proofs.mark.print.Reads as print-reads
+use Rattle.store.proofs.index.find.Reads as find-reads
+use Rattle.store.proofs.index.hash.Reads as hash-reads
 
 add-from : tie.Need-add-from
 add-from c = search needs
@@ -50,52 +50,57 @@ same-length c = search needs
 returns : tie.Need-returns
 returns c = λ rows H. is-there rows _ _ _ _ (sym (c .enum-told2 .given .1) ∙ c .before .before .find .ensures rows H)
 
-sub-print : tie.Need-sub-print
-sub-print c = search needs
+sub-hash : tie.Need-sub-hash
+sub-hash c = search needs
 
-part-print-start : tie.Need-part-print-start
-part-print-start c = search needs
+part-hash-start : tie.Need-part-hash-start
+part-hash-start c = search needs
 
-part-print-end : tie.Need-part-print-end
-part-print-end c = search needs
+part-hash-end : tie.Need-part-hash-end
+part-hash-end c = search needs
 
-print-requires : tie.Need-print-requires
-print-requires c κs = search needs
+hash-requires : tie.Need-hash-requires
+hash-requires c κs = search needs
 
-mul-marks : tie.Need-mul-marks
-mul-marks c =
-    let a = c .before .before .before .before .before .before .before .before .before .before .args in
-    let l = print-small (part (now (a .text)) (a .i + 2) (a .m)) in
-    omega (arith, l, c .print .ensures)
+mul-slots : tie.Need-mul-slots
+mul-slots c =
+    let start = c .before .before .before .before .before .before .before .before .before .before in
+    let a = start .args in
+    let l = hash-small (part (now (a .text)) (a .i + 2) (a .m)) in
+    omega (arith, l, c .hash .ensures)
 
-sub-marks : tie.Need-sub-marks
-sub-marks c = search needs
+sub-slots : tie.Need-sub-slots
+sub-slots c = search needs
 
-cast-marks : tie.Need-cast-marks
-cast-marks c =
-    let s = c .before .before .before .before .before .before .before .before .before .before in
+cast-slots : tie.Need-cast-slots
+cast-slots c =
+    let back-10 = c .before .before .before .before .before .before .before .before .before .before in
+    let s = back-10 in
     omega (arith, s .pre .small, s .pre .name-high, s .pre .name-low)
 
-add-marks : tie.Need-add-marks
-add-marks c =
-    let a = c .before .before .before .before .before .before .before .before .before .before .args in
-    let l = print-small (part (now (a .text)) (a .i + 2) (a .m)) in
-    omega (arith, l, c .print .ensures, c .before .before .before .before .before .before .before .before .before .before .pre .small, c .before .before .before .before .before .before .before .before .before .before .pre .name-high, c .before .before .before .before .before .before .before .before .before .before .pre .name-low)
+add-slots : tie.Need-add-slots
+add-slots c =
+    let start = c .before .before .before .before .before .before .before .before .before .before in
+    let a = start .args in
+    let l = hash-small (part (now (a .text)) (a .i + 2) (a .m)) in
+    omega (arith, l, c .hash .ensures, start .pre .small, start .pre .name-high, start .pre .name-low)
 
-mul-marks-2 : tie.Need-mul-marks-2
-mul-marks-2 c = search needs
+mul-slots-2 : tie.Need-mul-slots-2
+mul-slots-2 c = search needs
 
-slice-write-marks : tie.Need-slice-write-marks
-slice-write-marks c = search needs
+slice-write-slots : tie.Need-slice-write-slots
+slice-write-slots c = search needs
 
 same-length-2 : tie.Need-same-length-2
 same-length-2 c = search needs
 
 returns-2 : tie.Need-returns-2
-returns-2 c = λ rows H.
-    let a = c .before .before .before .before .before .before .before .before .before .before .args in (
+returns-2 c =
+    let start = c .before .before .before .before .before .before .before .before .before .before in
+    λ rows H.
+    let a = start .args in (
       λ k. is-new rows _ (sym (c .before .before .enum-told .given .1) ∙ c .before .before .before .before .find .ensures rows H) k,
-      ap (λ (p : ℕ). set (now (a .marks)) (a .n) (p * 65536 + (a .i - a .at))) (c .print .ensures),
+      ap (λ (p : ℕ). set (now (a .slots)) (a .n) (p * 65536 + (a .i - a .at))) (c .hash .ensures),
     )
 
 pub enter-spec : {M : Type 1} → statement M
@@ -114,15 +119,15 @@ enter-spec =
     enum-told-2
     same-length
     returns
-    sub-print
-    part-print-start
-    part-print-end
-    print-requires
-    mul-marks
-    sub-marks
-    cast-marks
-    add-marks
-    mul-marks-2
-    slice-write-marks
+    sub-hash
+    part-hash-start
+    part-hash-end
+    hash-requires
+    mul-slots
+    sub-slots
+    cast-slots
+    add-slots
+    mul-slots-2
+    slice-write-slots
     same-length-2
     returns-2)

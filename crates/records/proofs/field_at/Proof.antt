@@ -26,8 +26,14 @@ tabbed c = sym (c .before .byte-at .ensures) ∙ c .if1 .left
 far : (c : tie.Else1) → c .before .before .before .args .at + 1 < length (now (c .before .before .before .args .text))
 far c = inside (now (c .before .before .before .args .text)) (c .before .before .before .args .at + 1) (omega (arith, tabbed c))
 
-field : (c : tie.After-label) → let a = c .before .before .before .before .before .before .args in Field isName 9 (now (a .text)) (a .at + 2) (c .label .given .0 .0)
-field c = let a = c .before .before .before .before .before .before .args in subst (λ k. CutMeant isName 9 (now (a .text)) (a .at + 2) k) (c .label .given .1) (c .before .before .name-end .ensures)
+-- the function's start, as these places see it
+abbrev start-after-label : tie.After-label → tie.Start
+start-after-label c = c .before .before .before .before .before .before
+
+field : (c : tie.After-label) → let a = (start-after-label c) .args in Field isName 9 (now (a .text)) (a .at + 2) (c .label .given .0 .0)
+field c =
+    let start = start-after-label c in
+    let a = start .args in subst (λ k. CutMeant isName 9 (now (a .text)) (a .at + 2) k) (c .label .given .1) (c .before .before .name-end .ensures)
 
 add-byte-at : tie.Need-add-byte-at
 add-byte-at c = let h = here (c .before) in omega (arith, h)
@@ -52,8 +58,9 @@ enum-told c = search needs
 
 returns-2 : tie.Need-returns-2
 returns-2 c =
-    let a = c .before .before .before .before .before .before .args in
-    field-unnamed (now (a .text)) (a .at) (a .w) (c .before .before .before .before .before .before .pre .0) (tabbed (c .before .before .before))
+    let start = c .before .before .before .before .before .before in
+    let a = start .args in
+    field-unnamed (now (a .text)) (a .at) (a .w) (start .pre .0) (tabbed (c .before .before .before))
     (subst (λ k. CutMeant isName 9 (now (a .text)) (a .at + 2) k) (c .enum-told .given .1) (c .before .before .name-end .ensures))
 
 add-string-at : tie.Need-add-string-at
@@ -82,17 +89,23 @@ enum-told-2 c = search needs
 
 returns-3 : tie.Need-returns-3
 returns-3 c =
-    let a = c .before .before .before .before .before .before .before .before .before .before .args in
-    let m = c .before .before .before .before .label .given .0 .0 in
-    field-stringless (now (a .text)) (a .at) (a .w) (c .before .before .before .before .before .before .before .before .before .before .pre .0) (tabbed (c .before .before .before .before .before .before .before)) m (field (c .before .before .before .before))
+    let back-4 = c .before .before .before .before in
+    let back-7 = back-4 .before .before .before in
+    let start = back-7 .before .before .before in
+    let a = start .args in
+    let m = back-4 .label .given .0 .0 in
+    field-stringless (now (a .text)) (a .at) (a .w) (start .pre .0) (tabbed back-7) m (field back-4)
     (subst (λ k. StringMeant (now (a .text)) (m + 1) (a .w + 1 + (m - (a .at + 2))) k) (c .enum-told2 .given .1) (c .before .before .string-at .ensures))
 
 returns-4 : tie.Need-returns-4
 returns-4 c =
-    let a = c .before .before .before .before .before .before .before .before .before .before .before .args in
-    let m = c .before .before .before .before .before .label .given .0 .0 in
+    let back-5 = c .before .before .before .before .before in
+    let back-8 = back-5 .before .before .before in
+    let start = back-8 .before .before .before in
+    let a = start .args in
+    let m = back-5 .label .given .0 .0 in
     let s = c .before .string in
-    field-good (now (a .text)) (a .at) (a .w) (c .before .before .before .before .before .before .before .before .before .before .before .pre .0) (tabbed (c .before .before .before .before .before .before .before .before)) m (field (c .before .before .before .before .before)) (s .given .0 .0) (s .given .0 .1 .0)
+    field-good (now (a .text)) (a .at) (a .w) (start .pre .0) (tabbed back-8) m (field back-5) (s .given .0 .0) (s .given .0 .1 .0)
     (subst (λ k. StringMeant (now (a .text)) (m + 1) (a .w + 1 + (m - (a .at + 2))) k) (s .given .1) (c .before .before .before .string-at .ensures))
 
 pub field-at-spec : {M : Type 1} → statement M

@@ -12,8 +12,12 @@ use Rattle.records.proofs.string_at.Reads as reads
 use Rattle.records.proofs.string_at.Lts as lts
 use Rattle.lines.proofs.run_cut.Reads as run-cut-reads
 
-field : (c : tie.After-cut) → let a = c .before .before .before .before .args in Field (all stringByte) 10 (now (a .text)) (a .at) (c .cut .given .0 .0)
-field c = let a = c .before .before .before .before .args in subst (λ k. CutMeant (all stringByte) 10 (now (a .text)) (a .at) k) (c .cut .given .1) (c .before .before .run-cut .ensures)
+-- the function's start, as these places see it
+abbrev start-after-cut : tie.After-cut → tie.Start
+start-after-cut c = c .before .before .before .before
+
+field : (c : tie.After-cut) → let a = (start-after-cut c) .args in Field (all stringByte) 10 (now (a .text)) (a .at) (c .cut .given .0 .0)
+field c = let a = (start-after-cut c) .args in subst (λ k. CutMeant (all stringByte) 10 (now (a .text)) (a .at) k) (c .cut .given .1) (c .before .before .run-cut .ensures)
 
 run-cut-requires : tie.Need-run-cut-requires
 run-cut-requires c κs = search needs
@@ -33,19 +37,25 @@ sub-size : tie.Need-sub-size
 sub-size c = let f = field (c .before) in omega (arith, f .low)
 
 returns-2 : tie.Need-returns-2
-returns-2 c = let a = c .before .before .before .before .before .before .args in string-heavy (now (a .text)) (a .at) (a .w) (c .before .before .cut .given .0 .0) (field (c .before .before)) (omega arith)
+returns-2 c =
+    let start = c .before .before .before .before .before .before in
+    let a = start .args in string-heavy (now (a .text)) (a .at) (a .w) (c .before .before .cut .given .0 .0) (field (c .before .before)) (omega arith)
 
 add-after : tie.Need-add-after
 add-after c = search needs
 
 returns-3 : tie.Need-returns-3
-returns-3 c = let a = c .before .before .before .before .before .before .before .args in string-heavy (now (a .text)) (a .at) (a .w) (c .before .before .before .cut .given .0 .0) (field (c .before .before .before)) (omega arith)
+returns-3 c =
+    let start = c .before .before .before .before .before .before .before in
+    let a = start .args in string-heavy (now (a .text)) (a .at) (a .w) (c .before .before .before .cut .given .0 .0) (field (c .before .before .before)) (omega arith)
 
 add-t10 : tie.Need-add-t10
 add-t10 c = let f = field (c .before .before .before) in omega (arith, f .high)
 
 returns-4 : tie.Need-returns-4
-returns-4 c = let a = c .before .before .before .before .before .before .before .args in string-good (now (a .text)) (a .at) (a .w) (c .before .before .before .cut .given .0 .0) (field (c .before .before .before)) _ refl (omega arith)
+returns-4 c =
+    let start = c .before .before .before .before .before .before .before in
+    let a = start .args in string-good (now (a .text)) (a .at) (a .w) (c .before .before .before .cut .given .0 .0) (field (c .before .before .before)) _ refl (omega arith)
 
 pub string-at-spec : {M : Type 1} → statement M
 string-at-spec =

@@ -17,14 +17,25 @@ use Rattle.lines.proofs.byte_at.Reads as byte-at-reads
 use Rattle.lines.proofs.name_end.Reads as name-end-reads
 use Rattle.records.proofs.value_at.Reads as value-at-reads
 
-tabbed : (c : tie.Else1) → getD (now (c .before .before .before .before .args .text)) (c .before .before .before .before .args .at + 1) 0 ≡ 9
+-- the function's start, as these places see it
+abbrev start-else1 : tie.Else1 → tie.Start
+start-else1 c = c .before .before .before .before
+
+abbrev start-after-name : tie.After-name → tie.Start
+start-after-name c = c .before .before .before .before .before .before .before
+
+tabbed : (c : tie.Else1) → getD (now (start-else1 c .args .text)) (start-else1 c .args .at + 1) 0 ≡ 9
 tabbed c = sym (c .before .byte-at .ensures) ∙ c .if1 .left
 
-far : (c : tie.Else1) → c .before .before .before .before .args .at + 1 < length (now (c .before .before .before .before .args .text))
-far c = inside (now (c .before .before .before .before .args .text)) (c .before .before .before .before .args .at + 1) (omega (arith, tabbed c))
+far : (c : tie.Else1) → (start-else1 c) .args .at + 1 < length (now (start-else1 c .args .text))
+far c =
+    let start = start-else1 c in
+    inside (now (start .args .text)) (start .args .at + 1) (omega (arith, tabbed c))
 
-field : (c : tie.After-name) → let a = c .before .before .before .before .before .before .before .args in Field isName 9 (now (a .text)) (a .at + 2) (c .name .given .0 .0)
-field c = let a = c .before .before .before .before .before .before .before .args in subst (λ k. CutMeant isName 9 (now (a .text)) (a .at + 2) k) (c .name .given .1) (c .before .before .name-end .ensures)
+field : (c : tie.After-name) → let a = (start-after-name c) .args in Field isName 9 (now (a .text)) (a .at + 2) (c .name .given .0 .0)
+field c =
+    let start = start-after-name c in
+    let a = start .args in subst (λ k. CutMeant isName 9 (now (a .text)) (a .at + 2) k) (c .name .given .1) (c .before .before .name-end .ensures)
 
 add-byte-at : tie.Need-add-byte-at
 add-byte-at c = search needs
@@ -49,8 +60,9 @@ enum-told c = search needs
 
 returns-2 : tie.Need-returns-2
 returns-2 c =
-    let a = c .before .before .before .before .before .before .before .args in
-    variable-unnamed (now (a .text)) (a .at) (a .w) (c .before .before .before .before .before .before .before .pre .1) (tabbed (c .before .before .before))
+    let start = c .before .before .before .before .before .before .before in
+    let a = start .args in
+    variable-unnamed (now (a .text)) (a .at) (a .w) (start .pre .1) (tabbed (c .before .before .before))
     (subst (λ k. CutMeant isName 9 (now (a .text)) (a .at + 2) k) (c .enum-told .given .1) (c .before .before .name-end .ensures))
 
 add-before : tie.Need-add-before
@@ -63,12 +75,15 @@ sub-before : tie.Need-sub-before
 sub-before c = let f = field (c .before) in omega (arith, f .low)
 
 add-before-3 : tie.Need-add-before-3
-add-before-3 c = let f = field (c .before) in let l = name-fits _ _ _ _ f in omega (arith, l, c .before .before .before .before .before .before .before .before .pre .0 .weighed)
+add-before-3 c =
+    let start = c .before .before .before .before .before .before .before .before in
+    let f = field (c .before) in let l = name-fits _ _ _ _ f in omega (arith, l, start .pre .0 .weighed)
 
 returns-3 : tie.Need-returns-3
 returns-3 c =
-    let a = c .before .before .before .before .before .before .before .before .before .args in
-    variable-heavy (now (a .text)) (a .at) (a .w) (c .before .before .before .before .before .before .before .before .before .pre .1) (tabbed (c .before .before .before .before .before)) (c .before .before .name .given .0 .0) (field (c .before .before)) (c .if2 .taken)
+    let start = c .before .before .before .before .before .before .before .before .before in
+    let a = start .args in
+    variable-heavy (now (a .text)) (a .at) (a .w) (start .pre .1) (tabbed (c .before .before .before .before .before)) (c .before .before .name .given .0 .0) (field (c .before .before)) (c .if2 .taken)
 
 add-value-at : tie.Need-add-value-at
 add-value-at c = let f = field (c .before .before) in omega (arith, f .high)
@@ -90,9 +105,12 @@ same-length c = search needs
 
 returns-4 : tie.Need-returns-4
 returns-4 c =
-    let a = c .before .before .before .before .before .before .before .before .before .before .before .before .before .before .before .args in
-    let m = c .before .before .before .before .before .before .before .before .name .given .0 .0 in
-    variable-valueless (now (a .text)) (a .at) (a .w) (c .before .before .before .before .before .before .before .before .before .before .before .before .before .before .before .pre .1) (tabbed (c .before .before .before .before .before .before .before .before .before .before .before)) m (field (c .before .before .before .before .before .before .before .before))
+    let back-8 = c .before .before .before .before .before .before .before .before in
+    let back-11 = back-8 .before .before .before in
+    let start = back-11 .before .before .before .before in
+    let a = start .args in
+    let m = back-8 .name .given .0 .0 in
+    variable-valueless (now (a .text)) (a .at) (a .w) (start .pre .1) (tabbed back-11) m (field back-8)
     (subst (λ k. ValueMeant (now (a .text)) (m + 1) (a .w + 1 + (m - (a .at + 2))) k) (c .enum-told2 .given .1) (c .before .before .before .before .value-at .ensures))
 
 same-length-2 : tie.Need-same-length-2
@@ -100,10 +118,13 @@ same-length-2 c = search needs
 
 returns-5 : tie.Need-returns-5
 returns-5 c =
-    let a = c .before .before .before .before .before .before .before .before .before .before .before .before .before .before .before .before .args in
-    let m = c .before .before .before .before .before .before .before .before .before .name .given .0 .0 in
+    let back-9 = c .before .before .before .before .before .before .before .before .before in
+    let back-12 = back-9 .before .before .before in
+    let start = back-12 .before .before .before .before in
+    let a = start .args in
+    let m = back-9 .name .given .0 .0 in
     let s = c .before .value in
-    variable-good (now (a .text)) (a .at) (a .w) (c .before .before .before .before .before .before .before .before .before .before .before .before .before .before .before .before .pre .1) (tabbed (c .before .before .before .before .before .before .before .before .before .before .before .before)) m (field (c .before .before .before .before .before .before .before .before .before)) (s .given .0 .0) (s .given .0 .1 .0)
+    variable-good (now (a .text)) (a .at) (a .w) (start .pre .1) (tabbed back-12) m (field back-9) (s .given .0 .0) (s .given .0 .1 .0)
     (subst (λ k. ValueMeant (now (a .text)) (m + 1) (a .w + 1 + (m - (a .at + 2))) k) (s .given .1) (c .before .before .before .before .before .value-at .ensures))
 
 pub variable-at-spec : {M : Type 1} → statement M

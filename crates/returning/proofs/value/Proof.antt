@@ -6,8 +6,8 @@ use lib.Seq.{length-take-le}
 use borrow.Author.Tests.{not-true, not-false}
 use Rattle.language.specs.Commands.{step}
 use Rattle.language.specs.Syntax.{return}
-use Rattle.running.specs.Sessions.{Slices, slices}
-use Rattle.running.proofs.Scoping.{scope, some-scope, sends, some-sender}
+use Rattle.session.specs.Sessions.{Slices, slices}
+use Rattle.session.proofs.Scoping.{scope, some-scope, sends, some-sender}
 use Rattle.returning.specs.Returns.{Given}
 use Rattle.returning.proofs.Judging.{unreadable, given-by}
 use borrow.Author.Needs.{needs}
@@ -16,25 +16,37 @@ use Rattle.returning.proofs.value.Tie as tie
 
 -- what was lent, as the running session names it
 abbrev lent : tie.Start → Slices
-lent c = let a = c .args in slices (a .people .now) (a .people-marks .now) (a .vars .now) (a .var-marks .now) (a .locals .now) (a .local-marks .now) (a .standing .now)
+lent c = let a = c .args in slices (a .principals .now) (a .principal-slots .now) (a .vars .now) (a .variable-slots .now) (a .locals .now) (a .local-slots .now) (a .assertions .now)
 
 slice-aggregate-readable : tie.Need-slice-aggregate-readable
-slice-aggregate-readable c = sym (length-take-le _ _ (c .before .before .before .before .before .before .before .before .before .before .before .pre .0 .running .vars-within))
+slice-aggregate-readable c =
+    let start = c .before .before .before .before .before .before .before .before .before .before .before in
+    sym (length-take-le _ _ (start .pre .0 .running .vars-within))
 
 readable-requires : tie.Need-readable-requires
-readable-requires c κs = let P = c .before .before .before .before .before .before .before .before .before .before .before .pre in (some-sender _ _ (lent (c .before .before .before .before .before .before .before .before .before .before .before)) (P .0 .running), P .1 .0 .0)
+readable-requires c κs =
+    let start = c .before .before .before .before .before .before .before .before .before .before .before in
+    let P = start .pre in (some-sender _ _ (lent start) (P .0 .running), P .1 .0 .0)
 
 returns : tie.Need-returns
-returns c s x R m = unreadable s x (c .before .readable .result) (c .before .readable .ensures s x (sends s _ (lent (c .before .before .before .before .before .before .before .before .before .before .before .before .before)) R) m) (not-true (c .before .readable .result) (c .if1 .taken))
+returns c s x R m =
+    let back-13 = c .before .before .before .before .before .before .before .before .before .before .before .before .before in
+    unreadable s x (c .before .readable .result) (c .before .readable .ensures s x (sends s _ (lent back-13) R) m) (not-true (c .before .readable .result) (c .if1 .taken))
 
 slice-aggregate-value : tie.Need-slice-aggregate-value
-slice-aggregate-value c = sym (length-take-le _ _ (c .before .before .before .before .before .before .before .before .before .before .before .before .before .before .pre .0 .running .vars-within))
+slice-aggregate-value c =
+    let start = c .before .before .before .before .before .before .before .before .before .before .before .before .before .before in
+    sym (length-take-le _ _ (start .pre .0 .running .vars-within))
 
 slice-aggregate-value-2 : tie.Need-slice-aggregate-value-2
-slice-aggregate-value-2 c = sym (length-take-le _ _ (c .before .before .before .before .before .before .before .before .before .before .before .before .before .before .before .pre .0 .running .locals-within))
+slice-aggregate-value-2 c =
+    let start = c .before .before .before .before .before .before .before .before .before .before .before .before .before .before .before in
+    sym (length-take-le _ _ (start .pre .0 .running .locals-within))
 
 value-requires : tie.Need-value-requires
-value-requires c κs = let P = c .before .before .before .before .before .before .before .before .before .before .before .before .before .before .before .before .before .pre in (some-scope _ _ (lent (c .before .before .before .before .before .before .before .before .before .before .before .before .before .before .before .before .before)) (P .0 .running), (P .1 .0, P .1 .1))
+value-requires c κs =
+    let start = c .before .before .before .before .before .before .before .before .before .before .before .before .before .before .before .before .before in
+    let P = start .pre in (some-scope _ _ (lent start) (P .0 .running), (P .1 .0, P .1 .1))
 
 answered-requires : tie.Need-answered-requires
 answered-requires c κs = search needs
@@ -47,11 +59,14 @@ same-length-2 c = search needs
 
 returns-2 : tie.Need-returns-2
 returns-2 c s x R m =
+    let back-10 = c .before .before .before .before .before .before .before .before .before .before in
+    let back-11 = back-10 .before in
+    let back-23 = back-11 .before .before .before .before .before .before .before .before .before .before .before .before in
     let C = c .before .before .before .before .before .value in
-    let A = c .before .before .before .before .before .before .before .before .before .before .before .readable in
+    let A = back-11 .readable in
     subst (λ r. Given r (step s (return x)) s (C .last .1 .1 .1 .1 .1 .1 .1 .1 .0)) (sym (c .answered .ensures))
-    (given-by s x (omega (arith, R .weighed, R .light)) (A .result) (A .ensures s x (sends s _ (lent (c .before .before .before .before .before .before .before .before .before .before .before .before .before .before .before .before .before .before .before .before .before .before .before)) R) m) (not-false (A .result) (c .before .before .before .before .before .before .before .before .before .before .if1 .left))
-    (C .result) (C .last .1 .1 .1 .1 .1 .1 .1 .1 .0) (C .ensures s x (scope s _ (lent (c .before .before .before .before .before .before .before .before .before .before .before .before .before .before .before .before .before .before .before .before .before .before .before)) R) m))
+    (given-by s x (omega (arith, R .weighed, R .light)) (A .result) (A .ensures s x (sends s _ (lent back-23) R) m) (not-false (A .result) (back-10 .if1 .left))
+    (C .result) (C .last .1 .1 .1 .1 .1 .1 .1 .1 .0) (C .ensures s x (scope s _ (lent back-23) R) m))
 
 pub value-spec : {M : Type 1} → statement M
 value-spec =

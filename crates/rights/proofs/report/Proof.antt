@@ -1,6 +1,6 @@
 use mathlib.Core.Path.{ap, _∙_}
 use borrow.Author.Tests.{eq-eqb, ne-eqb}
-use Rattle.rights.specs.Rounds.{unreached}
+use Rattle.search_steps.specs.Steps.{unreached}
 use Rattle.rights.specs.declared.Answer.the-variants.{Yes}
 use borrow.Author.Needs.{needs}
 use Rattle.rights.proofs.report.Statement.{statement}

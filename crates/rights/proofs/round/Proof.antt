@@ -49,21 +49,22 @@ use denote.Triple.Entry.{Vals, onEntry}
 use denote.Triple.Spec.{Meets, tripleOf}
 use denote.Triple.Table.{entered, cited}
 use denote.Triple.Walked.{says, needs, Stays, stay-none, stay-none-slice, stay-slice, walkOf, goes-none, goes-none-slice, goes-slice, Walks, ends-at, walked, walk-meets}
-use Rattle.rights.specs.Rounds.{handed, marked, Marks, oneRound, left, lengthAfter, Rounded}
-use Rattle.rights.specs.declared.Assertion.{Assertion}
+use Rattle.search_steps.specs.Steps.{handed, marked, Marks, left, lengthAfter}
+use Rattle.rights.specs.Rounds.{oneRound, Rounded}
+use Rattle.assertion.specs.Packed.{Assertion}
 use Rattle.rights.proofs.Again.{LentAgain, lends-again, comes-back, LentRead, lends-read, read-back}
-use Rattle.rights.proofs.Marking.{left-le, total-fits, total}
+use Rattle.search_steps.proofs.Marking.{left-le, total-fits, total}
 use Rattle.rights.proofs.Passing.{pass-next, pass-done}
-use Rattle.rights.proofs.Assertion as S
-use Rattle.rights.proofs.Assertion.Laws as T′
-use Rattle.rights.proofs.mark as mark
-use Rattle.rights.proofs.mark.Symbol as mark-def
-use Rattle.rights.proofs.mark.Symbol.{name as #rights·mark}
-use Rattle.rights.proofs.mark.Met as mark-thm
-use Rattle.rights.proofs.length_after as after
-use Rattle.rights.proofs.length_after.Symbol as after-def
-use Rattle.rights.proofs.length_after.Symbol.{name as #rights·length-after}
-use Rattle.rights.proofs.length_after.Met as after-thm
+use Rattle.assertion.proofs.Assertion as S
+use Rattle.assertion.proofs.Assertion.Laws as T′
+use Rattle.search_steps.proofs.mark as mark
+use Rattle.search_steps.proofs.mark.Symbol as mark-def
+use Rattle.search_steps.proofs.mark.Symbol.{name as #search-steps·mark}
+use Rattle.search_steps.proofs.mark.Met as mark-thm
+use Rattle.search_steps.proofs.length_after as after
+use Rattle.search_steps.proofs.length_after.Symbol as after-def
+use Rattle.search_steps.proofs.length_after.Symbol.{name as #search-steps·length-after}
+use Rattle.search_steps.proofs.length_after.Met as after-thm
 use Rattle.rights.proofs.round.Key.{name as #rights·round}
 use Rattle.rights.proofs.round as f
 use Rattle.rights.proofs.round.Statement as stated
@@ -112,7 +113,8 @@ MarkT 𝓤 H A mem run = tripleOf 𝓤 H A mark.signature (mark.spec 𝓤 H A me
 abbrev AfterT : {M : Type 1} (𝓤 : URA M) (H : Heap 𝓤) (A : Atoms 𝓤) (mem : Memory → SProp 𝓤) (run : Routine → Fun 𝓤) → Contract 𝓤
 AfterT 𝓤 H A mem run = tripleOf 𝓤 H A after.signature (after.spec 𝓤 H A mem run)
 
-module _ {M : Type 1} (𝓤 : URA M) (H : Heap 𝓤) (A : Atoms 𝓤) (W : Given 𝓤 H A) (mem : Memory → SProp 𝓤) (run : Routine → Fun 𝓤) (κ₀ κ₁ : Lft) (q₀ q₁ : Share) (b o : ℕ) (γ : GName) (ys : List Assertion) (b₁ o₁ : ℕ) (γ₁ : GName) (zs₀ : List ℕ) (d p : ℕ)
+module _ {M : Type 1} (𝓤 : URA M) (H : Heap 𝓤) (A : Atoms 𝓤) (W : Given 𝓤 H A) (mem : Memory → SProp 𝓤) (run : Routine → Fun 𝓤) (κ₀ κ₁ : Lft) (q₀ q₁ : Share) (b o : ℕ) (γ : GName) (ys : List Assertion) (b₁ o₁ : ℕ) (γ₁ : GName)
+    (zs₀ : List ℕ) (d p : ℕ)
     (d-fits : d < 2 ^ 16) (p-fits : p < 2 ^ 64) where
   abbrev L : ℕ
   L = length ys
@@ -196,7 +198,8 @@ module _ {M : Type 1} (𝓤 : URA M) (H : Heap 𝓤) (A : Atoms 𝓤) (W : Given
       nothing ! $ move ! (1 ∷ 0 ∷ []) $ fjoin ! $ owned ! u16 (Is u16) (uint-makes 𝓤 H A W w16) d _ (refl, d-fits) $ fjoin ! $
       owned ! S.the-row (Is S.the-row) (LL.makes S.the-type T′.the-plain 𝓤 H A) r _ is $ fjoin ! $ done !
 
-  module _ (𝓣 : Tables 𝓤 H) (known : Triple 𝓤 (𝓣 .C #rights·mark) (MarkT 𝓤 H A mem run)) (known-after : Triple 𝓤 (𝓣 .C #rights·length-after) (AfterT 𝓤 H A mem run)) (room₀ : Room S.the-row L) (room₁ : Room u16 N) (pre : (d < 4096) × (N ≤ 4096) × (p < N) × (1 < N)) (q′ : Share) (l₀ l₁ l₂ l₃ l₄ l₅ l₆ l₇ l₈ l₉ l₁₀ l₁₁ l₁₂ l₁₃ l₁₄ l₁₅ : ℕ) where
+  module _ (𝓣 : Tables 𝓤 H) (known : Triple 𝓤 (𝓣 .C #search-steps·mark) (MarkT 𝓤 H A mem run)) (known-after : Triple 𝓤 (𝓣 .C #search-steps·length-after) (AfterT 𝓤 H A mem run)) (room₀ : Room S.the-row L) (room₁ : Room u16 N)
+      (pre : (d < 4096) × (N ≤ 4096) × (p < N) × (1 < N)) (q′ : Share) (l₀ l₁ l₂ l₃ l₄ l₅ l₆ l₇ l₈ l₉ l₁₀ l₁₁ l₁₂ l₁₃ l₁₄ l₁₅ : ℕ) where
     abbrev C : Calls 𝓤 H
     C = 𝓣 .C
 
@@ -204,7 +207,9 @@ module _ {M : Type 1} (𝓤 : URA M) (H : Heap 𝓤) (A : Atoms 𝓤) (W : Given
     Λ = 𝓣 .Λ
 
     abbrev En : Env 𝓤 H
-    En = (half, l₀) ∷ (records, l₁) ∷ (half, l₂) ∷ (word, l₃) ∷ (marks, l₄) ∷ (word, l₅) ∷ (word, l₆) ∷ (word, l₇) ∷ (tyBool, l₈) ∷ (word, l₉) ∷ (tyPtr, l₁₀) ∷ (T′.mir, l₁₁) ∷ (lent, l₁₂) ∷ (sliceTy lent, l₁₃) ∷ (read, l₁₄) ∷ (sliceTy read, l₁₅) ∷ []
+    En =
+        (half, l₀) ∷ (records, l₁) ∷ (half, l₂) ∷ (word, l₃) ∷ (marks, l₄) ∷ (word, l₅) ∷ (word, l₆) ∷ (word, l₇) ∷ (tyBool, l₈) ∷ (word, l₉) ∷ (tyPtr, l₁₀) ∷ (T′.mir, l₁₁) ∷ (lent, l₁₂) ∷ (sliceTy lent, l₁₃) ∷ (read, l₁₄) ∷
+        (sliceTy read, l₁₅) ∷ []
 
     -- what no turn changes
     abbrev Frame : List (Item 𝓤)
@@ -215,7 +220,9 @@ module _ {M : Type 1} (𝓤 : URA M) (H : Heap 𝓤) (A : Atoms 𝓤) (W : Given
 
     -- at the loop's head: n, i, room for the turn's own locals, `dist` at zs with its token, the share of the records, and what no turn changes
     abbrev At : ℕ → ℕ → List ℕ → List (Item 𝓤)
-    At n i zs = ‵ (fat fullShare word l₅ 0 (vint w64 n)) ∷ ‵ (fat fullShare word l₆ 0 (vint w64 i)) ∷ ‵ (froom word l₇ 0) ∷ ‵ (froom tyBool l₈ 0) ∷ ‵ (froom word l₉ 0) ∷ ‵ (froom tyPtr l₁₀ 0) ∷ ‵ (froom T′.mir l₁₁ 0) ∷ ‵ (froom lent l₁₂ 0) ∷ ‵ (froom (sliceTy lent) l₁₃ 0)
+    At n i zs =
+        ‵ (fat fullShare word l₅ 0 (vint w64 n)) ∷ ‵ (fat fullShare word l₆ 0 (vint w64 i)) ∷ ‵ (froom word l₇ 0) ∷ ‵ (froom tyBool l₈ 0) ∷ ‵ (froom word l₉ 0) ∷ ‵ (froom tyPtr l₁₀ 0) ∷ ‵ (froom T′.mir l₁₁ 0) ∷ ‵ (froom lent l₁₂ 0) ∷ ‵
+        (froom (sliceTy lent) l₁₃ 0)
         ∷ ‵ (Dist zs) ∷ ‵ (flft κ₁ q₁) ∷ ‵ (row S.the-row q′ ys b o) ∷ Frame
 
     -- t assertions are left
@@ -279,12 +286,14 @@ module _ {M : Type 1} (𝓤 : URA M) (H : Heap 𝓤) (A : Atoms 𝓤) (W : Given
         -- dist is lent again, for a lifetime ν of the call
         move ! (10 ∷ []) $ rewrite ! 0 (λ (m : ℕ). ‵ (MutSlice (named 1) κ₁ u16 .own (dist γ₁ zs) (sliceVal (b₁, o₁) m ∷ []))) (sym e) refl $
         lft-new ! tt (λ ν. move ! (1 ∷ 12 ∷ []) $
-        use2 W (later (some (λ (δ : GName). ‵ (MutSlice (named 0) (ν ∷ []) u16 .own (dist δ zs) (sliceVal (b₁, o₁) (length zs) ∷ [])) ⊛ ‵ (LentAgain u16 κ₁ (ν ∷ []) q₁ γ₁ b₁ o₁ δ zs)))) (lends-again u16 κ₁ (ν ∷ []) q₁ γ₁ b₁ o₁ 𝓤 H A W (named 1) (named 0) zs) $ await ! tt $ pick ! (λ δ. split ! $
+        use2 W (later (some (λ (δ : GName). ‵ (MutSlice (named 0) (ν ∷ []) u16 .own (dist δ zs) (sliceVal (b₁, o₁) (length zs) ∷ [])) ⊛ ‵ (LentAgain u16 κ₁ (ν ∷ []) q₁ γ₁ b₁ o₁ δ zs))))
+        (lends-again u16 κ₁ (ν ∷ []) q₁ γ₁ b₁ o₁ 𝓤 H A W (named 1) (named 0) zs) $ await ! tt $ pick ! (λ δ. split ! $
         rewrite ! 0 (λ (m : ℕ). ‵ (MutSlice (named 0) (ν ∷ []) u16 .own (dist δ zs) (sliceVal (b₁, o₁) m ∷ []))) e refl $
         move ! (2 ∷ 0 ∷ []) $ use2 W (raw (MarkT 𝓤 H A mem run .pre (to-mark (getD ys i none) ν δ zs))) (goes (getD ys i none) ν δ zs g (pre .0)) $
         calls-at ! (fmOf 𝓤 H (W .laws) 𝓣) (MarkT 𝓤 H A mem run) known (to-mark (getD ys i none) ν δ zs)
         (and-then ! (load ! (from ! (stop !)) (look ! 9 refl)) (and-then ! (load ! (from ! (stop !)) (look ! 13 refl)) (and-then ! (load ! (from ! (stop !)) (look ! 11 refl)) (no-more !)))) (λ u.
-        use1 W (later (some (λ (r : ℕ). ((‵ (flft (ν ∷ []) fullShare) ⊛ ‵ ftrue) ⊛ ‵ (usize .own r (u ∷ []))) ⊛ raw (ensured 𝓤 H A mark.ended (mark.clauses 𝓤 H A mem run) (ν ∷ [], tt) (getD ys i none, (d, (dist δ zs, tt))) tt r)))) (id⊢ 𝓤 _) $ await ! tt $ pick ! (λ r.
+        use1 W (later (some (λ (r : ℕ). ((‵ (flft (ν ∷ []) fullShare) ⊛ ‵ ftrue) ⊛ ‵ (usize .own r (u ∷ []))) ⊛ raw (ensured 𝓤 H A mark.ended (mark.clauses 𝓤 H A mem run) (ν ∷ [], tt) (getD ys i none, (d, (dist δ zs, tt))) tt r))))
+        (id⊢ 𝓤 _) $ await ! tt $ pick ! (λ r.
         -- what `mark` ensures, at some last list
         split ! $ move ! (1 ∷ []) $ use1 W (some (λ (us : Unit {0} × (Unit {0} × (List ℕ × Unit {0}))). ‵ (lasts mark.ended (ν ∷ [], tt) (getD ys i none, (d, (dist δ zs, tt))) us) ⊛ raw (fact 𝓤 (Told i zs r (us .1 .1 .0))))) (id⊢ 𝓤 _) $ pick ! (λ us.
         split ! $ move ! (1 ∷ []) $ heard ! (Told i zs r (us .1 .1 .0)) (λ told. fsplit ! $ drop ! $ fsplit ! $ drop ! $ fsplit ! $ fsplit ! $ move ! (1 ∷ []) $ feqL ! (λ same.
@@ -293,13 +302,15 @@ module _ {M : Type 1} (𝓤 : URA M) (H : Heap 𝓤) (A : Atoms 𝓤) (W : Given
         land ! (from ! (stop !)) (store ! 6 refl (uint-lawful 𝓤 H A W w64 .typed r _ is .0)) $ rewrite ! 6 (λ (v : Val). ‵ (fat fullShare word l₇ 0 v)) (ap only (is .0)) refl $
         -- the lifetime is ended, and dist comes back at that list
         split ! $ lft-end ! tt $ move ! (0 ∷ 3 ∷ 2 ∷ []) $
-        use3 W (later (‵ (MutSlice (named 1) κ₁ u16 .own (dist γ₁ (us .1 .1 .0)) (sliceVal (b₁, o₁) (length zs) ∷ [])) ⊛ ‵ (flft κ₁ q₁))) (comes-back u16 κ₁ (ν ∷ []) q₁ γ₁ b₁ o₁ 𝓤 H A W (named 1) (named 0) zs δ (us .1 .1 .0) (subst (Room u16) (sym e) room₁) same) $ await ! tt $ split ! $
+        use3 W (later (‵ (MutSlice (named 1) κ₁ u16 .own (dist γ₁ (us .1 .1 .0)) (sliceVal (b₁, o₁) (length zs) ∷ [])) ⊛ ‵ (flft κ₁ q₁)))
+        (comes-back u16 κ₁ (ν ∷ []) q₁ γ₁ b₁ o₁ 𝓤 H A W (named 1) (named 0) zs δ (us .1 .1 .0) (subst (Room u16) (sym e) room₁) same) $ await ! tt $ split ! $
         rewrite ! 0 (λ (m : ℕ). ‵ (MutSlice (named 1) κ₁ u16 .own (dist γ₁ (us .1 .1 .0)) (sliceVal (b₁, o₁) m ∷ []))) e refl $
         -- [dist; its token; true; the row; _5; _6; _7; …; _13; _1; …]
         assigns ! (bin ! (load ! (from ! (stop !)) (look ! 4 refl)) (load ! (from ! (stop !)) (look ! 6 refl)) (record { fits = sum-fits n r zs (us .1 .1 .0) count (told .counts) })) (from ! (stop !)) (store ! 4 refl (tt, record { fits = sum-fits n r zs (us .1 .1 .0) count (told .counts) })) $
         assigns-last ! (bin ! (load ! (from ! (stop !)) (look ! 5 refl)) (lit ! tt) (record { fits = fits-1 i l })) (from ! (stop !)) (store ! 5 refl (tt, record { fits = fits-1 i l })) $
         forget ! 6 refl $ forget ! 7 refl $ forget ! 8 refl $ forget ! 9 refl $ forget ! 10 refl $ forget ! 11 refl $ forget ! 12 refl $
-        keep ! (4 ∷ 5 ∷ 6 ∷ 7 ∷ 8 ∷ 9 ∷ 10 ∷ 11 ∷ 12 ∷ 0 ∷ 1 ∷ 3 ∷ 13 ∷ 14 ∷ 15 ∷ 16 ∷ 17 ∷ 18 ∷ 19 ∷ 20 ∷ 21 ∷ 22 ∷ 23 ∷ 24 ∷ 25 ∷ 26 ∷ 27 ∷ 28 ∷ 29 ∷ 30 ∷ 31 ∷ 32 ∷ 33 ∷ 34 ∷ 35 ∷ 36 ∷ 37 ∷ 38 ∷ 39 ∷ []) $ by ! (k r (us .1 .1 .0) same told))))))))))
+        keep ! (4 ∷ 5 ∷ 6 ∷ 7 ∷ 8 ∷ 9 ∷ 10 ∷ 11 ∷ 12 ∷ 0 ∷ 1 ∷ 3 ∷ 13 ∷ 14 ∷ 15 ∷ 16 ∷ 17 ∷ 18 ∷ 19 ∷ 20 ∷ 21 ∷ 22 ∷ 23 ∷ 24 ∷ 25 ∷ 26 ∷ 27 ∷ 28 ∷ 29 ∷ 30 ∷ 31 ∷ 32 ∷ 33 ∷ 34 ∷ 35 ∷ 36 ∷ 37 ∷ 38 ∷ 39 ∷ []) $ by !
+        (k r (us .1 .1 .0) same told))))))))))
 
     -- what is had at the end: the round is whole, and r is the length to report after it
     rounded : (n r : ℕ) (zs : List ℕ) → (zs ≡ All) × (n + left zs ≡ left zs₀) → r ≡ lengthAfter n d p zs → Rounded (map handed ys) d p zs₀ zs r
@@ -322,7 +333,8 @@ module _ {M : Type 1} (𝓤 : URA M) (H : Heap 𝓤) (A : Atoms 𝓤) (W : Given
         -- dist is lent as a `&`, for a lifetime ν of the call
         move ! (10 ∷ []) $ rewrite ! 0 (λ (m : ℕ). ‵ (MutSlice (named 1) κ₁ u16 .own (dist γ₁ zs) (sliceVal (b₁, o₁) m ∷ []))) (sym e) refl $
         lft-new ! tt (λ ν. move ! (1 ∷ 12 ∷ []) $
-        use2 W (later (some (λ (δ : GName). ‵ (ShrSlice (named 0) (ν ∷ []) u16 .own (dist δ zs) (sliceVal (b₁, o₁) (length zs) ∷ [])) ⊛ ‵ (LentRead u16 κ₁ (ν ∷ []) q₁ γ₁ b₁ o₁ zs)))) (lends-read u16 κ₁ (ν ∷ []) q₁ γ₁ b₁ o₁ 𝓤 H A W (named 1) (named 0) zs) $ await ! tt $ pick ! (λ δ. split ! $
+        use2 W (later (some (λ (δ : GName). ‵ (ShrSlice (named 0) (ν ∷ []) u16 .own (dist δ zs) (sliceVal (b₁, o₁) (length zs) ∷ [])) ⊛ ‵ (LentRead u16 κ₁ (ν ∷ []) q₁ γ₁ b₁ o₁ zs))))
+        (lends-read u16 κ₁ (ν ∷ []) q₁ γ₁ b₁ o₁ 𝓤 H A W (named 1) (named 0) zs) $ await ! tt $ pick ! (λ δ. split ! $
         rewrite ! 0 (λ (m : ℕ). ‵ (ShrSlice (named 0) (ν ∷ []) u16 .own (dist δ zs) (sliceVal (b₁, o₁) m ∷ []))) e refl $
         move ! (2 ∷ 0 ∷ []) $ use2 W (raw (AfterT 𝓤 H A mem run .pre (to-after n ν δ zs))) (goes-after n ν δ zs (n-fits n zs (so-far .1)) (pre .0, omega (arith, e, pre .2), omega (arith, e, pre .3))) $
         -- [what `length_after` asks; what is lent; the records' token; _5; …; _13; _1; …; _4; _0; …; _14; _15; …]
@@ -339,7 +351,9 @@ module _ {M : Type 1} (𝓤 : URA M) (H : Heap 𝓤) (A : Atoms 𝓤) (W : Given
         rewrite ! 0 (λ (m : ℕ). ‵ (MutSlice (named 1) κ₁ u16 .own (dist γ₁ zs) (sliceVal (b₁, o₁) m ∷ []))) e refl $
         -- [dist; its token; true; the records' token; _5; …; _13; _1; …; _4; _0; …; _14; _15; …]
         returns ! (look ! 17 refl) $ forget ! 4 refl $ forget ! 5 refl $ forget ! 6 refl $ forget ! 7 refl $ forget ! 13 refl $ forget ! 14 refl $ forget ! 15 refl $ forget ! 16 refl $ forget ! 17 refl $ forget ! 21 refl $ forget ! 22 refl $
-        move ! (17 ∷ 23 ∷ []) $ free1 ! $ move ! (13 ∷ 22 ∷ []) $ free1 ! $ move ! (13 ∷ 21 ∷ []) $ free1 ! $ move ! (13 ∷ 20 ∷ []) $ free1 ! $ move ! (13 ∷ 19 ∷ []) $ free1 ! $ move ! (4 ∷ 18 ∷ []) $ free1 ! $ move ! (4 ∷ 17 ∷ []) $ free1 ! $ move ! (4 ∷ 16 ∷ []) $ free1 ! $ move ! (4 ∷ 15 ∷ []) $ free1 ! $ move ! (4 ∷ 14 ∷ []) $ free1 ! $ move ! (4 ∷ 13 ∷ []) $ free1 ! $ move ! (4 ∷ 12 ∷ []) $ free1 ! $ move ! (4 ∷ 11 ∷ []) $ free1 ! $ move ! (4 ∷ 10 ∷ []) $ free1 ! $ move ! (7 ∷ 9 ∷ []) $ free1 ! $ move ! (7 ∷ 8 ∷ []) $ free1 ! $ free0 ! $
+        move ! (17 ∷ 23 ∷ []) $ free1 ! $ move ! (13 ∷ 22 ∷ []) $ free1 ! $ move ! (13 ∷ 21 ∷ []) $ free1 ! $ move ! (13 ∷ 20 ∷ []) $ free1 ! $ move ! (13 ∷ 19 ∷ []) $ free1 ! $ move ! (4 ∷ 18 ∷ []) $ free1 ! $ move !
+        (4 ∷ 17 ∷ []) $ free1 ! $ move ! (4 ∷ 16 ∷ []) $ free1 ! $ move ! (4 ∷ 15 ∷ []) $ free1 ! $ move ! (4 ∷ 14 ∷ []) $ free1 ! $ move ! (4 ∷ 13 ∷ []) $ free1 ! $ move ! (4 ∷ 12 ∷ []) $ free1 ! $ move !
+        (4 ∷ 11 ∷ []) $ free1 ! $ move ! (4 ∷ 10 ∷ []) $ free1 ! $ move ! (7 ∷ 9 ∷ []) $ free1 ! $ move ! (7 ∷ 8 ∷ []) $ free1 ! $ free0 ! $
         keep ! (3 ∷ 1 ∷ 6 ∷ 5 ∷ 4 ∷ 0 ∷ []) $ by ! (exits r zs (is .1) e (rounded n r zs so-far told)))))))))
       where
         n-fits : (n : ℕ) (zs : List ℕ) → n + left zs ≡ left zs₀ → n < 2 ^ 64
@@ -362,20 +376,25 @@ module _ {M : Type 1} (𝓤 : URA M) (H : Heap 𝓤) (A : Atoms 𝓤) (W : Given
     loops = via 𝓤 (Inv L) (into L 0 0 zs₀ (omega arith, refl, refl, omega arith)) (loop-rule 𝓤 H (W .laws) 𝓣 _<_ (Nat·lt-wfRel .wf) En parts.turn-1 Left Inv turns L)
 
   -- the MIR, up to the loop: the slice of assertions is looked into once, before it
-  walk : (𝓣 : Tables 𝓤 H) → Triple 𝓤 (𝓣 .C #rights·mark) (MarkT 𝓤 H A mem run) → Triple 𝓤 (𝓣 .C #rights·length-after) (AfterT 𝓤 H A mem run) → Room S.the-row L → Room u16 N → (d < 4096) × (N ≤ 4096) × (p < N) × (1 < N)
+  walk : (𝓣 : Tables 𝓤 H) → Triple 𝓤 (𝓣 .C #search-steps·mark) (MarkT 𝓤 H A mem run) → Triple 𝓤 (𝓣 .C #search-steps·length-after) (AfterT 𝓤 H A mem run) → Room S.the-row L → Room u16 N → (d < 4096) × (N ≤ 4096) × (p < N) × (1 < N)
       → ent 𝓤 (onEntry 𝓤 H A f.signature (κ₀, (κ₁, tt)) (q₀, (q₁, tt)) a at) (WpFn 𝓤 H (𝓣 .C) (𝓣 .Λ) code.function (s₀ ∷ vint w16 d ∷ vint w64 p ∷ s₁ ∷ []) Post)
   walk 𝓣 known known-after room₀ room₁ pre =
-      qed W ((‵ (flft κ₀ q₀) ⊛ ‵ (flft κ₁ q₁) ⊛ ‵ ftrue) ∷ ‵ (owns (ShrSlice (named 0) κ₀ S.the-row ∷ u16 ∷ usize ∷ MutSlice (named 1) κ₁ u16 ∷ []) a at) ∷ []) ∵ enter ! (𝓣 .C) (𝓣 .Λ) code.function (s₀ ∷ vint w16 d ∷ vint w64 p ∷ s₁ ∷ []) _ $
-      alloc1 ! (λ l₀. alloc1 ! (λ l₁. alloc1 ! (λ l₂. alloc1 ! (λ l₃. alloc1 ! (λ l₄. alloc1 ! (λ l₅. alloc1 ! (λ l₆. alloc1 ! (λ l₇. alloc1 ! (λ l₈. alloc1 ! (λ l₉. alloc1 ! (λ l₁₀. alloc1 ! (λ l₁₁. alloc1 ! (λ l₁₂. alloc1 ! (λ l₁₃. alloc1 ! (λ l₁₄. alloc1 ! (λ l₁₅. alloc0 ! $ params1 ! $
+      qed W ((‵ (flft κ₀ q₀) ⊛ ‵ (flft κ₁ q₁) ⊛ ‵ ftrue) ∷ ‵ (owns (ShrSlice (named 0) κ₀ S.the-row ∷ u16 ∷ usize ∷ MutSlice (named 1) κ₁ u16 ∷ []) a at) ∷ []) ∵ enter ! (𝓣 .C) (𝓣 .Λ) code.function
+      (s₀ ∷ vint w16 d ∷ vint w64 p ∷ s₁ ∷ []) _ $
+      alloc1 ! (λ l₀. alloc1 ! (λ l₁. alloc1 !
+      (λ l₂. alloc1 ! (λ l₃. alloc1 ! (λ l₄. alloc1 !
+      (λ l₅. alloc1 ! (λ l₆. alloc1 ! (λ l₇. alloc1 ! (λ l₈. alloc1 ! (λ l₉. alloc1 ! (λ l₁₀. alloc1 ! (λ l₁₁. alloc1 ! (λ l₁₂. alloc1 ! (λ l₁₃. alloc1 ! (λ l₁₄. alloc1 ! (λ l₁₅. alloc0 ! $ params1 ! $
       pass1 ! (init ! 28 refl (tt, (tt, (record { fits = room₀ .0 }, tt)))) $ pass1 ! (init ! 26 refl (tt, record { fits = d-fits })) $ pass1 ! (init ! 24 refl (tt, record { fits = p-fits })) $ pass1 ! (init ! 22 refl (tt, (tt, (record { fits = room₁ .0 }, tt)))) $ pass0 ! $
       assigns ! (of-opd ! (lit ! tt)) (from ! (stop !)) (init ! 20 refl (tt, record { fits = lit< tt })) $ assigns ! (of-opd ! (lit ! tt)) (from ! (stop !)) (init ! 18 refl (tt, record { fits = lit< tt })) $
       move ! (33 ∷ []) $ fsplit ! $ fsplit ! $ move ! (1 ∷ []) $ fsplit ! $ move ! (3 ∷ []) $ fsplit ! $ drop ! $ fsplit ! $ drop ! $ fsplit ! $ move ! (1 ∷ []) $ drop ! $
       -- [what dist owns; res; the fractured borrow; at-slice; _15; …; _0; …; the tokens]
       move ! (36 ∷ []) $ split ! $ move ! (1 ∷ []) $ split ! $ move ! (1 ∷ []) $ drop ! $ move ! (4 ∷ 1 ∷ []) $
       looks-slice ! tt S.the-row (Is S.the-row) (shows 𝓤 H A S.the-row) (LL.vals S.the-type T′.the-laws) (LL.tells S.the-type T′.the-laws) (LL.copy S.the-type T′.the-copy 𝓤 H A W) ys b o (λ q′.
-      keep ! (27 ∷ 25 ∷ 23 ∷ 21 ∷ 19 ∷ 17 ∷ 15 ∷ 13 ∷ 11 ∷ 4 ∷ 3 ∷ 0 ∷ 35 ∷ 33 ∷ 31 ∷ 29 ∷ 37 ∷ 1 ∷ 2 ∷ 5 ∷ 6 ∷ 9 ∷ 7 ∷ 38 ∷ 36 ∷ 34 ∷ 32 ∷ 30 ∷ 28 ∷ 26 ∷ 24 ∷ 22 ∷ 20 ∷ 18 ∷ 16 ∷ 14 ∷ 12 ∷ 10 ∷ 8 ∷ []) $ by ! (loops 𝓣 known known-after room₀ room₁ pre q′ l₀ l₁ l₂ l₃ l₄ l₅ l₆ l₇ l₈ l₉ l₁₀ l₁₁ l₁₂ l₁₃ l₁₄ l₁₅))))))))))))))))))
+      keep ! (27 ∷ 25 ∷ 23 ∷ 21 ∷ 19 ∷ 17 ∷ 15 ∷ 13 ∷ 11 ∷ 4 ∷ 3 ∷ 0 ∷ 35 ∷ 33 ∷ 31 ∷ 29 ∷ 37 ∷ 1 ∷ 2 ∷ 5 ∷ 6 ∷ 9 ∷ 7 ∷ 38 ∷ 36 ∷ 34 ∷ 32 ∷ 30 ∷ 28 ∷ 26 ∷ 24 ∷ 22 ∷ 20 ∷ 18 ∷ 16 ∷ 14 ∷ 12 ∷ 10 ∷ 8 ∷ []) $ by !
+      (loops 𝓣 known known-after room₀ room₁ pre q′ l₀ l₁ l₂ l₃ l₄ l₅ l₆ l₇ l₈ l₉ l₁₀ l₁₁ l₁₂ l₁₃ l₁₄ l₁₅))))))))))))))))))
 
-module _ {M : Type 1} (𝓤 : URA M) (H : Heap 𝓤) (A : Atoms 𝓤) (W : Given 𝓤 H A) (mem : Memory → SProp 𝓤) (run : Routine → Fun 𝓤) (𝓣 : Tables 𝓤 H) (known : Triple 𝓤 (𝓣 .C #rights·mark) (MarkT 𝓤 H A mem run)) (known-after : Triple 𝓤 (𝓣 .C #rights·length-after) (AfterT 𝓤 H A mem run)) where
+module _ {M : Type 1} (𝓤 : URA M) (H : Heap 𝓤) (A : Atoms 𝓤) (W : Given 𝓤 H A) (mem : Memory → SProp 𝓤) (run : Routine → Fun 𝓤) (𝓣 : Tables 𝓤 H) (known : Triple 𝓤 (𝓣 .C #search-steps·mark) (MarkT 𝓤 H A mem run))
+    (known-after : Triple 𝓤 (𝓣 .C #search-steps·length-after) (AfterT 𝓤 H A mem run)) where
   f-walks : Walks 𝓤 H A f.ended stayed (WpFn 𝓤 H (𝓣 .C) (𝓣 .Λ) code.function) (f.clauses 𝓤 H A mem run)
   f-walks = walked 𝓤 H A f.ended stayed (f.clauses 𝓤 H A mem run) (WpFn 𝓤 H (𝓣 .C) (𝓣 .Λ) code.function)
       (λ κs. (slice-vals, (uint-vals w16, (uint-vals w64, (slice-vals, tt)))))
@@ -395,5 +414,5 @@ round-spec 𝓤 H 𝓜 𝓖 𝓡 =
     entered 𝓤 H (tripleOf 𝓤 H (𝓖 .A) f.signature (f.spec 𝓤 H (𝓖 .A) (𝓜 .mem) (𝓡 .run)))
     (tables 𝓤 H 𝓜 𝓡 code.env .C) (tables 𝓤 H 𝓜 𝓡 code.env .Λ) #rights·round code.function (code.unfolded 𝓤 H 𝓜 𝓡)
     (f-meets 𝓤 H (𝓖 .A) (givenOf 𝓤 H 𝓜 𝓖) (𝓜 .mem) (𝓡 .run) (tablesOf 𝓤 H 𝓜 (tables 𝓤 H 𝓜 𝓡 code.env))
-    (cited 𝓤 H (MarkT 𝓤 H (𝓖 .A) (𝓜 .mem) (𝓡 .run)) 𝓜 𝓡 code.env #rights·mark mark-def.routine code.calls-rights·mark (mark-thm.met 𝓤 H 𝓜 𝓖 𝓡))
-    (cited 𝓤 H (AfterT 𝓤 H (𝓖 .A) (𝓜 .mem) (𝓡 .run)) 𝓜 𝓡 code.env #rights·length-after after-def.routine code.calls-rights·length-after (after-thm.met 𝓤 H 𝓜 𝓖 𝓡)))
+    (cited 𝓤 H (MarkT 𝓤 H (𝓖 .A) (𝓜 .mem) (𝓡 .run)) 𝓜 𝓡 code.env #search-steps·mark mark-def.routine code.calls-search-steps·mark (mark-thm.met 𝓤 H 𝓜 𝓖 𝓡))
+    (cited 𝓤 H (AfterT 𝓤 H (𝓖 .A) (𝓜 .mem) (𝓡 .run)) 𝓜 𝓡 code.env #search-steps·length-after after-def.routine code.calls-search-steps·length-after (after-thm.met 𝓤 H 𝓜 𝓖 𝓡)))

@@ -53,13 +53,14 @@ use denote.Triple.Spec.{Meets, tripleOf}
 use denote.Triple.Table.{entered, cited}
 use denote.Triple.Walked.{says, needs, Stays, stay-none, stay-slice, walkOf, goes-none, goes-slice, Walks, ends-at, walked, walk-meets}
 use Rattle.rights.specs.Chain.{Answered}
-use Rattle.rights.specs.Rounds.{Delegation, handed, left, start, Rounded, Whoever, answerOf}
-use Rattle.rights.specs.declared.Assertion.{Assertion}
+use Rattle.search_steps.specs.Steps.{Delegation, handed, left}
+use Rattle.rights.specs.Rounds.{start, Rounded, Whoever, answerOf}
+use Rattle.assertion.specs.Packed.{Assertion}
 use Rattle.rights.proofs.Again.{LentAgain, lends-again, comes-back}
 use Rattle.rights.proofs.Laid.{after, front, front-back, lays, picks-up}
 use Rattle.rights.proofs.Turns.{Turn, turn-first, turn-next}
-use Rattle.rights.proofs.Assertion as S
-use Rattle.rights.proofs.Assertion.Laws as T′
+use Rattle.assertion.proofs.Assertion as S
+use Rattle.assertion.proofs.Assertion.Laws as T′
 use Rattle.rights.proofs.round as g
 use Rattle.rights.proofs.round.Symbol as g-def
 use Rattle.rights.proofs.round.Symbol.{name as #rights·round}
@@ -175,7 +176,8 @@ module _ {M : Type 1} (𝓤 : URA M) (H : Heap 𝓤) (A : Atoms 𝓤) (W : Given
       d-fits : d < 2 ^ 16
       d-fits = omega (arith, pre .0)
 
-  module _ (𝓣 : Tables 𝓤 H) (known : Triple 𝓤 (𝓣 .C #rights·round) (RoundT 𝓤 H A mem run)) (room : Room u16 N) (pre : (k ≤ 2048) × (N ≤ 4096) × (0 < p) × (p < N) × (zs₀ ≡ start N)) (ν : ℕ) (δ : GName) (l₀ l₁ l₂ l₃ l₄ l₅ l₆ l₇ l₈ l₉ l₁₀ l₁₁ l₁₂ : ℕ) where
+  module _ (𝓣 : Tables 𝓤 H) (known : Triple 𝓤 (𝓣 .C #rights·round) (RoundT 𝓤 H A mem run)) (room : Room u16 N) (pre : (k ≤ 2048) × (N ≤ 4096) × (0 < p) × (p < N) × (zs₀ ≡ start N)) (ν : ℕ) (δ : GName)
+      (l₀ l₁ l₂ l₃ l₄ l₅ l₆ l₇ l₈ l₉ l₁₀ l₁₁ l₁₂ : ℕ) where
     abbrev C : Calls 𝓤 H
     C = 𝓣 .C
 
@@ -240,7 +242,8 @@ module _ {M : Type 1} (𝓤 : URA M) (H : Heap 𝓤) (A : Atoms 𝓤) (W : Given
         -- dist is lent again, for a lifetime μ of the call
         move ! (5 ∷ []) $ rewrite ! 0 (λ (m : ℕ). ‵ (MutSlice (named 0) κ u16 .own (dist γ zs) (sliceVal (b, o) m ∷ []))) (sym e) refl $
         lft-new ! tt (λ μ. move ! (1 ∷ 7 ∷ []) $
-        use2 W (later (some (λ (ε : GName). ‵ (MutSlice (named 1) (μ ∷ []) u16 .own (dist ε zs) (sliceVal (b, o) (length zs) ∷ [])) ⊛ ‵ (LentAgain u16 κ (μ ∷ []) q γ b o ε zs)))) (lends-again u16 κ (μ ∷ []) q γ b o 𝓤 H A W (named 0) (named 1) zs) $ await ! tt $ pick ! (λ ε. split ! $
+        use2 W (later (some (λ (ε : GName). ‵ (MutSlice (named 1) (μ ∷ []) u16 .own (dist ε zs) (sliceVal (b, o) (length zs) ∷ [])) ⊛ ‵ (LentAgain u16 κ (μ ∷ []) q γ b o ε zs))))
+        (lends-again u16 κ (μ ∷ []) q γ b o 𝓤 H A W (named 0) (named 1) zs) $ await ! tt $ pick ! (λ ε. split ! $
         rewrite ! 0 (λ (m : ℕ). ‵ (MutSlice (named 1) (μ ∷ []) u16 .own (dist ε zs) (sliceVal (b, o) m ∷ []))) e refl $
         -- [dist; what is lent of it; μ's token; _7; _8; _10; _11; _12; the slice; its token; _6; …]: one copy of the slice goes to the callee
         move ! (8 ∷ []) $ use1 W (‵ (Lent l₅ ν δ) ⊛ ‵ (Lent l₅ ν δ)) (shr-slice-copy 𝓤 H A W (named 0) (ν ∷ []) S.the-row .twice (recs l₅ δ) (sliceVal (l₅, 0) k ∷ [])) $ split ! $
@@ -248,16 +251,19 @@ module _ {M : Type 1} (𝓤 : URA M) (H : Heap 𝓤) (A : Atoms 𝓤) (W : Given
         -- [what `round` asks; the slice; what is lent of dist; _7; _8; _10; _11; _12; _6; _3; _4; …]
         calls-at ! (fmOf 𝓤 H (W .laws) 𝓣) (RoundT 𝓤 H A mem run) known (to l₅ ν δ μ ε d zs)
         (and-then ! (load ! (from ! (stop !)) (look ! 8 refl)) (and-then ! (load ! (from ! (stop !)) (look ! 3 refl)) (and-then ! (load ! (from ! (stop !)) (look ! 9 refl)) (and-then ! (load ! (from ! (stop !)) (look ! 7 refl)) (no-more !))))) (λ u.
-        use1 W (later (some (λ (r′ : ℕ). ((‵ (flft (ν ∷ []) fullShare) ⊛ ‵ (flft (μ ∷ []) fullShare) ⊛ ‵ ftrue) ⊛ ‵ (u16 .own r′ (u ∷ []))) ⊛ raw (ensured 𝓤 H A g.ended (g.clauses 𝓤 H A mem run) (ν ∷ [], (μ ∷ [], tt)) (recs l₅ δ, (d, (p, (dist ε zs, tt)))) tt r′)))) (id⊢ 𝓤 _) $ await ! tt $ pick ! (λ r′.
+        use1 W (later (some (λ (r′ : ℕ). ((‵ (flft (ν ∷ []) fullShare) ⊛ ‵ (flft (μ ∷ []) fullShare) ⊛ ‵ ftrue) ⊛ ‵ (u16 .own r′ (u ∷ []))) ⊛ raw
+        (ensured 𝓤 H A g.ended (g.clauses 𝓤 H A mem run) (ν ∷ [], (μ ∷ [], tt)) (recs l₅ δ, (d, (p, (dist ε zs, tt)))) tt r′)))) (id⊢ 𝓤 _) $ await ! tt $ pick ! (λ r′.
         -- what `round` ensures, at some last list
-        split ! $ move ! (1 ∷ []) $ use1 W (some (λ (us : Unit {0} × (Unit {0} × (Unit {0} × (List ℕ × Unit {0})))). ‵ (lasts g.ended (ν ∷ [], (μ ∷ [], tt)) (recs l₅ δ, (d, (p, (dist ε zs, tt)))) us) ⊛ raw (fact 𝓤 (Rounded D d p zs (us .1 .1 .1 .0) r′)))) (id⊢ 𝓤 _) $ pick ! (λ us.
+        split ! $ move ! (1 ∷ []) $ use1 W (some
+        (λ (us : Unit {0} × (Unit {0} × (Unit {0} × (List ℕ × Unit {0})))). ‵ (lasts g.ended (ν ∷ [], (μ ∷ [], tt)) (recs l₅ δ, (d, (p, (dist ε zs, tt)))) us) ⊛ raw (fact 𝓤 (Rounded D d p zs (us .1 .1 .1 .0) r′)))) (id⊢ 𝓤 _) $ pick ! (λ us.
         split ! $ move ! (1 ∷ []) $ heard ! (Rounded D d p zs (us .1 .1 .1 .0) r′) (λ told. fsplit ! $ drop ! $ fsplit ! $ drop ! $ fsplit ! $ drop ! $ fsplit ! $ fsplit ! $ move ! (1 ∷ []) $ feqL ! (λ same.
         -- [the last list; true; the tokens and the result; the slice; what is lent of dist; _7; …]
         move ! (1 ∷ []) $ drop ! $ move ! (1 ∷ []) $ split ! $ move ! (1 ∷ []) $ peeks ! u16 (Is u16) (shows 𝓤 H A u16) r′ (u ∷ []) (λ is. drop ! $
         land ! (from ! (stop !)) (store ! 5 refl (uint-lawful 𝓤 H A W w16 .typed r′ _ is .0)) $ rewrite ! 5 (λ (v : Val). ‵ (fat fullShare half l₈ 0 v)) (ap only (is .0)) refl $
         -- μ is ended, and dist comes back at that list
         split ! $ move ! (1 ∷ []) $ split ! $ lft-end ! tt $ move ! (0 ∷ 5 ∷ 3 ∷ []) $
-        use3 W (later (‵ (MutSlice (named 0) κ u16 .own (dist γ (us .1 .1 .1 .0)) (sliceVal (b, o) (length zs) ∷ [])) ⊛ ‵ (flft κ q))) (comes-back u16 κ (μ ∷ []) q γ b o 𝓤 H A W (named 0) (named 1) zs ε (us .1 .1 .1 .0) (subst (Room u16) (sym e) room) same) $ await ! tt $ split ! $
+        use3 W (later (‵ (MutSlice (named 0) κ u16 .own (dist γ (us .1 .1 .1 .0)) (sliceVal (b, o) (length zs) ∷ [])) ⊛ ‵ (flft κ q)))
+        (comes-back u16 κ (μ ∷ []) q γ b o 𝓤 H A W (named 0) (named 1) zs ε (us .1 .1 .1 .0) (subst (Room u16) (sym e) room) same) $ await ! tt $ split ! $
         rewrite ! 0 (λ (m : ℕ). ‵ (MutSlice (named 0) κ u16 .own (dist γ (us .1 .1 .1 .0)) (sliceVal (b, o) m ∷ []))) e refl $
         -- [dist; its token; true; the slice's token; the slice; _7; _8; _10; _11; _12; _6; …]
         assigns-last ! (bin ! (load ! (from ! (stop !)) (look ! 5 refl)) (lit ! tt) (record { fits = d-fits })) (from ! (stop !)) (store ! 5 refl (tt, record { fits = d-fits })) $
@@ -281,7 +287,8 @@ module _ {M : Type 1} (𝓤 : URA M) (H : Heap 𝓤) (A : Atoms 𝓤) (W : Given
         use2 W (‵ (row S.the-row fullShare xs l₅ 0)) (front-back S.the-row fullShare 𝓤 H A W k xs l₅ 0) $ feqI ! ℕ (length xs) 2048 length-xs $ fjoin ! $ use1 W (‵ (froom array l₅ 0)) (picks-up S.the-row tt 2048 𝓤 H A W xs l₅ 0) $
         -- [_5; _7; _8; _10; _11; _12; dist; its token; the slice; _6; _3; _4; _0; _1; _2; _9; and that each local dies]
         returns ! (look ! 12 refl) $ forget ! 1 refl $ forget ! 2 refl $ forget ! 3 refl $ forget ! 9 refl $ forget ! 10 refl $ forget ! 11 refl $ forget ! 12 refl $ forget ! 13 refl $ forget ! 14 refl $ forget ! 15 refl $
-        move ! (12 ∷ 16 ∷ []) $ free1 ! $ move ! (12 ∷ 15 ∷ []) $ free1 ! $ move ! (12 ∷ 14 ∷ []) $ free1 ! $ move ! (10 ∷ 13 ∷ []) $ free1 ! $ move ! (10 ∷ 12 ∷ []) $ free1 ! $ move ! (0 ∷ 11 ∷ []) $ free1 ! $ move ! (8 ∷ 10 ∷ []) $ free1 ! $ move ! (0 ∷ 9 ∷ []) $ free1 ! $ move ! (0 ∷ 8 ∷ []) $ free1 ! $ move ! (6 ∷ 7 ∷ []) $ free1 ! $ move ! (0 ∷ 6 ∷ []) $ free1 ! $ move ! (0 ∷ 5 ∷ []) $ free1 ! $ move ! (0 ∷ 4 ∷ []) $ free1 ! $ free0 ! $
+        move ! (12 ∷ 16 ∷ []) $ free1 ! $ move ! (12 ∷ 15 ∷ []) $ free1 ! $ move ! (12 ∷ 14 ∷ []) $ free1 ! $ move ! (10 ∷ 13 ∷ []) $ free1 ! $ move ! (10 ∷ 12 ∷ []) $ free1 ! $ move ! (0 ∷ 11 ∷ []) $ free1 ! $ move !
+        (8 ∷ 10 ∷ []) $ free1 ! $ move ! (0 ∷ 9 ∷ []) $ free1 ! $ move ! (0 ∷ 8 ∷ []) $ free1 ! $ move ! (6 ∷ 7 ∷ []) $ free1 ! $ move ! (0 ∷ 6 ∷ []) $ free1 ! $ move ! (0 ∷ 5 ∷ []) $ free1 ! $ move ! (0 ∷ 4 ∷ []) $ free1 ! $ free0 ! $
         keep ! (1 ∷ 0 ∷ []) $ by ! (exits r zs fits e told)
 
     -- a turn from the invariant at t leaves the loop, or ends in the invariant below t
@@ -321,11 +328,13 @@ module _ {M : Type 1} (𝓤 : URA M) (H : Heap 𝓤) (A : Atoms 𝓤) (W : Given
       move ! (16 ∷ 1 ∷ []) $ use2 W (‵ (arr-parts (shares S.the-row) 2048 .part fullShare xs l₅ 0)) (lays S.the-row tt 2048 𝓤 H A W xs mach l₅ 0) $ fsplit ! $ drop ! $
       use1 W (‵ (row S.the-row fullShare ys l₅ 0) ⊛ ‵ (after S.the-row fullShare k xs l₅ 0)) (front S.the-row fullShare 𝓤 H A W k xs l₅ 0) $ split ! $ feqI ! ℕ (length ys) (length ys) refl $ fjoin ! $
       lft-new ! tt (λ ν. move ! (1 ∷ []) $
-      use1 W (later (some (λ (δ : GName). ‵ (ShrSlice (named 0) (ν ∷ []) S.the-row .own (recs l₅ δ) (sliceVal (l₅, 0) (length ys) ∷ [])) ⊛ ‵ (flent (ν ∷ []) (arr-parts (shares S.the-row) (length ys) .part fullShare ys l₅ 0))))) (lends-shr-slice 𝓤 H A W S.the-row (named 0) (ν ∷ []) fullShare ys l₅ 0 room-ys) $ await ! tt $ pick ! (λ δ. split ! $
+      use1 W (later (some (λ (δ : GName). ‵ (ShrSlice (named 0) (ν ∷ []) S.the-row .own (recs l₅ δ) (sliceVal (l₅, 0) (length ys) ∷ [])) ⊛ ‵ (flent (ν ∷ []) (arr-parts (shares S.the-row) (length ys) .part fullShare ys l₅ 0)))))
+      (lends-shr-slice 𝓤 H A W S.the-row (named 0) (ν ∷ []) fullShare ys l₅ 0 room-ys) $ await ! tt $ pick ! (λ δ. split ! $
       rewrite ! 0 (λ (m : ℕ). ‵ (ShrSlice (named 0) (ν ∷ []) S.the-row .own (recs l₅ δ) (sliceVal (l₅, 0) m ∷ []))) length-ys refl $
       -- [the slice; what is lent; ν's token; the elements past k; dist; _12; …; the tokens]
       move ! (30 ∷ []) $ split ! $ move ! (1 ∷ []) $ drop ! $
-      keep ! (16 ∷ 14 ∷ 10 ∷ 8 ∷ 6 ∷ 5 ∷ 0 ∷ 1 ∷ 3 ∷ 18 ∷ 23 ∷ 21 ∷ 29 ∷ 2 ∷ 4 ∷ 27 ∷ 25 ∷ 12 ∷ 30 ∷ 28 ∷ 26 ∷ 24 ∷ 22 ∷ 20 ∷ 19 ∷ 17 ∷ 15 ∷ 13 ∷ 11 ∷ 9 ∷ 7 ∷ []) $ by ! (loops 𝓣 known room pre ν δ l₀ l₁ l₂ l₃ l₄ l₅ l₆ l₇ l₈ l₉ l₁₀ l₁₁ l₁₂))))))))))))))))
+      keep ! (16 ∷ 14 ∷ 10 ∷ 8 ∷ 6 ∷ 5 ∷ 0 ∷ 1 ∷ 3 ∷ 18 ∷ 23 ∷ 21 ∷ 29 ∷ 2 ∷ 4 ∷ 27 ∷ 25 ∷ 12 ∷ 30 ∷ 28 ∷ 26 ∷ 24 ∷ 22 ∷ 20 ∷ 19 ∷ 17 ∷ 15 ∷ 13 ∷ 11 ∷ 9 ∷ 7 ∷ []) $ by !
+      (loops 𝓣 known room pre ν δ l₀ l₁ l₂ l₃ l₄ l₅ l₆ l₇ l₈ l₉ l₁₀ l₁₁ l₁₂))))))))))))))))
     where
       typed : Holds (hasTy (tyArray T′.mir 2048) mach) × WT mach
       typed = array-lawful 𝓤 H A W S.the-row (LL.lawful S.the-type T′.the-laws 𝓤 H A W) 2048 .typed xs (spelt xs) is-xs .0

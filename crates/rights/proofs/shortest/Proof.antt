@@ -5,7 +5,7 @@ use Prim.Native.Nat.{ℕ, _≤_, _<_}
 use native.Mathlib.Omega.{arith}
 use denote.Ref.{now}
 use Rattle.rights.specs.Chain.{Answered, Asked, asked}
-use Rattle.rights.specs.Packed.{fields}
+use Rattle.assertion.specs.Packed.{fields}
 use Rattle.rights.specs.Rounds.{start}
 use Rattle.rights.proofs.Searching.{cut-length, cut-start, answer-outside}
 use Rattle.rights.proofs.Turns.{admin-first}
@@ -14,7 +14,7 @@ use Rattle.rights.proofs.shortest.Tie as tie
 
 -- what is asked
 abbrev A : tie.Start → Asked
-A s = asked (map fields (now (s .args .standing))) (s .args .count) (s .args .variable) (s .args .right)
+A s = asked (map fields (now (s .args .assertions))) (s .args .count) (s .args .variable) (s .args .right)
 
 returns : tie.Need-returns
 returns c = answer-outside (A (c .before .before)) (c .before .before .args .principal) (c .if1 .taken)
@@ -33,12 +33,15 @@ array-borrow-prefix-dist c = search needs
 
 slice-aggregate-search : tie.Need-slice-aggregate-search
 unfolding start
-slice-aggregate-search c = cut-length (c .before .before .before .before .before .before .args .count) 4096 (omega arith) (c .before .before .before .before .before .before .pre .0)
+slice-aggregate-search c =
+    let start = c .before .before .before .before .before .before in
+    cut-length (start .args .count) 4096 (omega arith) (start .pre .0)
 
 search-requires : tie.Need-search-requires
 unfolding start
 search-requires c κs =
-    let s = c .before .before .before .before .before .before in
+    let back-6 = c .before .before .before .before .before .before in
+    let s = back-6 in
     let n = s .args .count in
     let pos : 0 < n = omega arith in
     let e = cut-length n 4096 pos (s .pre .0) in (
@@ -55,7 +58,8 @@ report-requires c κs = search needs
 returns-3 : tie.Need-returns-3
 unfolding start
 returns-3 c =
-    let s = c .before .before .before .before .before .before .before .before .before in
+    let back-9 = c .before .before .before .before .before .before .before .before .before in
+    let s = back-9 in
     subst (Answered (A s) (s .args .principal)) (sym (c .report .ensures))
     (c .before .before .search .ensures (A s) (sym (c .before .before .before .before .before .gather .ensures .1)) (cut-length (s .args .count) 4096 (omega arith) (s .pre .0)))
 

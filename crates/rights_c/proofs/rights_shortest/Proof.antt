@@ -5,7 +5,7 @@ use Prim.Native.Nat.{ℕ, _≤_}
 use native.Mathlib.Omega.{arith}
 use lib.ListN.{length}
 use Rattle.rights.specs.Chain.{asked, Answered}
-use Rattle.rights.specs.Packed.{fields}
+use Rattle.assertion.specs.Packed.{fields}
 use Rattle.rights.specs.declared.Answer.{Answer}
 use Rattle.rights_c.specs.Reported.{numberOf, Reported}
 use borrow.Author.Needs.{needs}

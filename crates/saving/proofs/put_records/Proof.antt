@@ -13,41 +13,50 @@ use borrow.Author.Needs.{needs}
 use Rattle.saving.proofs.put_records.Statement.{statement}
 use Rattle.saving.proofs.put_records.Tie as tie
 
+-- the function's start, as these places see it
+abbrev start-after-name-of : tie.After-name-of → tie.Start
+start-after-name-of c = c .before .before .before .before .before .before .before .before .before .before .before .before .before
+
 -- the delegator's name was found
-found : (c : tie.After-name-of) (s : Store) → let a = c .before .before .before .before .before .before .before .before .before .before .before .before .before .args in Recorded s (a .l) (a .people .now) (a .people-marks .now) (a .vars .now) → c .name-of .result .now ≡ s .delegator
+found : (c : tie.After-name-of) (s : Store) → let a = (start-after-name-of c) .args in Recorded s (a .l) (a .principals .now) (a .principal-slots .now) (a .vars .now) → c .name-of .result .now ≡ s .delegator
 found c s R =
-    let a = c .before .before .before .before .before .before .before .before .before .before .before .before .before .args in
-    principal-name (s .principals) (a .people .now) (a .l .people) (a .people-marks .now) (R .principals) (s .delegator) (R .delegator-known) (a .l .delegator) (R .delegator) _ (c .name-of .ensures)
+    let start = start-after-name-of c in
+    let a = start .args in
+    principal-name (s .principals) (a .principals .now) (a .l .principals) (a .principal-slots .now) (R .principals) (s .delegator) (R .delegator-known) (a .l .delegator) (R .delegator) _ (c .name-of .ensures)
 
 put-header-requires : tie.Need-put-header-requires
 put-header-requires c κs = search needs
 
 copy-in-requires : tie.Need-copy-in-requires
 copy-in-requires c κs =
-    let a = c .before .before .before .before .before .before .before .before .before .args in
-    let P = c .before .before .before .before .before .before .before .before .before .pre in
+    let start = c .before .before .before .before .before .before .before .before .before in
+    let a = start .args in
+    let P = start .pre in
     let w = c .before .before .before .put-header .ensures in
-    omega (arith, P .room, records-size (P .store) (a .l) (a .people .now) (a .people-marks .now) (a .vars .now) (P .recorded) (a .count), w .ends, written-length w)
+    omega (arith, P .room, records-size (P .store) (a .l) (a .principals .now) (a .principal-slots .now) (a .vars .now) (P .recorded) (a .count), w .ends, written-length w)
 
 name-of-requires : tie.Need-name-of-requires
 name-of-requires c κs =
-    let a = c .before .before .before .before .before .before .before .before .before .before .before .before .args in
-    let P = c .before .before .before .before .before .before .before .before .before .before .before .before .pre in
+    let start = c .before .before .before .before .before .before .before .before .before .before .before .before in
+    let a = start .args in
+    let P = start .pre in
     let R = P .recorded in (
-      some-principals (P .store .principals) (a .people .now) (a .l .people) (a .people-marks .now) (R .principals),
-      principal-below (P .store .principals) (a .people .now) (a .l .people) (a .people-marks .now) (R .principals) (P .store .delegator) (R .delegator-known) (a .l .delegator) (R .delegator),
+      some-principals (P .store .principals) (a .principals .now) (a .l .principals) (a .principal-slots .now) (R .principals),
+      principal-below (P .store .principals) (a .principals .now) (a .l .principals) (a .principal-slots .now) (R .principals) (P .store .delegator) (R .delegator-known) (a .l .delegator) (R .delegator),
     )
 
 put-delegator-requires : tie.Need-put-delegator-requires
 put-delegator-requires c κs =
-    let a = c .before .before .before .before .before .before .before .before .before .before .before .before .before .before .args in
-    let P = c .before .before .before .before .before .before .before .before .before .before .before .before .before .before .pre in
-    let w = c .before .before .before .before .before .before .before .before .put-header .ensures in
+    let back-8 = c .before .before .before .before .before .before .before .before in
+    let start = back-8 .before .before .before .before .before .before in
+    let a = start .args in
+    let P = start .pre in
+    let w = back-8 .put-header .ensures in
     let x = c .before .before .before .before .copy-in .ensures in
     omega (
       arith,
       P .room,
-      records-size (P .store) (a .l) (a .people .now) (a .people-marks .now) (a .vars .now) (P .recorded) (a .count),
+      records-size (P .store) (a .l) (a .principals .now) (a .principal-slots .now) (a .vars .now) (P .recorded) (a .count),
       ap length (found (c .before) (P .store) (P .recorded)),
       w .ends,
       written-length w,
@@ -57,23 +66,27 @@ put-delegator-requires c κs =
 
 copy-in-requires-2 : tie.Need-copy-in-requires-2
 copy-in-requires-2 c κs =
-    let a = c .before .before .before .before .before .before .before .before .before .before .before .before .before .before .before .before .before .before .args in
-    let P = c .before .before .before .before .before .before .before .before .before .before .before .before .before .before .before .before .before .before .pre in
-    let w = c .before .before .before .before .before .before .before .before .before .before .before .before .put-header .ensures in
-    let x = c .before .before .before .before .before .before .before .before .copy-in .ensures in
+    let back-5 = c .before .before .before .before .before in
+    let back-8 = back-5 .before .before .before in
+    let back-12 = back-8 .before .before .before .before in
+    let start = back-12 .before .before .before .before .before .before in
+    let a = start .args in
+    let P = start .pre in
+    let w = back-12 .put-header .ensures in
+    let x = back-8 .copy-in .ensures in
     let y = c .before .before .before .put-delegator .ensures in
     omega (
       arith,
       P .room,
-      records-size (P .store) (a .l) (a .people .now) (a .people-marks .now) (a .vars .now) (P .recorded) (a .count),
-      ap length (found (c .before .before .before .before .before) (P .store) (P .recorded)),
+      records-size (P .store) (a .l) (a .principals .now) (a .principal-slots .now) (a .vars .now) (P .recorded) (a .count),
+      ap length (found back-5 (P .store) (P .recorded)),
       w .ends,
       written-length w,
       x .ends,
       written-length x,
       y .ends,
       written-length y,
-      delegator-size (c .before .before .before .before .before .name-of .result .now),
+      delegator-size (back-5 .name-of .result .now),
     )
 
 same-length : tie.Need-same-length
@@ -81,9 +94,14 @@ same-length c = search needs
 
 returns : tie.Need-returns
 returns c s R =
-    let a = c .before .before .before .before .before .before .before .before .before .before .before .before .before .before .before .before .before .before .before .before .before .args in
-    rewritten (records-text s (a .l) (a .people .now) (a .people-marks .now) (a .vars .now) R (a .count) _ (found (c .before .before .before .before .before .before .before .before) s R))
-    (c .before .before .before .before .before .before .before .before .before .before .before .before .before .before .before .put-header .ensures ▸ c .before .before .before .before .before .before .before .before .before .before .before .copy-in .ensures ▸ c .before .before .before .before .before .before .put-delegator .ensures ▸ c .before .before .copy-in2 .ensures)
+    let back-6 = c .before .before .before .before .before .before in
+    let back-8 = back-6 .before .before in
+    let back-11 = back-8 .before .before .before in
+    let back-15 = back-11 .before .before .before .before in
+    let start = back-15 .before .before .before .before .before .before in
+    let a = start .args in
+    rewritten (records-text s (a .l) (a .principals .now) (a .principal-slots .now) (a .vars .now) R (a .count) _ (found back-8 s R))
+    (back-15 .put-header .ensures ▸ back-11 .copy-in .ensures ▸ back-6 .put-delegator .ensures ▸ c .before .before .copy-in2 .ensures)
 
 pub put-records-spec : {M : Type 1} → statement M
 put-records-spec =

@@ -11,7 +11,7 @@ use Rattle.language.specs.Encode.{assertionsText, stateText, padded}
 use Rattle.language.specs.Values.{Session}
 use Rattle.values.specs.Writing.{Written}
 use Rattle.values.proofs.Pieces.{_▸_, written-drop, written-length}
-use Rattle.running.specs.Sessions.{Slices, slices, Running}
+use Rattle.session.specs.Sessions.{Slices, slices, Running}
 use Rattle.saving.specs.Stores.{recordsText}
 use Rattle.saving.proofs.Behind.{longer, shorter}
 use Rattle.saving.proofs.Rooms.{session-named, session-recorded, session-room, saved}
@@ -20,20 +20,25 @@ use Rattle.saving.proofs.save.Statement.{statement}
 use Rattle.saving.proofs.save.Tie as tie
 
 abbrev lent : tie.Start → Slices
-lent c = let a = c .args in slices (a .people .now) (a .people-marks .now) (a .vars .now) (a .var-marks .now) (a .locals .now) (a .local-marks .now) (a .standing .now)
+lent c = let a = c .args in slices (a .principals .now) (a .principal-slots .now) (a .vars .now) (a .variable-slots .now) (a .locals .now) (a .local-slots .now) (a .assertions .now)
 
-slice-aggregate-persons : tie.Need-slice-aggregate-persons
-slice-aggregate-persons c = sym (length-take-le _ _ (c .before .before .before .before .before .before .before .before .before .pre .0 .running .people-within))
+slice-aggregate-roster : tie.Need-slice-aggregate-roster
+slice-aggregate-roster c =
+    let start = c .before .before .before .before .before .before .before .before .before in
+    sym (length-take-le _ _ (start .pre .0 .running .principals-within))
 
 slice-aggregate-shared : tie.Need-slice-aggregate-shared
-slice-aggregate-shared c = sym (length-take-le _ _ (c .before .before .before .before .before .before .before .before .before .before .pre .0 .running .vars-within))
+slice-aggregate-shared c =
+    let start = c .before .before .before .before .before .before .before .before .before .before in
+    sym (length-take-le _ _ (start .pre .0 .running .vars-within))
 
 cast-put-records : tie.Need-cast-put-records
 cast-put-records c = search needs
 
 put-records-requires : tie.Need-put-records-requires
 put-records-requires c κs =
-    let g = c .before .before .before .before .before .before .before .before .before .before .before in
+    let back-11 = c .before .before .before .before .before .before .before .before .before .before .before in
+    let g = back-11 in
     let P = g .pre .0 in
     record {
       store = P .session .store;
@@ -42,9 +47,10 @@ put-records-requires c κs =
       first-room = omega (arith, g .pre .1 .0);
     }
 
-put-claims-requires : tie.Need-put-claims-requires
-put-claims-requires c κs =
-    let g = c .before .before .before .before .before .before .before .before .before .before .before .before .before .before .before in
+put-all-packed-requires : tie.Need-put-all-packed-requires
+put-all-packed-requires c κs =
+    let back-15 = c .before .before .before .before .before .before .before .before .before .before .before .before .before .before .before in
+    let g = back-15 in
     let P = g .pre .0 in
     let w = c .before .before .before .put-records .ensures (P .session .store) (session-recorded (P .session) (g .args .l) (lent g) (P .running)) in
     record {
@@ -60,22 +66,23 @@ module _ (c : tie.After-slice-known3) where
   start = c .before .before .before .before .before .before .before .before .before .before .before .before .before .before .before .before .before .before
 
   abbrev end : ℕ
-  end = c .before .before .put-claims .result
+  end = c .before .before .put-all-packed .result
 
   abbrev text : Text
-  text = c .before .before .put-claims .last .0
+  text = c .before .before .put-all-packed .last .0
 
-  records-there : (s : Session) → Running s (start .args .l) (lent start) → Written (start .args .state .now) 0 (recordsText (s .store) (start .args .count)) (c .before .before .before .before .before .before .put-records .result) (c .before .before .before .before .before .before .put-records .last .0)
+  records-there : (s : Session) → Running s (start .args .l) (lent start) → Written (start .args .state .now) 0 (recordsText (s .store) (start .args .count)) (c .before .before .before .before .before .before .put-records .result)
+      (c .before .before .before .before .before .before .put-records .last .0)
   records-there s R = c .before .before .before .before .before .before .put-records .ensures (s .store) (session-recorded s (start .args .l) (lent start) R)
 
-  claims-there : (s : Session) → Running s (start .args .l) (lent start) → Written (c .before .before .before .before .before .before .put-records .last .0) (c .before .before .before .before .before .before .put-records .result) (assertionsText (s .store .assertions)) end text
-  claims-there s R = c .before .before .put-claims .ensures (s .store) (session-named s (start .args .l) (lent start) R) (R .assertions)
+  assertions-there : (s : Session) → Running s (start .args .l) (lent start) → Written (c .before .before .before .before .before .before .put-records .last .0) (c .before .before .before .before .before .before .put-records .result) (assertionsText (s .store .assertions)) end text
+  assertions-there s R = c .before .before .put-all-packed .ensures (s .store) (session-named s (start .args .l) (lent start) R) (R .assertions)
 
   whole : (s : Session) (R : Running s (start .args .l) (lent start)) → Written (start .args .state .now) 0 (recordsText (s .store) (start .args .count) ++ assertionsText (s .store .assertions)) end text
-  whole s R = records-there s R ▸ claims-there s R
+  whole s R = records-there s R ▸ assertions-there s R
 
   saved-text : (s : Session) (R : Running s (start .args .l) (lent start)) → take end text ++ replicate (length text - end) 0 ≡ padded (stateText (record { count = start .args .count; store = s .store }))
-  saved-text s R = saved (s .store) (start .args .count) (start .args .state .now) _ _ _ _ (start .pre .1 .0) (records-there s R) (claims-there s R)
+  saved-text s R = saved (s .store) (start .args .count) (start .args .state .now) _ _ _ _ (start .pre .1 .0) (records-there s R) (assertions-there s R)
 
   within : start .args .used ≤ length text
   within = omega (arith, written-length (whole (start .pre .0 .session) (start .pre .0 .running)), start .pre .1 .0, start .pre .1 .2)
@@ -116,11 +123,11 @@ pub save-spec : {M : Type 1} → statement M
 save-spec =
     tie.close
     (tie.spec
-    slice-aggregate-persons
+    slice-aggregate-roster
     slice-aggregate-shared
     cast-put-records
     put-records-requires
-    put-claims-requires
+    put-all-packed-requires
     same-length
     returns
     slice-relend-prefix-zero-rest

@@ -1,29 +1,34 @@
--- `server_c::kivzurg_ask` meets its contract, by the contracts of `server::ask` and `wire`.
+-- `server_c::kivzurg_ask` meets its contract, by the contracts of `ask::right` and `wire::wire`.
 -- Assumes nothing.
 use mathlib.Core.Path.{_≡_, sym, ap, subst, _∙_}
 use Rattle.language.specs.Text.{Text}
 use Rattle.language.specs.Calls.{Reply, askCall}
 use Rattle.answers.specs.Answers.{answerMeant}
-use Rattle.server_c.specs.Wire.{Fits}
-use Rattle.server_c.specs.Wire as Wire
+use Rattle.wire.specs.Wire.{Fits}
+use Rattle.wire.specs.Wire as Wire
 use Rattle.server_c.proofs.Fitting.{ask-fits}
 use borrow.Author.Needs.{needs}
 use Rattle.server_c.proofs.kivzurg_ask.Statement.{statement}
 use Rattle.server_c.proofs.kivzurg_ask.Tie as tie
 
-answer-is : (c : tie.After-ask) → answerMeant (c .ask .result) ≡ askCall (c .before .before .before .before .args .state .now) (c .before .before .before .before .args .name .now) (c .before .before .before .before .args .variable .now) (c .before .before .before .before .args .right) .answer
-answer-is c = ap (λ (k : Reply Text). k .answer) (c .ask .ensures)
+-- the function's start, as these places see it
+abbrev start-after-right : tie.After-right → tie.Start
+start-after-right c = c .before .before .before .before
 
-ask-requires : tie.Need-ask-requires
-ask-requires c κs = search needs
+answer-is : (c : tie.After-right) → answerMeant (c .right .result) ≡ askCall (start-after-right c .args .state .now) (start-after-right c .args .name .now) (start-after-right c .args .variable .now) (start-after-right c .args .right) .answer
+answer-is c = ap (λ (k : Reply Text). k .answer) (c .right .ensures)
+
+right-requires : tie.Need-right-requires
+right-requires c κs = search needs
 
 wire-requires : tie.Need-wire-requires
 wire-requires c κs =
+    let start = c .before .before .before .before in
     subst Fits (sym (answer-is c))
-    (ask-fits (c .before .before .before .before .args .state .now) (c .before .before .before .before .args .name .now) (c .before .before .before .before .args .variable .now) (c .before .before .before .before .args .right))
+    (ask-fits (start .args .state .now) (start .args .name .now) (start .args .variable .now) (start .args .right))
 
 returns : tie.Need-returns
-returns c = (c .wire .ensures ∙ ap Wire.wire (answer-is (c .before)), ap (λ (k : Reply Text). k .lent) (c .before .ask .ensures))
+returns c = (c .wire .ensures ∙ ap Wire.wire (answer-is (c .before)), ap (λ (k : Reply Text). k .lent) (c .before .right .ensures))
 
 pub kivzurg-ask-spec : {M : Type 1} → statement M
-kivzurg-ask-spec = tie.close (tie.spec ask-requires wire-requires returns)
+kivzurg-ask-spec = tie.close (tie.spec right-requires wire-requires returns)

@@ -15,13 +15,17 @@ returns-2 : tie.Need-returns-2
 returns-2 c = rw (c .match .keys2)
 
 returns-3 : tie.Need-returns-3
-returns-3 c = in-interval sameClass same-class (λ _. digit) class 48 10 [] tt (c .before .before .before .before .before .before .before .args .b) (omega arith) (omega arith) (λ z. z)
+returns-3 c =
+    let start = c .before .before .before .before .before .before .before in
+    in-interval sameClass same-class (λ _. digit) class 48 10 [] tt (start .args .b) (omega arith) (omega arith) (λ z. z)
 
 returns-4 : tie.Need-returns-4
 returns-4 c = in-interval sameClass same-class (λ _. letter) class 65 26 [] tt (c .before .before .before .before .before .args .b) (omega arith) (omega arith) (λ z. z)
 
 returns-5 : tie.Need-returns-5
-returns-5 c = in-interval sameClass same-class (λ _. letter) class 97 26 [] tt (c .before .before .before .before .before .before .before .args .b) (omega arith) (omega arith) (λ z. z)
+returns-5 c =
+    let start = c .before .before .before .before .before .before .before in
+    in-interval sameClass same-class (λ _. letter) class 97 26 [] tt (start .args .b) (omega arith) (omega arith) (λ z. z)
 
 returns-6 : tie.Need-returns-6
 returns-6 c = in-interval sameClass same-class (λ _. foreign) class 0 33 (10 ∷ 32 ∷ []) tt (c .before .before .before .args .b) (omega arith) (omega arith) (⊎-elim (c .before .before .match .rest .0 .1) (c .before .before .match .rest .0 .0 .1))
@@ -30,16 +34,23 @@ returns-7 : tie.Need-returns-7
 returns-7 c = in-interval sameClass same-class (λ _. foreign) class 35 9 (42 ∷ 91 ∷ 93 ∷ 95 ∷ 123 ∷ 125 ∷ []) tt (c .before .before .before .before .before .args .b) (omega arith) (omega arith) (c .before .before .before .before .match .rest .1)
 
 returns-8 : tie.Need-returns-8
-returns-8 c = in-interval sameClass same-class (λ _. foreign) class 60 1 [] tt (c .before .before .before .before .before .before .before .before .args .b) (omega arith) (omega arith) (λ z. z)
+returns-8 c =
+    let start = c .before .before .before .before .before .before .before .before in
+    in-interval sameClass same-class (λ _. foreign) class 60 1 [] tt (start .args .b) (omega arith) (omega arith) (λ z. z)
 
 returns-9 : tie.Need-returns-9
 returns-9 c = in-interval sameClass same-class (λ _. foreign) class 64 1 [] tt (c .before .before .before .before .args .b) (omega arith) (omega arith) (λ z. z)
 
 returns-10 : tie.Need-returns-10
-returns-10 c = in-interval sameClass same-class (λ _. foreign) class 91 6 (42 ∷ 91 ∷ 93 ∷ 95 ∷ 123 ∷ 125 ∷ []) tt (c .before .before .before .before .before .before .args .b) (omega arith) (omega arith) (c .before .before .before .before .before .match .rest .1)
+returns-10 c =
+    let start = c .before .before .before .before .before .before in
+    in-interval sameClass same-class (λ _. foreign) class 91 6 (42 ∷ 91 ∷ 93 ∷ 95 ∷ 123 ∷ 125 ∷ []) tt (start .args .b) (omega arith) (omega arith) (c .before .before .before .before .before .match .rest .1)
 
 returns-11 : tie.Need-returns-11
-returns-11 c = in-interval sameClass same-class (λ _. foreign) class 123 133 (42 ∷ 91 ∷ 93 ∷ 95 ∷ 123 ∷ 125 ∷ []) tt (c .before .before .before .before .before .before .before .args .b) (omega arith) (omega arith) (c .before .before .before .before .before .before .match .rest .1)
+returns-11 c =
+    let back-6 = c .before .before .before .before .before .before in
+    let start = back-6 .before in
+    in-interval sameClass same-class (λ _. foreign) class 123 133 (42 ∷ 91 ∷ 93 ∷ 95 ∷ 123 ∷ 125 ∷ []) tt (start .args .b) (omega arith) (omega arith) (back-6 .match .rest .1)
 
 returns-12 : tie.Need-returns-12
 returns-12 c = at-keys sameClass same-class mark class (42 ∷ 91 ∷ 93 ∷ 95 ∷ 123 ∷ 125 ∷ []) tt (c .before .args .b) (c .match .keys3)
@@ -48,10 +59,14 @@ returns-13 : tie.Need-returns-13
 returns-13 c = in-interval sameClass same-class mark class 33 2 [] tt (c .before .before .before .before .args .b) (omega arith) (omega arith) (λ z. z)
 
 returns-14 : tie.Need-returns-14
-returns-14 c = in-interval sameClass same-class mark class 44 4 [] tt (c .before .before .before .before .before .before .args .b) (omega arith) (omega arith) (λ z. z)
+returns-14 c =
+    let start = c .before .before .before .before .before .before in
+    in-interval sameClass same-class mark class 44 4 [] tt (start .args .b) (omega arith) (omega arith) (λ z. z)
 
 returns-15 : tie.Need-returns-15
-returns-15 c = in-interval sameClass same-class mark class 58 2 [] tt (c .before .before .before .before .before .before .before .before .args .b) (omega arith) (omega arith) (λ z. z)
+returns-15 c =
+    let start = c .before .before .before .before .before .before .before .before in
+    in-interval sameClass same-class mark class 58 2 [] tt (start .args .b) (omega arith) (omega arith) (λ z. z)
 
 returns-16 : tie.Need-returns-16
 returns-16 c = in-interval sameClass same-class mark class 61 3 [] tt (c .before .before .before .args .b) (omega arith) (omega arith) (λ z. z)

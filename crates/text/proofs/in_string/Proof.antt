@@ -9,13 +9,17 @@ use Rattle.text.proofs.in_string.Statement.{statement}
 use Rattle.text.proofs.in_string.Tie as tie
 
 returns : tie.Need-returns
-returns c = in-interval sameBool same-bool (λ _. true) stringByte 48 10 [] tt (c .before .before .before .before .before .before .before .args .b) (omega arith) (omega arith) (λ z. z)
+returns c =
+    let start = c .before .before .before .before .before .before .before in
+    in-interval sameBool same-bool (λ _. true) stringByte 48 10 [] tt (start .args .b) (omega arith) (omega arith) (λ z. z)
 
 returns-2 : tie.Need-returns-2
 returns-2 c = in-interval sameBool same-bool (λ _. true) stringByte 65 26 [] tt (c .before .before .before .before .args .b) (omega arith) (omega arith) (λ z. z)
 
 returns-3 : tie.Need-returns-3
-returns-3 c = in-interval sameBool same-bool (λ _. true) stringByte 97 26 [] tt (c .before .before .before .before .before .before .args .b) (omega arith) (omega arith) (λ z. z)
+returns-3 c =
+    let start = c .before .before .before .before .before .before in
+    in-interval sameBool same-bool (λ _. true) stringByte 97 26 [] tt (start .args .b) (omega arith) (omega arith) (λ z. z)
 
 returns-4 : tie.Need-returns-4
 returns-4 c = in-interval sameBool same-bool (λ _. false) stringByte 0 32 [] tt (c .before .before .before .args .b) (omega arith) (omega arith) (λ z. z)
@@ -24,7 +28,9 @@ returns-5 : tie.Need-returns-5
 returns-5 c = in-interval sameBool same-bool (λ _. false) stringByte 34 10 [] tt (c .before .before .before .before .before .args .b) (omega arith) (omega arith) (λ z. z)
 
 returns-6 : tie.Need-returns-6
-returns-6 c = in-interval sameBool same-bool (λ _. false) stringByte 47 1 [] tt (c .before .before .before .before .before .before .before .args .b) (omega arith) (omega arith) (λ z. z)
+returns-6 c =
+    let start = c .before .before .before .before .before .before .before in
+    in-interval sameBool same-bool (λ _. false) stringByte 47 1 [] tt (start .args .b) (omega arith) (omega arith) (λ z. z)
 
 returns-7 : tie.Need-returns-7
 returns-7 c = in-interval sameBool same-bool (λ _. false) stringByte 58 7 (59 ∷ 63 ∷ 95 ∷ []) tt (c .before .before .before .args .b) (omega arith) (omega arith) (c .before .before .match .rest .1)
@@ -33,7 +39,9 @@ returns-8 : tie.Need-returns-8
 returns-8 c = in-interval sameBool same-bool (λ _. false) stringByte 91 6 (59 ∷ 63 ∷ 95 ∷ []) tt (c .before .before .before .before .before .args .b) (omega arith) (omega arith) (c .before .before .before .before .match .rest .1)
 
 returns-9 : tie.Need-returns-9
-returns-9 c = in-interval sameBool same-bool (λ _. false) stringByte 123 133 [] tt (c .before .before .before .before .before .before .args .b) (omega arith) (omega arith) (λ z. z)
+returns-9 c =
+    let start = c .before .before .before .before .before .before in
+    in-interval sameBool same-bool (λ _. false) stringByte 123 133 [] tt (start .args .b) (omega arith) (omega arith) (λ z. z)
 
 returns-10 : tie.Need-returns-10
 returns-10 c = at-keys sameBool same-bool (λ _. true) stringByte (59 ∷ 63 ∷ 95 ∷ []) tt (c .before .args .b) (c .match .keys1)
@@ -42,7 +50,9 @@ returns-11 : tie.Need-returns-11
 returns-11 c = in-interval sameBool same-bool (λ _. true) stringByte 32 2 [] tt (c .before .before .before .before .args .b) (omega arith) (omega arith) (λ z. z)
 
 returns-12 : tie.Need-returns-12
-returns-12 c = in-interval sameBool same-bool (λ _. true) stringByte 44 3 [] tt (c .before .before .before .before .before .before .args .b) (omega arith) (omega arith) (λ z. z)
+returns-12 c =
+    let start = c .before .before .before .before .before .before in
+    in-interval sameBool same-bool (λ _. true) stringByte 44 3 [] tt (start .args .b) (omega arith) (omega arith) (λ z. z)
 
 pub in-string-spec : {M : Type 1} → statement M
 in-string-spec =

@@ -32,10 +32,12 @@ in-alphabet-requires c κs = search needs
 
 returns : tie.Need-returns Inv-loop μ-loop
 returns c =
-    let a = c .before .before .before .before .before .before .args in
-    let i = c .before .before .before .before .loop .i in
+    let back-4 = c .before .before .before .before in
+    let start = back-4 .before .before in
+    let a = start .args in
+    let i = back-4 .loop .i in
     let e : inAlphabet (a .a) (getD (now (a .text)) i 0) ≡ false = sym (c .before .in-alphabet .ensures) ∙ not-true _ (c .if1 .taken) in
-    (omega (arith, c .before .before .before .before .loop .inv, ap length (run-stop (inAlphabet (a .a)) (now (a .text)) i (search needs) e)), omega arith)
+    (omega (arith, back-4 .loop .inv, ap length (run-stop (inAlphabet (a .a)) (now (a .text)) i (search needs) e)), omega arith)
 
 add-i : tie.Need-add-i Inv-loop μ-loop
 add-i c = search needs
@@ -45,10 +47,12 @@ loop-less c = search needs
 
 loop-again : tie.Need-loop-again Inv-loop μ-loop
 loop-again c =
-    let a = c .before .before .before .before .before .before .args in
-    let i = c .before .before .before .before .loop .i in
+    let back-4 = c .before .before .before .before in
+    let start = back-4 .before .before in
+    let a = start .args in
+    let i = back-4 .loop .i in
     let e : inAlphabet (a .a) (getD (now (a .text)) i 0) ≡ true = sym (c .before .in-alphabet .ensures) ∙ not-false _ (c .if1 .left) in
-    omega (arith, c .before .before .before .before .loop .inv, ap length (run-on (inAlphabet (a .a)) (now (a .text)) i (search needs) e))
+    omega (arith, back-4 .loop .inv, ap length (run-on (inAlphabet (a .a)) (now (a .text)) i (search needs) e))
 
 returns-2 : tie.Need-returns-2 Inv-loop μ-loop
 returns-2 c =

@@ -31,7 +31,8 @@ shared-slice-read-if2-2 c = search needs
 
 returns-2 : tie.Need-returns-2 Inv-loop μ-loop
 returns-2 c =
-    let a = c .before .before .before .before .before .before .args in
+    let start = c .before .before .before .before .before .before in
+    let a = start .args in
     let l = c .before .before .before .before .loop in
     sym (l .inv .1 ∙ same-step (now (a .a)) (now (a .b)) (l .i) (search needs) (search needs) ∙ rw (ne-eqb _ _ (c .if2 .taken)))
 
@@ -43,7 +44,8 @@ loop-less c = search needs
 
 loop-again : tie.Need-loop-again Inv-loop μ-loop
 loop-again c =
-    let a = c .before .before .before .before .before .before .args in
+    let start = c .before .before .before .before .before .before in
+    let a = start .args in
     let l = c .before .before .before .before .loop in (
       search needs,
       l .inv .1 ∙ same-step (now (a .a)) (now (a .b)) (l .i) (search needs) (search needs) ∙ rw (eq-eqb _ _ (c .if2 .left)),

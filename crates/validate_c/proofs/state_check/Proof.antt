@@ -14,14 +14,20 @@ use Rattle.validate_c.proofs.state_check.Tie as tie
 abbrev look : (c : tie.Start) → State → Look
 look c s = found 0 (figures s)
 
-understood : (c : tie.After-checked) → Understood (c .before .before .before .before .before .before .before .before .before .before .before .before .before .args .state .now) (c .before .before .before .before .before .check .last .1 .0) (c .before .before .before .before .before .check .last .1 .1 .0) (c .before .before .before .before .before .check .last .1 .1 .1 .0) (c .checked .given .0 .0)
-understood c = subst (λ k. CheckedMeant (c .before .before .before .before .before .before .before .before .before .before .before .before .before .args .state .now) (c .before .before .before .before .before .check .last .1 .0) (c .before .before .before .before .before .check .last .1 .1 .0) (c .before .before .before .before .before .check .last .1 .1 .1 .0) k) (c .checked .given .1) (c .before .before .before .before .before .check .ensures)
+understood : (c : tie.After-checked) → Understood (c .before .before .before .before .before .before .before .before .before .before .before .before .before .args .state .now)
+    (c .before .before .before .before .before .check .last .1 .0) (c .before .before .before .before .before .check .last .1 .1 .0) (c .before .before .before .before .before .check .last .1 .1 .1 .0) (c .checked .given .0 .0)
+understood c =
+    let back-5 = c .before .before .before .before .before in
+    let start = back-5 .before .before .before .before .before .before .before .before in
+    subst (λ k. CheckedMeant (start .args .state .now) (back-5 .check .last .1 .0) (back-5 .check .last .1 .1 .0) (back-5 .check .last .1 .1 .1 .0) k) (c .checked .given .1) (back-5 .check .ensures)
 
 returns : tie.Need-returns
 returns c = no-size 2055 (look (c .before .before .before)) (c .before .before .before .args .state .now) (c .before .before .before .args .out .now) (c .if1 .taken)
 
 returns-2 : tie.Need-returns-2
-returns-2 c = no-room 2055 (look (c .before .before .before .before)) (c .before .before .before .before .args .state .now) (c .before .before .before .before .args .out .now) (c .if2 .taken)
+returns-2 c =
+    let start = c .before .before .before .before in
+    no-room 2055 (look start) (start .args .state .now) (start .args .out .now) (c .if2 .taken)
 
 slice-aggregate-check : tie.Need-slice-aggregate-check
 slice-aggregate-check c = search needs
@@ -43,9 +49,11 @@ slice-aggregate-figures c = search needs
 
 figures-requires : tie.Need-figures-requires
 figures-requires c κs =
+    let back-8 = c .before .before .before .before .before .before .before .before in
+    let back-12 = back-8 .before .before .before .before in
     let U = understood (c .before .before .before) in
-    let k : length (c .before .before .before .before .before .before .before .before .check .last .1 .1 .1 .0) ≡ 2048 = c .before .before .before .before .before .before .before .before .check .kept .1 .1 .1 .0 in
-    (U .represents .assertions .within, omega (arith, k), c .before .before .before .before .before .before .before .before .before .before .before .before .if2 .left)
+    let k : length (back-8 .check .last .1 .1 .1 .0) ≡ 2048 = back-8 .check .kept .1 .1 .1 .0 in
+    (U .represents .assertions .within, omega (arith, k), back-12 .if2 .left)
 
 enum-told : tie.Need-enum-told
 enum-told c = search needs
@@ -55,15 +63,23 @@ same-length c = search needs
 
 returns-3 : tie.Need-returns-3
 returns-3 c =
-    let U = understood (c .before .before .before .before .before .before) in
-    formed 2055 (look (c .before .before .before .before .before .before .before .before .before .before .before .before .before .before .before .before .before .before .before)) (c .before .before .before .before .before .before .before .before .before .before .before .before .before .before .before .before .before .before .before .args .state .now) (c .before .before .before .before .before .before .before .before .before .before .before .before .before .before .before .before .before .before .before .args .out .now) (c .before .before .before .before .before .before .before .before .before .before .before .before .before .before .before .before .if1 .left) (c .before .before .before .before .before .before .before .before .before .before .before .before .before .before .before .if2 .left) (U .state) (U .decoded)
-    (subst (λ (l : List ℕ). Says (found 0 l) (c .before .before .before .before .before .before .before .before .before .before .before .before .before .before .before .before .before .before .before .args .out .now) (c .before .before .figures .last .1 .1 .0) (c .before .before .figures .result)) (sym (figures-are _ _ _ _ _ _ (U .represents)))
+    let back-6 = c .before .before .before .before .before .before in
+    let back-15 = back-6 .before .before .before .before .before .before .before .before .before in
+    let back-16 = back-15 .before in
+    let start = back-16 .before .before .before in
+    let U = understood back-6 in
+    formed 2055 (look start) (start .args .state .now) (start .args .out .now) (back-16 .if1 .left) (back-15 .if2 .left) (U .state) (U .decoded)
+    (subst (λ (l : List ℕ). Says (found 0 l) (start .args .out .now) (c .before .before .figures .last .1 .1 .0) (c .before .before .figures .result)) (sym (figures-are _ _ _ _ _ _ (U .represents)))
     (c .before .before .figures .ensures))
 
 returns-4 : tie.Need-returns-4
 returns-4 c =
-    not-formed 2055 (look (c .before .before .before .before .before .before .before .before .before .before .before .before .before)) (c .before .before .before .before .before .before .before .before .before .before .before .before .before .args .state .now) (c .before .before .before .before .before .before .before .before .before .before .before .before .before .args .out .now) (c .before .before .before .before .before .before .before .before .before .before .if1 .left) (c .before .before .before .before .before .before .before .before .before .if2 .left)
-    (subst (λ k. CheckedMeant (c .before .before .before .before .before .before .before .before .before .before .before .before .before .args .state .now) (c .before .before .before .before .before .check .last .1 .0) (c .before .before .before .before .before .check .last .1 .1 .0) (c .before .before .before .before .before .check .last .1 .1 .1 .0) k) (c .enum-told .given .1) (c .before .before .before .before .before .check .ensures))
+    let back-5 = c .before .before .before .before .before in
+    let back-9 = back-5 .before .before .before .before in
+    let back-10 = back-9 .before in
+    let start = back-10 .before .before .before in
+    not-formed 2055 (look start) (start .args .state .now) (start .args .out .now) (back-10 .if1 .left) (back-9 .if2 .left)
+    (subst (λ k. CheckedMeant (start .args .state .now) (back-5 .check .last .1 .0) (back-5 .check .last .1 .1 .0) (back-5 .check .last .1 .1 .1 .0) k) (c .enum-told .given .1) (back-5 .check .ensures))
 
 pub state-check-spec : {M : Type 1} → statement M
 state-check-spec =

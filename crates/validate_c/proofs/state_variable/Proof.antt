@@ -12,14 +12,22 @@ use Rattle.validate_c.proofs.state_variable.Tie as tie
 abbrev look : (c : tie.Start) → State → Look
 look c s = variableOf (s .store .variables) (c .args .name .now)
 
-understood : (c : tie.After-checked) → Understood (c .before .before .before .before .before .before .before .before .before .before .before .before .before .before .args .state .now) (c .before .before .before .before .before .check .last .1 .0) (c .before .before .before .before .before .check .last .1 .1 .0) (c .before .before .before .before .before .check .last .1 .1 .1 .0) (c .checked .given .0 .0)
-understood c = subst (λ k. CheckedMeant (c .before .before .before .before .before .before .before .before .before .before .before .before .before .before .args .state .now) (c .before .before .before .before .before .check .last .1 .0) (c .before .before .before .before .before .check .last .1 .1 .0) (c .before .before .before .before .before .check .last .1 .1 .1 .0) k) (c .checked .given .1) (c .before .before .before .before .before .check .ensures)
+understood : (c : tie.After-checked) → Understood (c .before .before .before .before .before .before .before .before .before .before .before .before .before .before .args .state .now)
+    (c .before .before .before .before .before .check .last .1 .0) (c .before .before .before .before .before .check .last .1 .1 .0) (c .before .before .before .before .before .check .last .1 .1 .1 .0) (c .checked .given .0 .0)
+understood c =
+    let back-5 = c .before .before .before .before .before in
+    let start = back-5 .before .before .before .before .before .before .before .before .before in
+    subst (λ k. CheckedMeant (start .args .state .now) (back-5 .check .last .1 .0) (back-5 .check .last .1 .1 .0) (back-5 .check .last .1 .1 .1 .0) k) (c .checked .given .1) (back-5 .check .ensures)
 
 returns : tie.Need-returns
-returns c = no-size 65536 (look (c .before .before .before .before)) (c .before .before .before .before .args .state .now) (c .before .before .before .before .args .out .now) (c .if1 .taken)
+returns c =
+    let start = c .before .before .before .before in
+    no-size 65536 (look start) (start .args .state .now) (start .args .out .now) (c .if1 .taken)
 
 returns-2 : tie.Need-returns-2
-returns-2 c = no-room 65536 (look (c .before .before .before .before .before)) (c .before .before .before .before .before .args .state .now) (c .before .before .before .before .before .args .out .now) (c .if2 .taken)
+returns-2 c =
+    let start = c .before .before .before .before .before in
+    no-room 65536 (look start) (start .args .state .now) (start .args .out .now) (c .if2 .taken)
 
 slice-aggregate-check : tie.Need-slice-aggregate-check
 slice-aggregate-check c = search needs
@@ -50,9 +58,11 @@ slice-aggregate-variable c = search needs
 
 variable-requires : tie.Need-variable-requires
 variable-requires c κs =
+    let back-9 = c .before .before .before .before .before .before .before .before .before in
+    let back-13 = back-9 .before .before .before .before in
     let U = understood (c .before .before .before .before) in
-    let k : length (c .before .before .before .before .before .before .before .before .before .check .last .1 .1 .0) ≡ 4096 = c .before .before .before .before .before .before .before .before .before .check .kept .1 .1 .0 in
-    (record { rows = U .state .store .variables; held = U .represents .variables }, few-variables _ _ _ _ _ _ (U .represents) k, c .before .before .before .before .before .before .before .before .before .before .before .before .before .if2 .left)
+    let k : length (back-9 .check .last .1 .1 .0) ≡ 4096 = back-9 .check .kept .1 .1 .0 in
+    (record { rows = U .state .store .variables; held = U .represents .variables }, few-variables _ _ _ _ _ _ (U .represents) k, back-13 .if2 .left)
 
 enum-told : tie.Need-enum-told
 enum-told c = search needs
@@ -62,14 +72,22 @@ same-length c = search needs
 
 returns-3 : tie.Need-returns-3
 returns-3 c =
-    let U = understood (c .before .before .before .before .before .before .before) in
-    formed 65536 (look (c .before .before .before .before .before .before .before .before .before .before .before .before .before .before .before .before .before .before .before .before .before)) (c .before .before .before .before .before .before .before .before .before .before .before .before .before .before .before .before .before .before .before .before .before .args .state .now) (c .before .before .before .before .before .before .before .before .before .before .before .before .before .before .before .before .before .before .before .before .before .args .out .now) (c .before .before .before .before .before .before .before .before .before .before .before .before .before .before .before .before .before .if1 .left) (c .before .before .before .before .before .before .before .before .before .before .before .before .before .before .before .before .if2 .left) (U .state) (U .decoded)
+    let back-7 = c .before .before .before .before .before .before .before in
+    let back-16 = back-7 .before .before .before .before .before .before .before .before .before in
+    let back-17 = back-16 .before in
+    let start = back-17 .before .before .before .before in
+    let U = understood back-7 in
+    formed 65536 (look start) (start .args .state .now) (start .args .out .now) (back-17 .if1 .left) (back-16 .if2 .left) (U .state) (U .decoded)
     (c .before .before .variable .ensures (U .state .store .variables) (U .represents .variables))
 
 returns-4 : tie.Need-returns-4
 returns-4 c =
-    not-formed 65536 (look (c .before .before .before .before .before .before .before .before .before .before .before .before .before .before)) (c .before .before .before .before .before .before .before .before .before .before .before .before .before .before .args .state .now) (c .before .before .before .before .before .before .before .before .before .before .before .before .before .before .args .out .now) (c .before .before .before .before .before .before .before .before .before .before .if1 .left) (c .before .before .before .before .before .before .before .before .before .if2 .left)
-    (subst (λ k. CheckedMeant (c .before .before .before .before .before .before .before .before .before .before .before .before .before .before .args .state .now) (c .before .before .before .before .before .check .last .1 .0) (c .before .before .before .before .before .check .last .1 .1 .0) (c .before .before .before .before .before .check .last .1 .1 .1 .0) k) (c .enum-told .given .1) (c .before .before .before .before .before .check .ensures))
+    let back-5 = c .before .before .before .before .before in
+    let back-9 = back-5 .before .before .before .before in
+    let back-10 = back-9 .before in
+    let start = back-10 .before .before .before .before in
+    not-formed 65536 (look start) (start .args .state .now) (start .args .out .now) (back-10 .if1 .left) (back-9 .if2 .left)
+    (subst (λ k. CheckedMeant (start .args .state .now) (back-5 .check .last .1 .0) (back-5 .check .last .1 .1 .0) (back-5 .check .last .1 .1 .1 .0) k) (c .enum-told .given .1) (back-5 .check .ensures))
 
 pub state-variable-spec : {M : Type 1} → statement M
 state-variable-spec =

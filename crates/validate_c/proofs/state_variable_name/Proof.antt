@@ -7,7 +7,7 @@ use mathlib.Core.List.{List, map}
 use Rattle.language.specs.Syntax.{Name}
 use Rattle.store.specs.Rows.{variableRow}
 use Rattle.store.proofs.Answers.{variable-names}
-use Rattle.numbers.specs.Numbers.{variables}
+use Rattle.named_rights.specs.Numbers.{variables}
 use Rattle.validate_c.specs.Reported.{Look, Says, nameOf}
 use Rattle.validate_c.proofs.Reporting.{no-size, no-room, formed, not-formed, few-variables, variable-rows}
 use borrow.Author.Needs.{needs}
@@ -17,14 +17,20 @@ use Rattle.validate_c.proofs.state_variable_name.Tie as tie
 abbrev look : (c : tie.Start) → State → Look
 look c s = nameOf (variables (s .store)) (c .args .number)
 
-understood : (c : tie.After-checked) → Understood (c .before .before .before .before .before .before .before .before .before .before .before .before .before .args .state .now) (c .before .before .before .before .before .check .last .1 .0) (c .before .before .before .before .before .check .last .1 .1 .0) (c .before .before .before .before .before .check .last .1 .1 .1 .0) (c .checked .given .0 .0)
-understood c = subst (λ k. CheckedMeant (c .before .before .before .before .before .before .before .before .before .before .before .before .before .args .state .now) (c .before .before .before .before .before .check .last .1 .0) (c .before .before .before .before .before .check .last .1 .1 .0) (c .before .before .before .before .before .check .last .1 .1 .1 .0) k) (c .checked .given .1) (c .before .before .before .before .before .check .ensures)
+understood : (c : tie.After-checked) → Understood (c .before .before .before .before .before .before .before .before .before .before .before .before .before .args .state .now)
+    (c .before .before .before .before .before .check .last .1 .0) (c .before .before .before .before .before .check .last .1 .1 .0) (c .before .before .before .before .before .check .last .1 .1 .1 .0) (c .checked .given .0 .0)
+understood c =
+    let back-5 = c .before .before .before .before .before in
+    let start = back-5 .before .before .before .before .before .before .before .before in
+    subst (λ k. CheckedMeant (start .args .state .now) (back-5 .check .last .1 .0) (back-5 .check .last .1 .1 .0) (back-5 .check .last .1 .1 .1 .0) k) (c .checked .given .1) (back-5 .check .ensures)
 
 returns : tie.Need-returns
 returns c = no-size 65536 (look (c .before .before .before)) (c .before .before .before .args .state .now) (c .before .before .before .args .out .now) (c .if1 .taken)
 
 returns-2 : tie.Need-returns-2
-returns-2 c = no-room 65536 (look (c .before .before .before .before)) (c .before .before .before .before .args .state .now) (c .before .before .before .before .args .out .now) (c .if2 .taken)
+returns-2 c =
+    let start = c .before .before .before .before in
+    no-room 65536 (look start) (start .args .state .now) (start .args .out .now) (c .if2 .taken)
 
 slice-aggregate-check : tie.Need-slice-aggregate-check
 slice-aggregate-check c = search needs
@@ -55,9 +61,11 @@ slice-aggregate-nth-name c = search needs
 
 nth-name-requires : tie.Need-nth-name-requires
 nth-name-requires c κs =
+    let back-9 = c .before .before .before .before .before .before .before .before .before in
+    let back-13 = back-9 .before .before .before .before in
     let U = understood (c .before .before .before .before) in
-    let k : length (c .before .before .before .before .before .before .before .before .before .check .last .1 .1 .0) ≡ 4096 = c .before .before .before .before .before .before .before .before .before .check .kept .1 .1 .0 in
-    (record { rows = map variableRow (U .state .store .variables); held = variable-rows _ _ _ _ _ _ (U .represents) }, few-variables _ _ _ _ _ _ (U .represents) k, c .before .before .before .before .before .before .before .before .before .before .before .before .before .if2 .left)
+    let k : length (back-9 .check .last .1 .1 .0) ≡ 4096 = back-9 .check .kept .1 .1 .0 in
+    (record { rows = map variableRow (U .state .store .variables); held = variable-rows _ _ _ _ _ _ (U .represents) }, few-variables _ _ _ _ _ _ (U .represents) k, back-13 .if2 .left)
 
 enum-told : tie.Need-enum-told
 enum-told c = search needs
@@ -67,15 +75,23 @@ same-length c = search needs
 
 returns-3 : tie.Need-returns-3
 returns-3 c =
-    let U = understood (c .before .before .before .before .before .before .before) in
-    formed 65536 (look (c .before .before .before .before .before .before .before .before .before .before .before .before .before .before .before .before .before .before .before .before)) (c .before .before .before .before .before .before .before .before .before .before .before .before .before .before .before .before .before .before .before .before .args .state .now) (c .before .before .before .before .before .before .before .before .before .before .before .before .before .before .before .before .before .before .before .before .args .out .now) (c .before .before .before .before .before .before .before .before .before .before .before .before .before .before .before .before .before .if1 .left) (c .before .before .before .before .before .before .before .before .before .before .before .before .before .before .before .before .if2 .left) (U .state) (U .decoded)
-    (subst (λ (l : List Name). Says (nameOf l (c .before .before .before .before .before .before .before .before .before .before .before .before .before .before .before .before .before .before .before .before .args .number)) (c .before .before .before .before .before .before .before .before .before .before .before .before .before .before .before .before .before .before .before .before .args .out .now) (c .before .before .nth-name .last .1 .1 .1 .1 .0) (c .before .before .nth-name .result)) (variable-names (U .state .store .variables))
+    let back-7 = c .before .before .before .before .before .before .before in
+    let back-16 = back-7 .before .before .before .before .before .before .before .before .before in
+    let back-17 = back-16 .before in
+    let start = back-17 .before .before .before in
+    let U = understood back-7 in
+    formed 65536 (look start) (start .args .state .now) (start .args .out .now) (back-17 .if1 .left) (back-16 .if2 .left) (U .state) (U .decoded)
+    (subst (λ (l : List Name). Says (nameOf l (start .args .number)) (start .args .out .now) (c .before .before .nth-name .last .1 .1 .1 .1 .0) (c .before .before .nth-name .result)) (variable-names (U .state .store .variables))
     (c .before .before .nth-name .ensures (map variableRow (U .state .store .variables)) (variable-rows _ _ _ _ _ _ (U .represents))))
 
 returns-4 : tie.Need-returns-4
 returns-4 c =
-    not-formed 65536 (look (c .before .before .before .before .before .before .before .before .before .before .before .before .before)) (c .before .before .before .before .before .before .before .before .before .before .before .before .before .args .state .now) (c .before .before .before .before .before .before .before .before .before .before .before .before .before .args .out .now) (c .before .before .before .before .before .before .before .before .before .before .if1 .left) (c .before .before .before .before .before .before .before .before .before .if2 .left)
-    (subst (λ k. CheckedMeant (c .before .before .before .before .before .before .before .before .before .before .before .before .before .args .state .now) (c .before .before .before .before .before .check .last .1 .0) (c .before .before .before .before .before .check .last .1 .1 .0) (c .before .before .before .before .before .check .last .1 .1 .1 .0) k) (c .enum-told .given .1) (c .before .before .before .before .before .check .ensures))
+    let back-5 = c .before .before .before .before .before in
+    let back-9 = back-5 .before .before .before .before in
+    let back-10 = back-9 .before in
+    let start = back-10 .before .before .before in
+    not-formed 65536 (look start) (start .args .state .now) (start .args .out .now) (back-10 .if1 .left) (back-9 .if2 .left)
+    (subst (λ k. CheckedMeant (start .args .state .now) (back-5 .check .last .1 .0) (back-5 .check .last .1 .1 .0) (back-5 .check .last .1 .1 .1 .0) k) (c .enum-told .given .1) (back-5 .check .ensures))
 
 pub state-variable-name-spec : {M : Type 1} → statement M
 state-variable-name-spec =

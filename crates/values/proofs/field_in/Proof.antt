@@ -20,70 +20,105 @@ abbrev μ-loop : tie.MeasureT-loop
 μ-loop text label at₀ at =
     length text - at
 
-chosen : (c : tie.In-loop Inv-loop μ-loop) (v : Value) → Holds v (c .before .before .before .before .before .before .args .text .now) → Candidate (c .before .before .before .before .before .before .args .text .now) (c .before .before .before .before .before .before .args .label .now) v (c .before .loop .at)
-chosen c v h = candidate (c .before .before .before .before .before .before .args .text .now) (c .before .before .before .before .before .before .args .label .now) v (c .before .loop .at) (c .before .loop .inv .1 v h) (c .loop-test .taken)
+-- the function's start, as these places see it
+abbrev start-in-loop : tie.In-loop Inv-loop μ-loop → tie.Start Inv-loop μ-loop
+start-in-loop c = c .before .before .before .before .before .before
 
-ended : (c : tie.After-field-ends Inv-loop μ-loop) (v : Value) (h : Holds v (c .before .before .before .before .before .before .before .args .text .now))
-    → let C = chosen (c .before) v h in EndsOf (c .before .before .before .before .before .before .before .args .text .now) (c .before .before .loop .at) (C .field) (rest-of (c .before .before .before .before .before .before .before .args .text .now) (c .before .before .before .before .before .before .before .args .label .now) v (c .before .before .loop .at) C) (c .field-ends .result)
+abbrev start-after-field-ends : tie.After-field-ends Inv-loop μ-loop → tie.Start Inv-loop μ-loop
+start-after-field-ends c = c .before .before .before .before .before .before .before
+
+chosen : (c : tie.In-loop Inv-loop μ-loop) (v : Value) → Holds v (start-in-loop c .args .text .now) → Candidate (start-in-loop c .args .text .now) (start-in-loop c .args .label .now) v (c .before .loop .at)
+chosen c v h =
+    let start = start-in-loop c in
+    candidate (start .args .text .now) (start .args .label .now) v (c .before .loop .at) (c .before .loop .inv .1 v h) (c .loop-test .taken)
+
+ended : (c : tie.After-field-ends Inv-loop μ-loop) (v : Value) (h : Holds v (start-after-field-ends c .args .text .now))
+    → let C = chosen (c .before) v h in EndsOf (start-after-field-ends c .args .text .now) (c .before .before .loop .at) (C .field) (rest-of (start-after-field-ends c .args .text .now) (start-after-field-ends c .args .label .now) v (c .before .before .loop .at) C) (c .field-ends .result)
 ended c v h =
+    let start = start-after-field-ends c in
     let C = chosen (c .before) v h in
-    c .field-ends .ensures (C .field) (rest-of (c .before .before .before .before .before .before .before .args .text .now) (c .before .before .before .before .before .before .before .args .label .now) v (c .before .before .loop .at) C) (candidate-at (c .before .before .before .before .before .before .before .args .text .now) (c .before .before .before .before .before .before .before .args .label .now) v (c .before .before .loop .at) C)
+    c .field-ends .ensures (C .field) (rest-of (start .args .text .now) (start .args .label .now) v (c .before .before .loop .at) C) (candidate-at (start .args .text .now) (start .args .label .now) v (c .before .before .loop .at) C)
 
 shared-slice-read-if1 : tie.Need-shared-slice-read-if1 Inv-loop μ-loop
 shared-slice-read-if1 c = omega (arith, some-bytes (c .before .before .before .pre .value) (c .before .before .before .args .text .now) (c .before .before .before .pre .held))
 
 returns : tie.Need-returns Inv-loop μ-loop
-returns c = (λ v h. no-fields (c .before .before .before .before .args .text .now) (c .before .before .before .before .args .label .now) v h (c .if1 .taken), tt)
+returns c =
+    let start = c .before .before .before .before in
+    (λ v h. no-fields (start .args .text .now) (start .args .label .now) v h (c .if1 .taken), tt)
 
 loop-holds : tie.Need-loop-holds Inv-loop μ-loop
-loop-holds c = (
-  omega (arith, some-bytes (c .before .before .before .before .pre .value) (c .before .before .before .before .args .text .now) (c .before .before .before .before .pre .held)),
-  λ v h. unseen-start (c .before .before .before .before .args .text .now) (c .before .before .before .before .args .label .now) v h (c .if1 .left),
-)
+loop-holds c =
+    let start = c .before .before .before .before in (
+      omega (arith, some-bytes (start .pre .value) (start .args .text .now) (start .pre .held)),
+      λ v h. unseen-start (start .args .text .now) (start .args .label .now) v h (c .if1 .left),
+    )
 
 field-ends-requires : tie.Need-field-ends-requires Inv-loop μ-loop
-field-ends-requires c κs = some-field (c .before .before .before .before .before .before .args .text .now) (c .before .before .before .before .before .before .args .label .now) (c .before .before .before .before .before .before .pre .value) (c .before .loop .at) (chosen c (c .before .before .before .before .before .before .pre .value) (c .before .before .before .before .before .before .pre .held))
+field-ends-requires c κs =
+    let start = c .before .before .before .before .before .before in
+    some-field (start .args .text .now) (start .args .label .now) (start .pre .value) (c .before .loop .at) (chosen c (start .pre .value) (start .pre .held))
 
 add-from : tie.Need-add-from Inv-loop μ-loop
-add-from c = let e = ended (c) (c .before .before .before .before .before .before .before .pre .value) (c .before .before .before .before .before .before .before .pre .held) in omega (arith, e .label-end, e .text-end, e .within)
+add-from c =
+    let start = c .before .before .before .before .before .before .before in
+    let e = ended (c) (start .pre .value) (start .pre .held) in omega (arith, e .label-end, e .text-end, e .within)
 
 sub-same-bytes : tie.Need-sub-same-bytes Inv-loop μ-loop
-sub-same-bytes c = let e = ended (c) (c .before .before .before .before .before .before .before .pre .value) (c .before .before .before .before .before .before .before .pre .held) in omega (arith, e .label-end, e .text-end, e .within)
+sub-same-bytes c =
+    let start = c .before .before .before .before .before .before .before in
+    let e = ended (c) (start .pre .value) (start .pre .held) in omega (arith, e .label-end, e .text-end, e .within)
 
 part-same-bytes-start : tie.Need-part-same-bytes-start Inv-loop μ-loop
-part-same-bytes-start c = let e = ended (c) (c .before .before .before .before .before .before .before .pre .value) (c .before .before .before .before .before .before .before .pre .held) in omega (arith, e .label-end, e .text-end, e .within)
+part-same-bytes-start c =
+    let start = c .before .before .before .before .before .before .before in
+    let e = ended (c) (start .pre .value) (start .pre .held) in omega (arith, e .label-end, e .text-end, e .within)
 
 part-same-bytes-end : tie.Need-part-same-bytes-end Inv-loop μ-loop
-part-same-bytes-end c = let e = ended (c) (c .before .before .before .before .before .before .before .pre .value) (c .before .before .before .before .before .before .before .pre .held) in omega (arith, e .label-end, e .text-end, e .within)
+part-same-bytes-end c =
+    let start = c .before .before .before .before .before .before .before in
+    let e = ended (c) (start .pre .value) (start .pre .held) in omega (arith, e .label-end, e .text-end, e .within)
 
 same-bytes-requires : tie.Need-same-bytes-requires Inv-loop μ-loop
 same-bytes-requires c κs = tt
 
 add-t16 : tie.Need-add-t16 Inv-loop μ-loop
-add-t16 c = let e = ended (c .before .before .before) (c .before .before .before .before .before .before .before .before .before .before .pre .value) (c .before .before .before .before .before .before .before .before .before .before .pre .held) in omega (arith, e .label-end, e .text-end, e .within)
+add-t16 c =
+    let start = c .before .before .before .before .before .before .before .before .before .before in
+    let e = ended (c .before .before .before) (start .pre .value) (start .pre .held) in omega (arith, e .label-end, e .text-end, e .within)
 
 returns-2 : tie.Need-returns-2 Inv-loop μ-loop
 returns-2 c =
-    let e = ended (c .before .before .before) (c .before .before .before .before .before .before .before .before .before .before .pre .value) (c .before .before .before .before .before .before .before .before .before .before .pre .held) in (
-      λ v h. matched (c .before .before .before .before .before .before .before .before .before .before .args .text .now) (c .before .before .before .before .before .before .before .before .before .before .args .label .now) v (c .before .before .before .before .before .loop .at) (chosen (c .before .before .before .before) v h) _ (ended (c .before .before .before) v h) (sym (c .before .same-bytes .ensures) ∙ c .if2 .taken),
+    let start = c .before .before .before .before .before .before .before .before .before .before in
+    let e = ended (c .before .before .before) (start .pre .value) (start .pre .held) in (
+      λ v h. matched (start .args .text .now) (start .args .label .now) v (c .before .before .before .before .before .loop .at) (chosen (c .before .before .before .before) v h) _ (ended (c .before .before .before) v h) (sym (c .before .same-bytes .ensures) ∙ c .if2 .taken),
       (omega (arith, e .text-end), omega (arith, e .within)),
     )
 
 add-at : tie.Need-add-at Inv-loop μ-loop
-add-at c = let e = ended (c .before .before .before .before) (c .before .before .before .before .before .before .before .before .before .before .before .pre .value) (c .before .before .before .before .before .before .before .before .before .before .before .pre .held) in omega (arith, e .within)
+add-at c =
+    let start = c .before .before .before .before .before .before .before .before .before .before .before in
+    let e = ended (c .before .before .before .before) (start .pre .value) (start .pre .held) in omega (arith, e .within)
 
 loop-less : tie.Need-loop-less Inv-loop μ-loop
-loop-less c = let e = ended (c .before .before .before .before) (c .before .before .before .before .before .before .before .before .before .before .before .pre .value) (c .before .before .before .before .before .before .before .before .before .before .before .pre .held) in omega (arith, e .label-end, e .text-end, e .within)
+loop-less c =
+    let start = c .before .before .before .before .before .before .before .before .before .before .before in
+    let e = ended (c .before .before .before .before) (start .pre .value) (start .pre .held) in omega (arith, e .label-end, e .text-end, e .within)
 
 loop-again : tie.Need-loop-again Inv-loop μ-loop
 loop-again c =
-    let e = ended (c .before .before .before .before) (c .before .before .before .before .before .before .before .before .before .before .before .pre .value) (c .before .before .before .before .before .before .before .before .before .before .before .pre .held) in (
+    let back-4 = c .before .before .before .before in
+    let back-6 = back-4 .before .before in
+    let start = back-6 .before .before .before .before .before in
+    let e = ended back-4 (start .pre .value) (start .pre .held) in (
       omega (arith, e .within),
-      λ v h. unmatched (c .before .before .before .before .before .before .before .before .before .before .before .args .text .now) (c .before .before .before .before .before .before .before .before .before .before .before .args .label .now) v (c .before .before .before .before .before .before .loop .at) (chosen (c .before .before .before .before .before) v h) _ (ended (c .before .before .before .before) v h) (sym (c .before .before .same-bytes .ensures) ∙ c .before .if2 .left),
+      λ v h. unmatched (start .args .text .now) (start .args .label .now) v (back-6 .loop .at) (chosen (c .before .before .before .before .before) v h) _ (ended back-4 v h) (sym (c .before .before .same-bytes .ensures) ∙ c .before .if2 .left),
     )
 
 returns-3 : tie.Need-returns-3 Inv-loop μ-loop
-returns-3 c = (λ v h. unseen-none (c .before .before .before .before .before .before .args .text .now) (c .before .before .before .before .before .before .args .label .now) v (c .before .loop .at) (c .before .loop .inv .1 v h) (c .loop-test .left), tt)
+returns-3 c =
+    let start = c .before .before .before .before .before .before in
+    (λ v h. unseen-none (start .args .text .now) (start .args .label .now) v (c .before .loop .at) (c .before .loop .inv .1 v h) (c .loop-test .left), tt)
 
 pub field-in-spec : {M : Type 1} → statement M
 field-in-spec =

@@ -22,8 +22,10 @@ abbrev μ-loop : tie.MeasureT-loop
 stepped : (c : tie.After-until Inv-loop μ-loop) (fs : List Field) (rest : Text) → let a = c .before .before .before .before .before .before .args in
     FieldsAt (a .text .now) (a .at) fs rest → FieldsLeft (a .text .now) (a .at) fs rest (c .until .result + 1) × (c .until .result + 1 ≤ length (a .text .now))
 stepped c fs rest F =
-    let a = c .before .before .before .before .before .before .args in
-    fields-step (a .text .now) (a .at) fs rest (c .before .before .before .before .loop .i) (c .until .result) (c .before .before .before .before .loop .inv .1 fs rest F) (c .before .before .before .loop-test .taken) (c .before .if1 .left) (c .until .ensures .0)
+    let back-4 = c .before .before .before .before in
+    let start = back-4 .before .before in
+    let a = start .args in
+    fields-step (a .text .now) (a .at) fs rest (back-4 .loop .i) (c .until .result) (back-4 .loop .inv .1 fs rest F) (c .before .before .before .loop-test .taken) (c .before .if1 .left) (c .until .ensures .0)
 
 loop-holds : tie.Need-loop-holds Inv-loop μ-loop
 loop-holds c = (c .before .pre .stand .here .within, λ fs rest F. fields-start (c .before .args .text .now) (c .before .args .at) fs rest F)
@@ -32,25 +34,31 @@ shared-slice-read-if1 : tie.Need-shared-slice-read-if1 Inv-loop μ-loop
 shared-slice-read-if1 c = omega arith
 
 returns : tie.Need-returns Inv-loop μ-loop
-returns c = (
-  λ fs rest F. fields-done (c .before .before .before .before .before .args .text .now) (c .before .before .before .before .before .args .at) fs rest (c .before .before .before .loop .i) (c .before .before .before .loop .inv .1 fs rest F) (c .if1 .taken),
-  omega arith,
-)
+returns c =
+    let start = c .before .before .before .before .before in (
+      λ fs rest F. fields-done (start .args .text .now) (start .args .at) fs rest (c .before .before .before .loop .i) (c .before .before .before .loop .inv .1 fs rest F) (c .if1 .taken),
+      omega arith,
+    )
 
 until-requires : tie.Need-until-requires Inv-loop μ-loop
 until-requires c κs = omega arith
 
 add-i : tie.Need-add-i Inv-loop μ-loop
-add-i c = omega (arith, stepped c (c .before .before .before .before .before .before .pre .fields) (c .before .before .before .before .before .before .pre .rest) (c .before .before .before .before .before .before .pre .stand) .1)
+add-i c =
+    let start = c .before .before .before .before .before .before in
+    omega (arith, stepped c (start .pre .fields) (start .pre .rest) (start .pre .stand) .1)
 
 loop-less : tie.Need-loop-less Inv-loop μ-loop
-loop-less c = omega (arith, c .until .ensures .1, stepped c (c .before .before .before .before .before .before .pre .fields) (c .before .before .before .before .before .before .pre .rest) (c .before .before .before .before .before .before .pre .stand) .1)
+loop-less c =
+    let start = c .before .before .before .before .before .before in
+    omega (arith, c .until .ensures .1, stepped c (start .pre .fields) (start .pre .rest) (start .pre .stand) .1)
 
 loop-again : tie.Need-loop-again Inv-loop μ-loop
-loop-again c = (
-  stepped c (c .before .before .before .before .before .before .pre .fields) (c .before .before .before .before .before .before .pre .rest) (c .before .before .before .before .before .before .pre .stand) .1,
-  λ fs rest F. stepped c fs rest F .0,
-)
+loop-again c =
+    let start = c .before .before .before .before .before .before in (
+      stepped c (start .pre .fields) (start .pre .rest) (start .pre .stand) .1,
+      λ fs rest F. stepped c fs rest F .0,
+    )
 
 returns-2 : tie.Need-returns-2 Inv-loop μ-loop
 returns-2 c = (

@@ -28,10 +28,14 @@ same-length c = search needs
 
 returns : tie.Need-returns
 returns c =
-    c .before .before .before .before .before .before .before .before .before .before .before .before .before .before .before .before .before .before .copy-in .ensures
-    ▸ c .before .before .before .before .before .before .before .before .before .before .before .before .before .before .copy-in2 .ensures
-    ▸ c .before .before .before .before .before .before .before .before .before .before .put-byte .ensures
-    ▸ c .before .before .before .before .before .before .copy-in3 .ensures
+    let back-6 = c .before .before .before .before .before .before in
+    let back-10 = back-6 .before .before .before .before in
+    let back-14 = back-10 .before .before .before .before in
+    let back-18 = back-14 .before .before .before .before in
+    back-18 .copy-in .ensures
+    ▸ back-14 .copy-in2 .ensures
+    ▸ back-10 .put-byte .ensures
+    ▸ back-6 .copy-in3 .ensures
     ▸ c .before .before .put-byte2 .ensures
 
 pub put-field-spec : {M : Type 1} → statement M

@@ -21,7 +21,10 @@ same-length : tie.Need-same-length
 same-length c = search needs
 
 returns : tie.Need-returns
-returns c = c .before .before .before .before .before .before .before .before .before .before .copy-in .ensures ▸ c .before .before .before .before .before .before .copy-in2 .ensures ▸ c .before .before .put-byte .ensures
+returns c =
+    let back-6 = c .before .before .before .before .before .before in
+    let back-10 = back-6 .before .before .before .before in
+    back-10 .copy-in .ensures ▸ back-6 .copy-in2 .ensures ▸ c .before .before .put-byte .ensures
 
 pub put-string-spec : {M : Type 1} → statement M
 put-string-spec =

@@ -28,9 +28,10 @@ break-at-requires c κs = tt
 
 add-n : tie.Need-add-n Inv-loop μ-loop
 add-n c =
-    let t = c .before .before .before .before .before .args .text .now in
+    let start = c .before .before .before .before .before in
+    let t = start .args .text .now in
     let l = c .before .before .before .loop in
-    omega (arith, weighed (c .before .before .before .before .before .pre .value) t (c .before .before .before .before .before .pre .held), break-step t (l .i) (c .before .before .loop-test .taken), l .inv .1, c .break-at .ensures .0)
+    omega (arith, weighed (start .pre .value) t (start .pre .held), break-step t (l .i) (c .before .before .loop-test .taken), l .inv .1, c .break-at .ensures .0)
 
 add-i : tie.Need-add-i Inv-loop μ-loop
 add-i c = omega arith

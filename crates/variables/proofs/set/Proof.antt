@@ -12,46 +12,75 @@ use Rattle.language.proofs.StateText.Clean.{identifier-name}
 use Rattle.text.specs.Meaning.{part}
 use Rattle.syntax.specs.Values.{exprMeant}
 use Rattle.evaluate.specs.Results.{Written, Valued}
-use Rattle.running.specs.Sessions.{slices, Running}
-use Rattle.running.proofs.Steps.{is-denied, is-failed}
-use Rattle.running.proofs.OneValue.{value-full}
-use Rattle.variables.specs.Looks.{Scoped, Sending}
+use Rattle.session.specs.Sessions.{slices, Running}
+use Rattle.session.proofs.Steps.{is-denied, is-failed}
+use Rattle.session.proofs.OneValue.{value-full}
+use Rattle.lookup.specs.Looks.{Scoped, Sending}
 use Rattle.language.specs.Syntax.{write}
-use Rattle.variables.proofs.Looking.{denied-set}
-use Rattle.variables.proofs.Ending.{scoped, sending, lent, written, not-written, too-heavy, weighed, setEffect, set-effect, set-none, ends}
+use Rattle.lookup.proofs.Looking.{scoped, sending, denied-set}
+use Rattle.variables.proofs.Ending.{lent, written, not-written, too-heavy, weighed, setEffect, set-effect, set-none, ends}
 use borrow.Author.Needs.{needs}
 use Rattle.variables.proofs.set.Statement.{statement}
 use Rattle.variables.proofs.set.Tie as tie
 
-session-runs : (c : tie.Start) (s : Session) → let a = c .args in Running s (a .l) (slices (a .people .now) (a .people-marks .now) (a .vars .now) (a .var-marks .now) (a .locals .now) (a .local-marks .now) (a .standing .now)) → Scoped s (a .l) (a .vars .now) (a .var-marks .now) (a .locals .now) (a .local-marks .now)
-session-runs c s R = let a = c .args in scoped s (a .l) (slices (a .people .now) (a .people-marks .now) (a .vars .now) (a .var-marks .now) (a .locals .now) (a .local-marks .now) (a .standing .now)) R
+session-runs : (c : tie.Start) (s : Session) → let a = c .args in Running s (a .l)
+    (slices (a .principals .now) (a .principal-slots .now) (a .vars .now) (a .variable-slots .now) (a .locals .now) (a .local-slots .now) (a .assertions .now)) → Scoped s (a .l) (a .vars .now) (a .variable-slots .now) (a .locals .now) (a .local-slots .now)
+session-runs c s R = let a = c .args in scoped s (a .l) (slices (a .principals .now) (a .principal-slots .now) (a .vars .now) (a .variable-slots .now) (a .locals .now) (a .local-slots .now) (a .assertions .now)) R
 
-session-sends : (c : tie.Start) (s : Session) → let a = c .args in Running s (a .l) (slices (a .people .now) (a .people-marks .now) (a .vars .now) (a .var-marks .now) (a .locals .now) (a .local-marks .now) (a .standing .now)) → Sending s (a .l) (a .vars .now) (a .var-marks .now) (a .standing .now)
-session-sends c s R = let a = c .args in sending s (a .l) (slices (a .people .now) (a .people-marks .now) (a .vars .now) (a .var-marks .now) (a .locals .now) (a .local-marks .now) (a .standing .now)) R
+session-sends : (c : tie.Start) (s : Session) → let a = c .args in Running s (a .l)
+    (slices (a .principals .now) (a .principal-slots .now) (a .vars .now) (a .variable-slots .now) (a .locals .now) (a .local-slots .now) (a .assertions .now)) → Sending s (a .l) (a .vars .now) (a .variable-slots .now) (a .assertions .now)
+session-sends c s R = let a = c .args in sending s (a .l) (slices (a .principals .now) (a .principal-slots .now) (a .vars .now) (a .variable-slots .now) (a .locals .now) (a .local-slots .now) (a .assertions .now)) R
 
-judged : (c : tie.After-may-use) (s : Session) (y : Syntax.Expr) → let a = c .before .before .before .before .before .before .before .before .before .before .before .before .before .before .args in Running s (a .l) (slices (a .people .now) (a .people-marks .now) (a .vars .now) (a .var-marks .now) (a .locals .now) (a .local-marks .now) (a .standing .now)) → exprMeant (a .text .now) (a .e) ≡ some y
+-- the function's start, as these places see it
+abbrev start-after-may-use : tie.After-may-use → tie.Start
+start-after-may-use c = c .before .before .before .before .before .before .before .before .before .before .before .before .before .before
+
+abbrev start-else1 : tie.Else1 → tie.Start
+start-else1 c = c .before .before .before .before .before .before .before .before .before .before .before .before .before .before .before
+
+abbrev start-after-worth : tie.After-worth → tie.Start
+start-after-worth c = c .before .before .before .before .before .before .before .before .before .before .before .before .before .before .before .before .before .before .before .before .before .before
+
+abbrev start-after-v : tie.After-v → tie.Start
+start-after-v c = c .before .before .before .before .before .before .before .before .before .before .before .before .before .before .before .before .before .before .before .before .before .before .before .before .before .before .before .before
+
+judged : (c : tie.After-may-use) (s : Session) (y : Syntax.Expr) → let a = (start-after-may-use c) .args in Running s (a .l)
+    (slices (a .principals .now) (a .principal-slots .now) (a .vars .now) (a .variable-slots .now) (a .locals .now) (a .local-slots .now) (a .assertions .now)) → exprMeant (a .text .now) (a .e) ≡ some y
     → denied s (Syntax.set (part (a .text .now) (a .x)) y) ≡ not (c .may-use .result)
-judged c s y R m = let a = c .before .before .before .before .before .before .before .before .before .before .before .before .before .before .args in denied-set s (part (a .text .now) (a .x)) y (c .may-use .result) (c .may-use .ensures s y write (session-sends (c .before .before .before .before .before .before .before .before .before .before .before .before .before .before) s R) m refl)
+judged c s y R m =
+    let start = start-after-may-use c in
+    let a = start .args in denied-set s (part (a .text .now) (a .x)) y (c .may-use .result) (c .may-use .ensures s y write (session-sends start s R) m refl)
 
-permitted : (c : tie.Else1) (s : Session) (y : Syntax.Expr) → let a = c .before .before .before .before .before .before .before .before .before .before .before .before .before .before .before .args in Running s (a .l) (slices (a .people .now) (a .people-marks .now) (a .vars .now) (a .var-marks .now) (a .locals .now) (a .local-marks .now) (a .standing .now)) → exprMeant (a .text .now) (a .e) ≡ some y
+permitted : (c : tie.Else1) (s : Session) (y : Syntax.Expr) → let a = (start-else1 c) .args in Running s (a .l)
+    (slices (a .principals .now) (a .principal-slots .now) (a .vars .now) (a .variable-slots .now) (a .locals .now) (a .local-slots .now) (a .assertions .now)) → exprMeant (a .text .now) (a .e) ≡ some y
     → denied s (Syntax.set (part (a .text .now) (a .x)) y) ≡ false
 permitted c s y R m = judged (c .before) s y R m ∙ c .if1 .left
 
-valued : (c : tie.After-worth) (s : Session) (y : Syntax.Expr) → let a = c .before .before .before .before .before .before .before .before .before .before .before .before .before .before .before .before .before .before .before .before .before .before .args in Running s (a .l) (slices (a .people .now) (a .people-marks .now) (a .vars .now) (a .var-marks .now) (a .locals .now) (a .local-marks .now) (a .standing .now)) → exprMeant (a .text .now) (a .e) ≡ some y
+valued : (c : tie.After-worth) (s : Session) (y : Syntax.Expr) → let a = (start-after-worth c) .args in Running s (a .l)
+    (slices (a .principals .now) (a .principal-slots .now) (a .vars .now) (a .variable-slots .now) (a .locals .now) (a .local-slots .now) (a .assertions .now)) → exprMeant (a .text .now) (a .e) ≡ some y
     → Valued (c .worth .result) (value s y) (c .worth .last .1 .1 .1 .1 .1 .1 .1 .0)
-valued c s y R m = c .worth .ensures s y (session-runs (c .before .before .before .before .before .before .before .before .before .before .before .before .before .before .before .before .before .before .before .before .before .before) s R) m
+valued c s y R m =
+    let back-22 = start-after-worth c in
+    c .worth .ensures s y (session-runs back-22 s R) m
 
-of-value : (c : tie.After-v) (s : Session) (y : Syntax.Expr) → let a = c .before .before .before .before .before .before .before .before .before .before .before .before .before .before .before .before .before .before .before .before .before .before .before .before .before .before .before .before .args in Running s (a .l) (slices (a .people .now) (a .people-marks .now) (a .vars .now) (a .var-marks .now) (a .locals .now) (a .local-marks .now) (a .standing .now)) → exprMeant (a .text .now) (a .e) ≡ some y
+of-value : (c : tie.After-v) (s : Session) (y : Syntax.Expr) → let a = (start-after-v c) .args in Running s (a .l)
+    (slices (a .principals .now) (a .principal-slots .now) (a .vars .now) (a .variable-slots .now) (a .locals .now) (a .local-slots .now) (a .assertions .now)) → exprMeant (a .text .now) (a .e) ≡ some y
     → Written (value s y) (c .before .before .before .before .before .before .worth .last .1 .1 .1 .1 .1 .1 .1 .0) (c .v .given .0 .0) (c .v .given .0 .1 .0)
-of-value c s y R m = written (value s y) (c .before .before .before .before .before .before .worth .last .1 .1 .1 .1 .1 .1 .1 .0) (c .before .before .before .before .before .before .worth .result) (valued (c .before .before .before .before .before .before) s y R m) (c .v .given .0 .0) (c .v .given .0 .1 .0) (c .v .given .1)
+of-value c s y R m =
+    let back-6 = c .before .before .before .before .before .before in
+    written (value s y) (back-6 .worth .last .1 .1 .1 .1 .1 .1 .1 .0) (back-6 .worth .result) (valued back-6 s y R m) (c .v .given .0 .0) (c .v .given .0 .1 .0) (c .v .given .1)
 
-its-value : (c : tie.After-v) → let S = c .before .before .before .before .before .before .before .before .before .before .before .before .before .before .before .before .before .before .before .before .before .before .before .before .before .before .before .before .pre .0 in let X = c .before .before .before .before .before .before .before .before .before .before .before .before .before .before .before .before .before .before .before .before .before .before .before .before .before .before .before .before .pre .1 .0 .said .expression in Written (value (S .session) (X .expression)) (c .before .before .before .before .before .before .worth .last .1 .1 .1 .1 .1 .1 .1 .0) (c .v .given .0 .0) (c .v .given .0 .1 .0)
-its-value c = of-value c (c .before .before .before .before .before .before .before .before .before .before .before .before .before .before .before .before .before .before .before .before .before .before .before .before .before .before .before .before .pre .0 .session) (c .before .before .before .before .before .before .before .before .before .before .before .before .before .before .before .before .before .before .before .before .before .before .before .before .before .before .before .before .pre .1 .0 .said .expression .expression) (c .before .before .before .before .before .before .before .before .before .before .before .before .before .before .before .before .before .before .before .before .before .before .before .before .before .before .before .before .pre .0 .running) (c .before .before .before .before .before .before .before .before .before .before .before .before .before .before .before .before .before .before .before .before .before .before .before .before .before .before .before .before .pre .1 .0 .said .expression .meant)
+its-value : (c : tie.After-v) → let S = (start-after-v c) .pre .0 in let X = (start-after-v c) .pre .1 .0 .said .expression in Written (value (S .session) (X .expression))
+    (c .before .before .before .before .before .before .worth .last .1 .1 .1 .1 .1 .1 .1 .0) (c .v .given .0 .0) (c .v .given .0 .1 .0)
+its-value c =
+    let start = start-after-v c in
+    of-value c (start .pre .0 .session) (start .pre .1 .0 .said .expression .expression) (start .pre .0 .running) (start .pre .1 .0 .said .expression .meant)
 
 may-use-requires : tie.Need-may-use-requires
 may-use-requires c κs =
-    let S = c .before .before .before .before .before .before .before .before .before .before .before .before .before .pre .0 in
-    (record { session = S .session; sending = session-sends (c .before .before .before .before .before .before .before .before .before .before .before .before .before) (S .session) (S .running) }, c .before .before .before .before .before .before .before .before .before .before .before .before .before .pre .1 .0 .said, c .before .before .before .before .before .before .before .before .before .before .before .before .before .pre .1 .0 .within)
+    let start = c .before .before .before .before .before .before .before .before .before .before .before .before .before in
+    let S = start .pre .0 in
+    (record { session = S .session; sending = session-sends start (S .session) (S .running) }, start .pre .1 .0 .said, start .pre .1 .0 .within)
 
 same-length : tie.Need-same-length
 same-length c = search needs
@@ -63,37 +92,52 @@ same-length-3 : tie.Need-same-length-3
 same-length-3 c = search needs
 
 returns : tie.Need-returns
-returns c s y R m = let a = c .before .before .before .before .before .before .before .before .before .before .before .before .before .before .before .args in is-denied s (Syntax.set (part (a .text .now) (a .x)) y) (judged (c .before) s y R m ∙ c .if1 .taken)
+returns c s y R m =
+    let start = c .before .before .before .before .before .before .before .before .before .before .before .before .before .before .before in
+    let a = start .args in is-denied s (Syntax.set (part (a .text .now) (a .x)) y) (judged (c .before) s y R m ∙ c .if1 .taken)
 
 worth-requires : tie.Need-worth-requires
 worth-requires c κs =
-    let a = c .before .before .before .before .before .before .before .before .before .before .before .before .before .before .before .before .before .before .before .before .before .args in
-    let S = c .before .before .before .before .before .before .before .before .before .before .before .before .before .before .before .before .before .before .before .before .before .pre .0 in
-    (record { session = S .session; scoped = session-runs (c .before .before .before .before .before .before .before .before .before .before .before .before .before .before .before .before .before .before .before .before .before) (S .session) (S .running) }, c .before .before .before .before .before .before .before .before .before .before .before .before .before .before .before .before .before .before .before .before .before .pre .1 .0 .said, lent (a .value .now) (a .labels .now) (c .before .before .before .before .before .before .before .before .before .before .before .before .before .before .before .before .before .before .before .before .before .pre .1 .1 .value-size) (c .before .before .before .before .before .before .before .before .before .before .before .before .before .before .before .before .before .before .before .before .before .pre .1 .1 .labels-size))
+    let start = c .before .before .before .before .before .before .before .before .before .before .before .before .before .before .before .before .before .before .before .before .before in
+    let a = start .args in
+    let S = start .pre .0 in
+    (record { session = S .session; scoped = session-runs start (S .session) (S .running) }, start .pre .1 .0 .said, lent (a .value .now) (a .labels .now) (start .pre .1 .1 .value-size) (start .pre .1 .1 .labels-size))
 
 enum-known-v : tie.Need-enum-known-v
 enum-known-v c = search needs
 
 sub-assign : tie.Need-sub-assign
-sub-assign c = let w = c .before .before .before .before .before .before .before .before .before .before .before .before .before .before .before .before .before .before .before .before .before .before .before .before .before .before .before .before .before .before .before .before .before .before .pre .1 .0 .within in omega (arith, w .0, w .1)
+sub-assign c =
+    let start = c .before .before .before .before .before .before .before .before .before .before .before .before .before .before .before .before .before .before .before .before .before .before .before .before .before .before .before .before .before .before .before .before .before .before in
+    let w = start .pre .1 .0 .within in omega (arith, w .0, w .1)
 
 part-assign-start : tie.Need-part-assign-start
-part-assign-start c = let w = c .before .before .before .before .before .before .before .before .before .before .before .before .before .before .before .before .before .before .before .before .before .before .before .before .before .before .before .before .before .before .before .before .before .before .pre .1 .0 .within in omega (arith, w .0, w .1)
+part-assign-start c =
+    let start = c .before .before .before .before .before .before .before .before .before .before .before .before .before .before .before .before .before .before .before .before .before .before .before .before .before .before .before .before .before .before .before .before .before .before in
+    let w = start .pre .1 .0 .within in omega (arith, w .0, w .1)
 
 part-assign-end : tie.Need-part-assign-end
-part-assign-end c = let w = c .before .before .before .before .before .before .before .before .before .before .before .before .before .before .before .before .before .before .before .before .before .before .before .before .before .before .before .before .before .before .before .before .before .before .pre .1 .0 .within in omega (arith, w .0, w .1)
+part-assign-end c =
+    let start = c .before .before .before .before .before .before .before .before .before .before .before .before .before .before .before .before .before .before .before .before .before .before .before .before .before .before .before .before .before .before .before .before .before .before in
+    let w = start .pre .1 .0 .within in omega (arith, w .0, w .1)
 
 slice-reshare-prefix-assign : tie.Need-slice-reshare-prefix-assign
-slice-reshare-prefix-assign c = its-value (c .before .before .before .before .before .before .before) .within
+slice-reshare-prefix-assign c =
+    let back-7 = c .before .before .before .before .before .before .before in
+    its-value back-7 .within
 
 slice-aggregate-assign : tie.Need-slice-aggregate-assign
-slice-aggregate-assign c = sym (length-take-le _ _ (its-value (c .before .before .before .before .before .before .before .before) .within))
+slice-aggregate-assign c =
+    let back-8 = c .before .before .before .before .before .before .before .before in
+    sym (length-take-le _ _ (its-value back-8 .within))
 
 assign-requires : tie.Need-assign-requires
 assign-requires c κs =
-    let a = c .before .before .before .before .before .before .before .before .before .before .before .before .before .before .before .before .before .before .before .before .before .before .before .before .before .before .before .before .before .before .before .before .before .before .before .before .args in
-    let H = its-value (c .before .before .before .before .before .before .before .before) in
-    (c .before .before .before .before .before .before .before .before .before .before .before .before .before .before .before .before .before .before .before .before .before .before .before .before .before .before .before .before .before .before .before .before .before .before .before .before .pre .0, (identifier-name (part (a .text .now) (a .x)) (c .before .before .before .before .before .before .before .before .before .before .before .before .before .before .before .before .before .before .before .before .before .before .before .before .before .before .before .before .before .before .before .before .before .before .before .before .pre .1 .0 .is-name), record { value = H .value; is-value = weighed H }))
+    let back-8 = c .before .before .before .before .before .before .before .before in
+    let start = back-8 .before .before .before .before .before .before .before .before .before .before .before .before .before .before .before .before .before .before .before .before .before .before .before .before .before .before .before .before in
+    let a = start .args in
+    let H = its-value back-8 in
+    (start .pre .0, (identifier-name (part (a .text .now) (a .x)) (start .pre .1 .0 .is-name), record { value = H .value; is-value = weighed H }))
 
 verdict-requires : tie.Need-verdict-requires
 verdict-requires c κs = search needs
@@ -127,11 +171,15 @@ same-length-10 c = search needs
 
 returns-2 : tie.Need-returns-2
 returns-2 c s y R m =
-    let a = c .before .before .before .before .before .before .before .before .before .before .before .before .before .before .before .before .before .before .before .before .before .before .before .before .before .before .before .before .before .before .before .before .before .before .before .before .before .before .before .before .before .before .before .before .before .before .before .before .args in
+    let back-11 = c .before .before .before .before .before .before .before .before .before .before .before in
+    let back-20 = back-11 .before .before .before .before .before .before .before .before .before in
+    let back-33 = back-20 .before .before .before .before .before .before .before .before .before .before .before .before .before in
+    let start = back-33 .before .before .before .before .before .before .before .before .before .before .before .before .before .before .before in
+    let a = start .args in
     let x = part (a .text .now) (a .x) in
-    let H = of-value (c .before .before .before .before .before .before .before .before .before .before .before .before .before .before .before .before .before .before .before .before) s y R m in
-    let A = c .before .before .before .before .before .before .before .before .before .before .before .assign in
-    ends s (Syntax.set x y) (setEffect s x y (H .value)) (H .value) (permitted (c .before .before .before .before .before .before .before .before .before .before .before .before .before .before .before .before .before .before .before .before .before .before .before .before .before .before .before .before .before .before .before .before .before) s y R m) (set-effect s x y (H .value) (H .is-value)) refl (A .result) (c .verdict .result) _
+    let H = of-value back-20 s y R m in
+    let A = back-11 .assign in
+    ends s (Syntax.set x y) (setEffect s x y (H .value)) (H .value) (permitted back-33 s y R m) (set-effect s x y (H .value) (H .is-value)) refl (A .result) (c .verdict .result) _
     (c .verdict .ensures) (omega (arith, H .weighs, H .light)) (A .ensures s (H .value) R (weighed H))
 
 same-length-11 : tie.Need-same-length-11
@@ -157,10 +205,13 @@ same-length-17 c = search needs
 
 returns-3 : tie.Need-returns-3
 returns-3 c s y R m =
-    let a = c .before .before .before .before .before .before .before .before .before .before .before .before .before .before .before .before .before .before .before .before .before .before .before .before .before .before .before .before .args in
+    let back-6 = c .before .before .before .before .before .before in
+    let back-13 = back-6 .before .before .before .before .before .before .before in
+    let start = back-13 .before .before .before .before .before .before .before .before .before .before .before .before .before .before .before in
+    let a = start .args in
     let x = part (a .text .now) (a .x) in
-    is-failed s (Syntax.set x y) (permitted (c .before .before .before .before .before .before .before .before .before .before .before .before .before) s y R m)
-    (set-none s x y (not-written (value s y) _ (c .before .before .before .before .before .before .worth .result) (valued (c .before .before .before .before .before .before) s y R m) (c .enum-told .given .1)))
+    is-failed s (Syntax.set x y) (permitted back-13 s y R m)
+    (set-none s x y (not-written (value s y) _ (back-6 .worth .result) (valued back-6 s y R m) (c .enum-told .given .1)))
 
 same-length-18 : tie.Need-same-length-18
 same-length-18 c = search needs
@@ -185,10 +236,13 @@ same-length-24 c = search needs
 
 returns-4 : tie.Need-returns-4
 returns-4 c s y R m =
-    let a = c .before .before .before .before .before .before .before .before .before .before .before .before .before .before .before .before .before .before .before .before .before .before .before .before .before .before .before .before .args in
+    let back-6 = c .before .before .before .before .before .before in
+    let back-13 = back-6 .before .before .before .before .before .before .before in
+    let start = back-13 .before .before .before .before .before .before .before .before .before .before .before .before .before .before .before in
+    let a = start .args in
     let x = part (a .text .now) (a .x) in
-    let H = too-heavy (value s y) _ (c .before .before .before .before .before .before .worth .result) (valued (c .before .before .before .before .before .before) s y R m) (c .enum-told2 .given .1) in
-    value-full s (Syntax.set x y) (setEffect s x y (H .value)) (H .value) (permitted (c .before .before .before .before .before .before .before .before .before .before .before .before .before) s y R m) (set-effect s x y (H .value) (H .is-value)) refl (H .heavy)
+    let H = too-heavy (value s y) _ (back-6 .worth .result) (valued back-6 s y R m) (c .enum-told2 .given .1) in
+    value-full s (Syntax.set x y) (setEffect s x y (H .value)) (H .value) (permitted back-13 s y R m) (set-effect s x y (H .value) (H .is-value)) refl (H .heavy)
 
 pub set-spec : {M : Type 1} → statement M
 set-spec =

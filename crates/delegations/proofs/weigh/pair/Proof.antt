@@ -21,7 +21,7 @@ part-principal-weight-end c = search needs
 principal-weight-requires : tie.Need-principal-weight-requires
 principal-weight-requires c κs =
     let s = c .before .before .before in
-    (some-from-start (s .args .people .now) (s .args .len) (s .args .count) (s .args .marks .now) (s .pre .1), s .pre .2)
+    (some-from-start (s .args .principals .now) (s .args .len) (s .args .count) (s .args .slots .now) (s .pre .1), s .pre .2)
 
 sub-principal-weight-2 : tie.Need-sub-principal-weight-2
 sub-principal-weight-2 c = search needs
@@ -35,25 +35,27 @@ part-principal-weight-end-2 c = search needs
 principal-weight-requires-2 : tie.Need-principal-weight-requires-2
 principal-weight-requires-2 c κs =
     let s = c .before .before .before .before .before in
-    (some-from-start (s .args .people .now) (s .args .len) (s .args .count) (s .args .marks .now) (s .pre .1), s .pre .3)
+    (some-from-start (s .args .principals .now) (s .args .len) (s .args .count) (s .args .slots .now) (s .pre .1), s .pre .3)
 
 add-result : tie.Need-add-result
 add-result c =
-    let s = c .before .before .before .before .before .before in
+    let back-6 = c .before .before .before .before .before .before in
+    let s = back-6 in
     let a = s .args in
     let rows = s .pre .1 .rows in
-    let H = rows-from-start rows (a .people .now) (a .len) (a .count) (a .marks .now) (s .pre .1 .held) in
+    let H = rows-from-start rows (a .principals .now) (a .len) (a .count) (a .slots .now) (s .pre .1 .held) in
     let q : c .before .before .principal-weight .result ≡ nameWeight (rowAt rows (a .q) .name) = c .before .before .principal-weight .ensures rows H in
     let p : c .principal-weight2 .result ≡ nameWeight (rowAt rows (a .p) .name) = c .principal-weight2 .ensures rows H in
-    let lq : nameWeight (rowAt rows (a .q) .name) ≤ 255 = row-light rows _ (a .count) (a .marks .now) H (a .q) (s .pre .2) in
-    let lp : nameWeight (rowAt rows (a .p) .name) ≤ 255 = row-light rows _ (a .count) (a .marks .now) H (a .p) (s .pre .3) in
+    let lq : nameWeight (rowAt rows (a .q) .name) ≤ 255 = row-light rows _ (a .count) (a .slots .now) H (a .q) (s .pre .2) in
+    let lp : nameWeight (rowAt rows (a .p) .name) ≤ 255 = row-light rows _ (a .count) (a .slots .now) H (a .p) (s .pre .3) in
     omega arith
 
 returns : tie.Need-returns
 returns c rows K =
-    let s = c .before .before .before .before .before .before in
+    let back-6 = c .before .before .before .before .before .before in
+    let s = back-6 in
     let a = s .args in
-    let H = rows-from-start rows (a .people .now) (a .len) (a .count) (a .marks .now) K in
+    let H = rows-from-start rows (a .principals .now) (a .len) (a .count) (a .slots .now) K in
     λ i. c .before .before .principal-weight .ensures rows H i + c .principal-weight2 .ensures rows H i
 
 pub pair-spec : {M : Type 1} → statement M

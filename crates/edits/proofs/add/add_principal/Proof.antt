@@ -13,12 +13,20 @@ use borrow.Author.Needs.{needs}
 use Rattle.edits.proofs.add.add_principal.Statement.{statement}
 use Rattle.edits.proofs.add.add_principal.Tie as tie
 
+-- the function's start, as these places see it
+abbrev start-after-head : tie.After-head → tie.Start
+start-after-head c = c .before .before .before .before .before .before
+
+abbrev start-after-copy : tie.After-copy → tie.Start
+start-after-copy c = c .before .before .before .before .before .before .before .before .before .before
+
 -- what has been written
-written : (c : tie.After-copy) → let a = c .before .before .before .before .before .before .before .before .before .before .args in
+written : (c : tie.After-copy) → let a = (start-after-copy c) .args in
     set (c .copy .last .0) (c .before .before .before .before .head .result + length (a .password .now)) 10 ≡ over (a .buf .now) (a .len) (80 ∷ 9 ∷ (a .name .now ++ (9 ∷ (a .password .now ++ (10 ∷ [])))))
 written c =
-    let a = c .before .before .before .before .before .before .before .before .before .before .args in
-    let p = c .before .before .before .before .before .before .before .before .before .before .pre in
+    let start = start-after-copy c in
+    let a = start .args in
+    let p = start .pre in
     let H = c .before .before .before .before .head in
     let x = a .name .now in
     let w = a .password .now in
@@ -29,9 +37,10 @@ written c =
     (omega (arith, H .ensures .0, c .copy .kept .0, H .kept .0, p .1)) one (omega (arith, H .ensures .0, head-length 80 x, length-append f w))
     ∙ ap (over (a .buf .now) (a .len)) (principal-written x w)
 
-size : (c : tie.After-head) → let a = c .before .before .before .before .before .before .args in c .head .result + length (a .password .now) + 1 ≡ a .len + length (80 ∷ 9 ∷ (a .name .now ++ (9 ∷ (a .password .now ++ (10 ∷ [])))))
+size : (c : tie.After-head) → let a = (start-after-head c) .args in c .head .result + length (a .password .now) + 1 ≡ a .len + length (80 ∷ 9 ∷ (a .name .now ++ (9 ∷ (a .password .now ++ (10 ∷ [])))))
 size c =
-    let a = c .before .before .before .before .before .before .args in
+    let start = start-after-head c in
+    let a = start .args in
     omega (arith, c .head .ensures .0, length-append (a .name .now) (9 ∷ (a .password .now ++ (10 ∷ []))), length-append (a .password .now) (10 ∷ []))
 
 head-requires : tie.Need-head-requires
@@ -53,30 +62,36 @@ add-result : tie.Need-add-result
 add-result c = search needs
 
 same-length : tie.Need-same-length
-same-length c = simp length-set (c .before .before .before .before .before .before .copy .kept .0 ∙ c .before .before .before .before .before .before .before .before .before .before .head .kept .0)
+same-length c =
+    let back-6 = c .before .before .before .before .before .before in
+    let back-10 = back-6 .before .before .before .before in
+    simp length-set (back-6 .copy .kept .0 ∙ back-10 .head .kept .0)
 
 same-length-2 : tie.Need-same-length-2
 same-length-2 c = search needs
 
 returns : tie.Need-returns
 returns c =
-    let s = c .before .before .before .before .before .before .before .before .before .before .before .before .before .before .before .before in
+    let back-6 = c .before .before .before .before .before .before in
+    let back-10 = back-6 .before .before .before .before in
+    let back-16 = back-10 .before .before .before .before .before .before in
+    let s = back-16 in
     let a = s .args in
     let p = s .pre in
     let x = a .name .now in
     let w = a .password .now in
-    let r : ℕ = c .before .before .before .before .before .before .before .before .before .before .head .result + length w + 1 in
+    let r : ℕ = back-10 .head .result + length w + 1 in
     let t : Text = 80 ∷ 9 ∷ (x ++ (9 ∷ (w ++ (10 ∷ [])))) in
-    let b : Text = set (c .before .before .before .before .before .before .copy .last .0) (c .before .before .before .before .before .before .before .before .before .before .head .result + length w) 10 in
-    let fits : r ≤ length (a .buf .now) = omega (arith, c .before .before .before .before .before .before .before .before .before .before .head .ensures .0, p .1) in (
-      omega (arith, c .before .before .before .before .before .before .before .before .before .before .head .ensures .0),
+    let b : Text = set (back-6 .copy .last .0) (back-10 .head .result + length w) 10 in
+    let fits : r ≤ length (a .buf .now) = omega (arith, back-10 .head .ensures .0, p .1) in (
+      omega (arith, back-10 .head .ensures .0),
       (
-        added-outside (a .buf .now) b t (a .len) (a .count) r (a .marks .now) (c .before .before .note .last .0) _ (omega arith) (size (c .before .before .before .before .before .before .before .before .before .before)) fits (written (c .before .before .before .before .before .before)) (c .before .before .note .ensures),
+        added-outside (a .buf .now) b t (a .len) (a .count) r (a .slots .now) (c .before .before .note .last .0) _ (omega arith) (size back-10) fits (written back-6) (c .before .before .note .ensures),
         λ ks K h.
             principal-added ks x w (take r b) (a .count + 1) (c .before .before .note .last .0)
-            (added (map principalRow ks) (principalRow (record { name = x; password = some w })) (a .buf .now) b (a .len) (a .count) r (a .marks .now) (c .before .before .note .last .0)
-            (principals-rows ks (take (a .len) (a .buf .now)) (a .count) (a .marks .now) K) h (p .0) (omega arith) (p .2)
-            (size (c .before .before .before .before .before .before .before .before .before .before)) fits (written (c .before .before .before .before .before .before)) (c .before .before .note .ensures)),
+            (added (map principalRow ks) (principalRow (record { name = x; password = some w })) (a .buf .now) b (a .len) (a .count) r (a .slots .now) (c .before .before .note .last .0)
+            (principals-rows ks (take (a .len) (a .buf .now)) (a .count) (a .slots .now) K) h (p .0) (omega arith) (p .2)
+            (size back-10) fits (written back-6) (c .before .before .note .ensures)),
       ),
     )
 

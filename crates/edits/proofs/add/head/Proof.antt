@@ -31,18 +31,23 @@ copy-requires : tie.Need-copy-requires
 copy-requires c κs = omega (arith, two (c .before .before .before), c .before .before .before .pre)
 
 slice-write-buf-3 : tie.Need-slice-write-buf-3
-slice-write-buf-3 c = omega (arith, two (c .before .before .before .before .before .before), c .before .before .before .before .before .before .pre, c .before .before .copy .kept .0)
+slice-write-buf-3 c =
+    let start = c .before .before .before .before .before .before in
+    omega (arith, two start, start .pre, c .before .before .copy .kept .0)
 
 add-result : tie.Need-add-result
 add-result c = search needs
 
 same-length : tie.Need-same-length
-same-length c = simp length-set (c .before .before .copy .kept .0 ∙ two (c .before .before .before .before .before .before))
+same-length c =
+    let back-6 = c .before .before .before .before .before .before in
+    simp length-set (c .before .before .copy .kept .0 ∙ two back-6)
 
 returns : tie.Need-returns
 returns c =
-    let a = c .before .before .before .before .before .before .args in
-    (omega arith, ap (λ (d : Text). set d (a .at + 2 + length (a .name .now)) 9) (c .before .before .copy .ensures) ∙ head-over (a .buf .now) (a .name .now) (a .at) (a .letter) (c .before .before .before .before .before .before .pre))
+    let start = c .before .before .before .before .before .before in
+    let a = start .args in
+    (omega arith, ap (λ (d : Text). set d (a .at + 2 + length (a .name .now)) 9) (c .before .before .copy .ensures) ∙ head-over (a .buf .now) (a .name .now) (a .at) (a .letter) (start .pre))
 
 pub head-spec : {M : Type 1} → statement M
 head-spec =

@@ -1,7 +1,7 @@
 use mathlib.Core.Path.{_≡_, sym, ap, _∙_}
 use Prim.Native.Nat.{ℕ}
 use native.Mathlib.Omega.{arith}
-use Rattle.store.specs.Held.{part}
+use Rattle.text.specs.Parts.{part}
 use Rattle.edits.specs.Splices.{over}
 use Rattle.edits.proofs.Sliding.{over-empty, over-same}
 use borrow.Author.Needs.{needs}

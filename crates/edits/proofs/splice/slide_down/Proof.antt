@@ -3,7 +3,7 @@ use Prim.Native.Nat.{ℕ, _+_, _-_, _≤_}
 use native.Mathlib.Omega.{arith}
 use lib.ListN.{length, take, drop}
 use Rattle.language.specs.Text.{Text}
-use Rattle.store.specs.Held.{part}
+use Rattle.text.specs.Parts.{part}
 use Rattle.edits.specs.Splices.{over}
 use Rattle.edits.proofs.Splicing.{length-part}
 use Rattle.edits.proofs.Sliding.{over-empty, through, down-more}
@@ -28,9 +28,11 @@ piece c =
 back : (c : tie.After-block2 Inv-loop μ-loop) → let l = c .before .before .before .before .before .before .before .loop in let n = c .before .before .before .before .before .block-size .result in
     take (n - 0) (drop 0 (c .before .copy .last .0)) ≡ part (l .buf) (l .i) (l .i + n)
 back c =
-    let l = c .before .before .before .before .before .before .before .loop in
-    let n = c .before .before .before .before .before .block-size .result in
-    ap (λ (t : Text). take (n - 0) (drop 0 t)) (c .before .copy .ensures) ∙ through (l .block) (part (l .buf) (l .i) (l .i + n)) n (piece (c .before .before .before .before .before)) (omega arith)
+    let back-5 = c .before .before .before .before .before in
+    let back-7 = back-5 .before .before in
+    let l = back-7 .loop in
+    let n = back-5 .block-size .result in
+    ap (λ (t : Text). take (n - 0) (drop 0 t)) (c .before .copy .ensures) ∙ through (l .block) (part (l .buf) (l .i) (l .i + n)) n (piece back-5) (omega arith)
 
 sub-gap : tie.Need-sub-gap Inv-loop μ-loop
 sub-gap c = omega arith
@@ -78,7 +80,8 @@ part-copy-end-2 c = omega (arith, c .before .before .before .copy .kept .0)
 
 copy-requires-2 : tie.Need-copy-requires-2 Inv-loop μ-loop
 copy-requires-2 c κs =
-    let e = ap length (back (c .before .before .before)) ∙ piece (c .before .before .before .before .before .before .before .before) in
+    let back-8 = c .before .before .before .before .before .before .before .before in
+    let e = ap length (back (c .before .before .before)) ∙ piece back-8 in
     omega (arith, e)
 
 loop-less : tie.Need-loop-less Inv-loop μ-loop
@@ -86,16 +89,21 @@ loop-less c = omega arith
 
 loop-again : tie.Need-loop-again Inv-loop μ-loop
 loop-again c =
-    let a = c .before .before .before .before .before .before .before .before .before .before .before .before .before .before .before .args in
-    let l = c .before .before .before .before .before .before .before .before .before .before .before .before .before .loop in
-    let n = c .before .before .before .before .before .before .before .before .before .before .before .block-size .result in (
+    let back-6 = c .before .before .before .before .before .before in
+    let back-7 = back-6 .before in
+    let back-11 = back-7 .before .before .before .before in
+    let back-13 = back-11 .before .before in
+    let start = back-13 .before .before in
+    let a = start .args in
+    let l = back-13 .loop in
+    let n = back-11 .block-size .result in (
       omega arith,
       omega arith,
       c .before .before .copy2 .ensures
-          ∙ ap (over (l .buf) (l .i - (a .from - a .to))) (back (c .before .before .before .before .before .before))
+          ∙ ap (over (l .buf) (l .i - (a .from - a .to))) (back back-6)
           ∙ down-more (a .buf .now) (l .buf) (a .from) (a .to) (l .i) (l .i + n) (omega arith) (omega arith) (omega arith) (omega arith) (l .inv .2),
       c .before .before .copy2 .kept .0 ∙ l .inv .3,
-      c .before .before .before .before .before .before .before .copy .kept .0 ∙ l .inv .4,
+      back-7 .copy .kept .0 ∙ l .inv .4,
     )
 
 same-length : tie.Need-same-length Inv-loop μ-loop

@@ -26,11 +26,13 @@ same-length c = search needs
 
 returns : tie.Need-returns
 returns c =
-    let s = c .before .before .before .before .before .before .before .before .before .before in
+    let back-6 = c .before .before .before .before .before .before in
+    let back-10 = back-6 .before .before .before .before in
+    let s = back-10 in
     let a = s .args in (
       refl,
       c .before .before .copy .ensures
-          ∙ ap (λ (t : Text). over t (a .from) (a .src .now)) (c .before .before .before .before .before .before .slide .ensures)
+          ∙ ap (λ (t : Text). over t (a .from) (a .src .now)) (back-6 .slide .ensures)
           ∙ moved-and-written (a .buf .now) (a .src .now) (a .len) (a .from) (a .to) (s .pre .0) (s .pre .1) (s .pre .2) (s .pre .3),
     )
 

@@ -3,20 +3,25 @@
 use mathlib.Core.Path.{sym, subst}
 use borrow.Author.Needs.{needs}
 use Rattle.language.specs.Values.{Session}
-use Rattle.running.specs.Sessions.{Running}
+use Rattle.session.specs.Sessions.{Running}
 use Rattle.values.proofs.Pieces.{rewritten}
 use Rattle.syntax.proofs.Reading.{known}
-use Rattle.engine.specs.declared.command.Acted.{Acted}
-use Rattle.engine.specs.Commands.{Acts, Hands}
+use Rattle.status.specs.declared.Acted.{Acted}
+use Rattle.status.specs.Acts.{Acts, Hands}
 use Rattle.engine.proofs.Spoken.{json-room, from-start}
 use Rattle.engine.proofs.command.tell.Statement.{statement}
 use Rattle.engine.proofs.command.tell.Tie as tie
 
-here : (c : tie.After-a2) → let S = c .before .before .before .before .pre .0 in
-    Hands (S .step) (S .session) (c .before .before .before .before .args .l) (S .buffers) (c .before .before .before .before .args .value .now) (c .a2 .given .0 .0)
+-- the function's start, as these places see it
+abbrev start-after-a2 : tie.After-a2 → tie.Start
+start-after-a2 c = c .before .before .before .before
+
+here : (c : tie.After-a2) → let S = (start-after-a2 c) .pre .0 in
+    Hands (S .step) (S .session) (start-after-a2 c .args .l) (S .buffers) (start-after-a2 c .args .value .now) (c .a2 .given .0 .0)
 here c =
-    let S = c .before .before .before .before .pre .0 in
-    known (λ (a : Acted). Acts a (S .step) (S .session) (c .before .before .before .before .args .l) (S .buffers) (c .before .before .before .before .args .value .now)) (S .acts) (c .a2 .given .1)
+    let start = start-after-a2 c in
+    let S = start .pre .0 in
+    known (λ (a : Acted). Acts a (S .step) (S .session) (start .args .l) (S .buffers) (start .args .value .now)) (S .acts) (c .a2 .given .1)
 
 enum-told : tie.Need-enum-told
 enum-told c = search needs
@@ -47,25 +52,33 @@ part-returning-end c = here (c .before) .returned .within
 
 returning-requires : tie.Need-returning-requires
 returning-requires c κs =
+    let back-7 = c .before .before .before .before .before .before .before in
     let W = here (c .before .before .before) .returned in
-    let g = c .before .before .before .before .before .before .before in
+    let g = back-7 in
     json-room (W .value) _ (g .args .output .now) _ (from-start (W .value) (g .args .value .now) (c .before .before .before .a2 .given .0 .0) (W .held)) (W .light) (g .pre .1)
 
 returns : tie.Need-returns
-returns c k s b A = known (λ (a : Acted). Acts a k s (c .before .before .before .before .args .l) b (c .before .before .before .before .args .value .now)) A (c .enum-told .given .1)
+returns c k s b A =
+    let start = c .before .before .before .before in
+    known (λ (a : Acted). Acts a k s (start .args .l) b (start .args .value .now)) A (c .enum-told .given .1)
 
 returns-2 : tie.Need-returns-2
-returns-2 c k s b A = known (λ (a : Acted). Acts a k s (c .before .before .before .before .args .l) b (c .before .before .before .before .args .value .now)) A (c .enum-told2 .given .1)
+returns-2 c k s b A =
+    let start = c .before .before .before .before in
+    known (λ (a : Acted). Acts a k s (start .args .l) b (start .args .value .now)) A (c .enum-told2 .given .1)
 
 returns-3 : tie.Need-returns-3
-returns-3 c k s b A = known (λ (a : Acted). Acts a k s (c .before .before .before .before .args .l) b (c .before .before .before .before .args .value .now)) A (c .enum-told3 .given .1)
+returns-3 c k s b A =
+    let start = c .before .before .before .before in
+    known (λ (a : Acted). Acts a k s (start .args .l) b (start .args .value .now)) A (c .enum-told3 .given .1)
 
 same-length : tie.Need-same-length
 same-length c = search needs
 
 returns-4 : tie.Need-returns-4
 returns-4 c k s b A =
-    let g = c .before .before .before .before .before .before .before .before .before in
+    let back-9 = c .before .before .before .before .before .before .before .before .before in
+    let g = back-9 in
     let S = known (λ (a : Acted). Acts a k s (g .args .l) b (g .args .value .now)) A (c .before .before .before .before .before .a .given .1) in
     record {
       effect = S .succeeds .effect;
@@ -79,8 +92,10 @@ same-length-2 c = search needs
 
 returns-5 : tie.Need-returns-5
 returns-5 c k s b A =
-    let g = c .before .before .before .before .before .before .before .before .before .before in
-    let n = c .before .before .before .before .before .before .a2 .given in
+    let back-6 = c .before .before .before .before .before .before in
+    let back-10 = back-6 .before .before .before .before in
+    let g = back-10 in
+    let n = back-6 .a2 .given in
     let H = known (λ (a : Acted). Acts a k s (g .args .l) b (g .args .value .now)) A (n .1) in
     let W = H .returned in
     record {

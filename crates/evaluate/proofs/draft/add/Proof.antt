@@ -1,4 +1,4 @@
--- `evaluate::draft::add` meets its contract. A label that is there is refused; else its mark is set and its row written, with the text while all is light.
+-- `evaluate::draft::add` meets its contract. A label that is there is refused; else its slot is set and its row written, with the text while all is light.
 -- Assumes nothing.
 use mathlib.Core.Path.{refl}
 use Prim.Native.Nat.{_*_, _-_, _≤_}
@@ -8,20 +8,25 @@ use lib.Dec.{T}
 use Rattle.language.specs.Text.{member}
 use Rattle.language.specs.State.{Field}
 use Rattle.evaluate.specs.Drafts.{labels, Drafted}
-use Rattle.evaluate.proofs.Labels.{marks-part}
+use Rattle.evaluate.proofs.Labels.{slots-part}
 use Rattle.evaluate.proofs.Drafting.{few, label-added, line-added, is-there, is-not-there}
 use borrow.Author.Needs.{needs}
 use Rattle.evaluate.proofs.draft.add.Statement.{statement}
 use Rattle.evaluate.proofs.draft.add.Tie as tie
 
 low : (c : tie.Start) → 4 * c .args .d .count ≤ 16384 - 4
-low c = let P = c .pre .0 .1 in omega (arith, P .room, few (P .fields-written) (c .args .out .now) (c .args .marks .now) (c .args .d) (P .drafted))
+low c = let P = c .pre .0 .1 in omega (arith, P .room, few (P .fields-written) (c .args .out .now) (c .args .slots .now) (c .args .d) (P .drafted))
 
-absent : (c : tie.Else1) (fs : List Field) → let a = c .before .before .before .before .before .before .before .before .before .before .args in Drafted fs (a .out .now) (a .marks .now) (a .d) → T (member (a .label .now) (labels fs)) → ⊥
+-- the function's start, as these places see it
+abbrev start-else1 : tie.Else1 → tie.Start
+start-else1 c = c .before .before .before .before .before .before .before .before .before .before
+
+absent : (c : tie.Else1) (fs : List Field) → let a = (start-else1 c) .args in Drafted fs (a .out .now) (a .slots .now) (a .d) → T (member (a .label .now) (labels fs)) → ⊥
 absent c fs D =
-    let a = c .before .before .before .before .before .before .before .before .before .before .args in
-    is-not-there fs (a .out .now) (a .marks .now) (a .d) D (a .label .now) (c .before .is-new .result)
-    (c .before .is-new .ensures (D .rows) (marks-part (D .rows) _ (a .d .count) (a .marks .now) (D .held))) (c .if1 .left)
+    let start = start-else1 c in
+    let a = start .args in
+    is-not-there fs (a .out .now) (a .slots .now) (a .d) D (a .label .now) (c .before .is-new .result)
+    (c .before .is-new .ensures (D .rows) (slots-part (D .rows) _ (a .d .count) (a .slots .now) (D .held))) (c .if1 .left)
 
 sub-is-new : tie.Need-sub-is-new
 sub-is-new c = search needs
@@ -39,10 +44,14 @@ part-is-new-start-2 : tie.Need-part-is-new-start-2
 part-is-new-start-2 c = search needs
 
 part-is-new-end-2 : tie.Need-part-is-new-end-2
-part-is-new-end-2 c = omega (arith, low (c .before .before .before .before .before .before .before), c .before .before .before .before .before .before .before .pre .0 .0 .marks-size)
+part-is-new-end-2 c =
+    let start = c .before .before .before .before .before .before .before in
+    omega (arith, low start, start .pre .0 .0 .slots-size)
 
 is-new-requires : tie.Need-is-new-requires
-is-new-requires c κs = let D = c .before .before .before .before .before .before .before .before .pre .0 .1 .drafted in record { rows = D .rows; held = marks-part (D .rows) _ (c .before .before .before .before .before .before .before .before .args .d .count) (c .before .before .before .before .before .before .before .before .args .marks .now) (D .held) }
+is-new-requires c κs =
+    let start = c .before .before .before .before .before .before .before .before in
+    let D = start .pre .0 .1 .drafted in record { rows = D .rows; held = slots-part (D .rows) _ (start .args .d .count) (start .args .slots .now) (D .held) }
 
 same-length : tie.Need-same-length
 same-length c = search needs
@@ -52,21 +61,26 @@ same-length-2 c = search needs
 
 returns : tie.Need-returns
 returns c fs D h =
-    let a = c .before .before .before .before .before .before .before .before .before .before .args in
-    is-there fs (a .out .now) (a .marks .now) (a .d) D (a .label .now) (c .before .is-new .result)
-    (c .before .is-new .ensures (D .rows) (marks-part (D .rows) _ (a .d .count) (a .marks .now) (D .held))) (c .if1 .taken)
+    let start = c .before .before .before .before .before .before .before .before .before .before in
+    let a = start .args in
+    is-there fs (a .out .now) (a .slots .now) (a .d) D (a .label .now) (c .before .is-new .result)
+    (c .before .is-new .ensures (D .rows) (slots-part (D .rows) _ (a .d .count) (a .slots .now) (D .held))) (c .if1 .taken)
 
-sub-mark-of : tie.Need-sub-mark-of
-sub-mark-of c = search needs
+sub-slot-of : tie.Need-sub-slot-of
+sub-slot-of c = search needs
 
-mark-of-requires : tie.Need-mark-of-requires
-mark-of-requires c κs = search needs
+slot-of-requires : tie.Need-slot-of-requires
+slot-of-requires c κs = search needs
 
-mul-marks : tie.Need-mul-marks
-mul-marks c = omega (arith, low (c .before .before .before .before .before .before .before .before .before .before .before))
+mul-slots : tie.Need-mul-slots
+mul-slots c =
+    let back-11 = c .before .before .before .before .before .before .before .before .before .before .before in
+    omega (arith, low back-11)
 
-slice-write-marks : tie.Need-slice-write-marks
-slice-write-marks c = omega (arith, low (c .before .before .before .before .before .before .before .before .before .before .before), c .before .before .before .before .before .before .before .before .before .before .before .pre .0 .0 .marks-size)
+slice-write-slots : tie.Need-slice-write-slots
+slice-write-slots c =
+    let start = c .before .before .before .before .before .before .before .before .before .before .before in
+    omega (arith, low start, start .pre .0 .0 .slots-size)
 
 add-weight : tie.Need-add-weight
 add-weight c = search needs
@@ -81,7 +95,9 @@ put-label-requires : tie.Need-put-label-requires
 put-label-requires c κs = search needs
 
 add-t27 : tie.Need-add-t27
-add-t27 c = omega (arith, low (c .before .before .before .before .before .before .before .before .before .before .before .before .before .before .before .before .before))
+add-t27 c =
+    let back-17 = c .before .before .before .before .before .before .before .before .before .before .before .before .before .before .before .before .before in
+    omega (arith, low back-17)
 
 same-length-3 : tie.Need-same-length-3
 same-length-3 c = search needs
@@ -91,16 +107,21 @@ same-length-4 c = search needs
 
 returns-2 : tie.Need-returns-2
 returns-2 c fs D h =
-    let a = c .before .before .before .before .before .before .before .before .before .before .before .before .before .before .before .before .before .args in
-    let P = c .before .before .before .before .before .before .before .before .before .before .before .before .before .before .before .before .before .pre in
-    label-added fs (a .out .now) (a .marks .now) (a .d) D (a .label .now) (a .text .now) _ _ _ _ (P .0 .1 .is-name) (P .1 .0) (P .1 .1)
-    (absent (c .before .before .before .before .before .before .before) fs D) refl h (P .0 .0 .marks-size) (c .before .before .before .before .before .before .mark-of .ensures) (c .before .before .put-label .ensures) (c .before .before .before .before .if2 .taken)
+    let back-6 = c .before .before .before .before .before .before in
+    let back-7 = back-6 .before in
+    let start = back-7 .before .before .before .before .before .before .before .before .before .before in
+    let a = start .args in
+    let P = start .pre in
+    label-added fs (a .out .now) (a .slots .now) (a .d) D (a .label .now) (a .text .now) _ _ _ _ (P .0 .1 .is-name) (P .1 .0) (P .1 .1)
+    (absent back-7 fs D) refl h (P .0 .0 .slots-size) (back-6 .slot-of .ensures) (c .before .before .put-label .ensures) (c .before .before .before .before .if2 .taken)
 
 put-field-requires : tie.Need-put-field-requires
 put-field-requires c κs = search needs
 
 add-t24 : tie.Need-add-t24
-add-t24 c = omega (arith, low (c .before .before .before .before .before .before .before .before .before .before .before .before .before .before .before .before .before))
+add-t24 c =
+    let back-17 = c .before .before .before .before .before .before .before .before .before .before .before .before .before .before .before .before .before in
+    omega (arith, low back-17)
 
 same-length-5 : tie.Need-same-length-5
 same-length-5 c = search needs
@@ -110,10 +131,13 @@ same-length-6 c = search needs
 
 returns-3 : tie.Need-returns-3
 returns-3 c fs D h =
-    let a = c .before .before .before .before .before .before .before .before .before .before .before .before .before .before .before .before .before .args in
-    let P = c .before .before .before .before .before .before .before .before .before .before .before .before .before .before .before .before .before .pre in
-    line-added fs (a .out .now) (a .marks .now) (a .d) D (a .label .now) (a .text .now) _ _ _ _ (P .0 .1 .is-name) (P .1 .0) (P .1 .1)
-    (absent (c .before .before .before .before .before .before .before) fs D) refl h (P .0 .0 .marks-size) (c .before .before .before .before .before .before .mark-of .ensures) (c .before .before .put-field .ensures) (c .before .before .before .before .if2 .left)
+    let back-6 = c .before .before .before .before .before .before in
+    let back-7 = back-6 .before in
+    let start = back-7 .before .before .before .before .before .before .before .before .before .before in
+    let a = start .args in
+    let P = start .pre in
+    line-added fs (a .out .now) (a .slots .now) (a .d) D (a .label .now) (a .text .now) _ _ _ _ (P .0 .1 .is-name) (P .1 .0) (P .1 .1)
+    (absent back-7 fs D) refl h (P .0 .0 .slots-size) (back-6 .slot-of .ensures) (c .before .before .put-field .ensures) (c .before .before .before .before .if2 .left)
 
 pub add-spec : {M : Type 1} → statement M
 add-spec =
@@ -129,10 +153,10 @@ add-spec =
     same-length
     same-length-2
     returns
-    sub-mark-of
-    mark-of-requires
-    mul-marks
-    slice-write-marks
+    sub-slot-of
+    slot-of-requires
+    mul-slots
+    slice-write-slots
     add-weight
     add-weight-2
     add-weight-3

@@ -12,8 +12,14 @@ use borrow.Author.Needs.{needs}
 use Rattle.evaluate.proofs.draft.add_found.Statement.{statement}
 use Rattle.evaluate.proofs.draft.add_found.Tie as tie
 
-within : (c : tie.After-found) → Within (c .before .before .before .before .before .before .args .value .now) (c .found .given .0 .0)
-within c = subst (λ (f : Found). Placed (c .before .before .before .before .before .before .args .value .now) f) (c .found .given .1) (c .before .before .before .before .before .before .pre .1 .0)
+-- the function's start, as these places see it
+abbrev start-after-found : tie.After-found → tie.Start
+start-after-found c = c .before .before .before .before .before .before
+
+within : (c : tie.After-found) → Within (start-after-found c .args .value .now) (c .found .given .0 .0)
+within c =
+    let start = start-after-found c in
+    subst (λ (f : Found). Placed (start .args .value .now) f) (c .found .given .1) (start .pre .1 .0)
 
 enum-known-found : tie.Need-enum-known-found
 enum-known-found c = search needs
@@ -28,13 +34,15 @@ part-add-end : tie.Need-part-add-end
 part-add-end c = let w = within (c .before .before .before) in omega (arith, w .0, w .1)
 
 add-requires : tie.Need-add-requires
-add-requires c κs = (
-  c .before .before .before .before .before .before .before .before .before .before .pre .0,
-  (
-    subst (λ (f : Found). MaybeString (textAt (c .before .before .before .before .before .before .before .before .before .before .args .value .now) f)) (c .before .before .before .before .found .given .1) (c .before .before .before .before .before .before .before .before .before .before .pre .1 .1),
-    part-short (c .before .before .before .before .before .before .before .before .before .before .args .value .now) (c .before .before .before .before .found .given .0 .0 .end - c .before .before .before .before .found .given .0 .0 .start) (c .before .before .before .before .found .given .0 .0 .start) (c .before .before .before .before .before .before .before .before .before .before .pre .1 .2),
-  ),
-)
+add-requires c κs =
+    let back-4 = c .before .before .before .before in (
+      c .before .before .before .before .before .before .before .before .before .before .pre .0,
+      (
+        subst (λ (f : Found). MaybeString (textAt (c .before .before .before .before .before .before .before .before .before .before .args .value .now) f)) (back-4 .found .given .1) (c .before .before .before .before .before .before .before .before .before .before .pre .1 .1),
+        part-short (c .before .before .before .before .before .before .before .before .before .before .args .value .now) (back-4 .found .given .0 .0 .end - back-4 .found .given .0 .0 .start) (back-4 .found .given .0 .0 .start)
+            (c .before .before .before .before .before .before .before .before .before .before .pre .1 .2),
+      ),
+    )
 
 enum-told : tie.Need-enum-told
 enum-told c = search needs
@@ -47,11 +55,15 @@ same-length-2 c = search needs
 
 returns : tie.Need-returns
 returns c fs D h =
-    extends-as fs (c .before .before .before .before .before .before .before .before .before .before .before .before .before .before .before .args .label .now) (c .before .before .before .before .before .before .before .before .before .before .before .before .before .before .before .args .value .now) (c .before .before .before .before .add .result) (c .before .before .before .before .add .last .0) (c .before .before .before .before .add .last .1 .0) (c .before .before .before .before .before .before .before .before .before .found .given .1) (c .before .before .before .before .add .ensures fs D h)
+    let back-4 = c .before .before .before .before in
+    let back-9 = back-4 .before .before .before .before .before in
+    let start = back-9 .before .before .before .before .before .before in
+    extends-as fs (start .args .label .now) (start .args .value .now) (back-4 .add .result) (back-4 .add .last .0) (back-4 .add .last .1 .0) (back-9 .found .given .1) (back-4 .add .ensures fs D h)
 
 returns-2 : tie.Need-returns-2
 returns-2 c fs D h =
-    extends-as fs (c .before .before .before .before .before .before .args .label .now) (c .before .before .before .before .before .before .args .value .now) _ (c .before .before .before .before .before .before .args .out .now) (c .before .before .before .before .before .before .args .marks .now) (c .enum-told .given .1) tt
+    let start = c .before .before .before .before .before .before in
+    extends-as fs (start .args .label .now) (start .args .value .now) _ (start .args .out .now) (start .args .slots .now) (c .enum-told .given .1) tt
 
 pub add-found-spec : {M : Type 1} → statement M
 add-found-spec =

@@ -12,7 +12,9 @@ same-length : tie.Need-same-length
 same-length c = search needs
 
 returns : tie.Need-returns
-returns c = first-line _ _ (c .before .before .before .before .before .before .args .marks .now) _ (c .before .before .put-record .ensures)
+returns c =
+    let start = c .before .before .before .before .before .before in
+    first-line _ _ (start .args .slots .now) _ (c .before .before .put-record .ensures)
 
 pub start-spec : {M : Type 1} → statement M
 start-spec = tie.close (tie.spec put-record-requires same-length returns)

@@ -10,8 +10,14 @@ use borrow.Author.Needs.{needs}
 use Rattle.evaluate.proofs.operand.put_found.Statement.{statement}
 use Rattle.evaluate.proofs.operand.put_found.Tie as tie
 
-within : (c : tie.After-found) → Within (c .before .before .before .before .args .value .now) (c .found .given .0 .0)
-within c = subst (λ (f : Found). Placed (c .before .before .before .before .args .value .now) f) (c .found .given .1) (c .before .before .before .before .pre .0)
+-- the function's start, as these places see it
+abbrev start-after-found : tie.After-found → tie.Start
+start-after-found c = c .before .before .before .before
+
+within : (c : tie.After-found) → Within (start-after-found c .args .value .now) (c .found .given .0 .0)
+within c =
+    let start = start-after-found c in
+    subst (λ (f : Found). Placed (start .args .value .now) f) (c .found .given .1) (start .pre .0)
 
 enum-known-found : tie.Need-enum-known-found
 enum-known-found c = search needs
@@ -26,7 +32,9 @@ part-put-text-end : tie.Need-part-put-text-end
 part-put-text-end c = let w = within (c .before) in omega (arith, w .0, w .1)
 
 put-text-requires : tie.Need-put-text-requires
-put-text-requires c κs = (subst (λ (f : Found). MaybeString (textAt (c .before .before .before .before .before .before .before .args .value .now) f)) (c .before .before .before .found .given .1) (c .before .before .before .before .before .before .before .pre .1), c .before .before .before .before .before .before .before .pre .2)
+put-text-requires c κs =
+    let start = c .before .before .before .before .before .before .before in
+    (subst (λ (f : Found). MaybeString (textAt (start .args .value .now) f)) (c .before .before .before .found .given .1) (start .pre .1), start .pre .2)
 
 enum-told : tie.Need-enum-told
 enum-told c = search needs
@@ -35,7 +43,10 @@ same-length : tie.Need-same-length
 same-length c = search needs
 
 returns : tie.Need-returns
-returns c = subst (λ (f : Found). Valued (c .before .before .put-text .result) (stringValue (textAt (c .before .before .before .before .before .before .before .before .before .before .args .value .now) f)) (c .before .before .put-text .last .1 .0)) (sym (c .before .before .before .before .before .before .found .given .1)) (c .before .before .put-text .ensures)
+returns c =
+    let back-6 = c .before .before .before .before .before .before in
+    let start = back-6 .before .before .before .before in
+    subst (λ (f : Found). Valued (c .before .before .put-text .result) (stringValue (textAt (start .args .value .now) f)) (c .before .before .put-text .last .1 .0)) (sym (back-6 .found .given .1)) (c .before .before .put-text .ensures)
 
 returns-2 : tie.Need-returns-2
 returns-2 c = ap (λ (f : Found). stringValue (textAt (c .before .before .before .before .args .value .now) f)) (c .enum-told .given .1)

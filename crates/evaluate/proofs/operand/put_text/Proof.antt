@@ -17,7 +17,9 @@ same-length : tie.Need-same-length
 same-length c = search needs
 
 returns-2 : tie.Need-returns-2
-returns-2 c = string-put (c .before .before .before .before .before .before .before .args .text .now) _ _ _ (c .before .before .before .before .before .before .before .pre .0) (c .before .before .put-string .ensures) (c .before .before .before .before .if1 .left)
+returns-2 c =
+    let start = c .before .before .before .before .before .before .before in
+    string-put (start .args .text .now) _ _ _ (start .pre .0) (c .before .before .put-string .ensures) (c .before .before .before .before .if1 .left)
 
 pub put-text-spec : {M : Type 1} → statement M
 put-text-spec = tie.close (tie.spec returns put-string-requires same-length returns-2)

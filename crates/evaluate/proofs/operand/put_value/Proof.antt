@@ -21,16 +21,19 @@ returns-2 c o r =
 
 copy-in-requires : tie.Need-copy-in-requires
 copy-in-requires c κs =
-    let S = something-read (c .before .before .before .before .before .before .pre .0 .value) (c .before .before .before .before .before .before .args .value .now) (c .before .before .before .before .before .before .pre .0 .held) (c .before .before .before .if1 .left) in
-    omega (arith, c .before .before .before .before .before .before .pre .1, c .before .if2 .left, text-bound (S .value) (c .before .before .before .before .before .before .args .value .now) (S .held), c .before .before .weigh .ensures (S .value) (S .held))
+    let start = c .before .before .before .before .before .before in
+    let S = something-read (start .pre .0 .value) (start .args .value .now) (start .pre .0 .held) (c .before .before .before .if1 .left) in
+    omega (arith, start .pre .1, c .before .if2 .left, text-bound (S .value) (start .args .value .now) (S .held), c .before .before .weigh .ensures (S .value) (S .held))
 
 same-length : tie.Need-same-length
 same-length c = search needs
 
 returns-3 : tie.Need-returns-3
 returns-3 c o r =
-    let S = something-read o (c .before .before .before .before .before .before .before .before .before .args .value .now) r (c .before .before .before .before .before .before .if1 .left) in
-    value-put o (S .value) _ _ (c .before .before .before .before .before .before .before .before .before .args .value .now) _ _ (S .is-value) (S .held) (c .before .before .copy-in .ensures) (c .before .before .before .before .before .weigh .ensures (S .value) (S .held)) (c .before .before .before .before .if2 .left)
+    let back-6 = c .before .before .before .before .before .before in
+    let start = back-6 .before .before .before in
+    let S = something-read o (start .args .value .now) r (back-6 .if1 .left) in
+    value-put o (S .value) _ _ (start .args .value .now) _ _ (S .is-value) (S .held) (c .before .before .copy-in .ensures) (c .before .before .before .before .before .weigh .ensures (S .value) (S .held)) (c .before .before .before .before .if2 .left)
 
 pub put-value-spec : {M : Type 1} → statement M
 put-value-spec =

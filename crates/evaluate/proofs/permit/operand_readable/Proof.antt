@@ -13,11 +13,22 @@ use borrow.Author.Needs.{needs}
 use Rattle.evaluate.proofs.permit.operand_readable.Statement.{statement}
 use Rattle.evaluate.proofs.permit.operand_readable.Tie as tie
 
-within-name : (c : tie.After-v) → Within (c .before .before .before .before .before .before .args .text .now) (c .v .given .0 .0)
-within-name c = subst (OperandWithin (c .before .before .before .before .before .before .args .text .now)) (c .v .given .1) (c .before .before .before .before .before .before .pre .1)
+-- the function's start, as these places see it
+abbrev start-after-v : tie.After-v → tie.Start
+start-after-v c = c .before .before .before .before .before .before
 
-within-dot : (c : tie.After-v2) → Within (c .before .before .before .before .before .before .args .text .now) (c .v2 .given .0 .0)
-within-dot c = subst (OperandWithin (c .before .before .before .before .before .before .args .text .now)) (c .v2 .given .1) (c .before .before .before .before .before .before .pre .1) .0
+abbrev start-after-v2 : tie.After-v2 → tie.Start
+start-after-v2 c = c .before .before .before .before .before .before
+
+within-name : (c : tie.After-v) → Within (start-after-v c .args .text .now) (c .v .given .0 .0)
+within-name c =
+    let start = start-after-v c in
+    subst (OperandWithin (start .args .text .now)) (c .v .given .1) (start .pre .1)
+
+within-dot : (c : tie.After-v2) → Within (start-after-v2 c .args .text .now) (c .v2 .given .0 .0)
+within-dot c =
+    let start = start-after-v2 c in
+    subst (OperandWithin (start .args .text .now)) (c .v2 .given .1) (start .pre .1) .0
 
 enum-known-v : tie.Need-enum-known-v
 enum-known-v c = search needs
@@ -54,16 +65,20 @@ enum-told c = search needs
 
 returns : tie.Need-returns
 returns c s W =
-    ap (λ (o : Operand). unread s (operandNames (operandMeant (c .before .before .before .before .before .before .before .before .before .args .text .now) o))) (c .before .before .before .v .given .1)
-    ∙ one-name s (part (c .before .before .before .before .before .before .before .before .before .args .text .now) (c .before .before .before .v .given .0 .0)) (c .allowed .result) (c .allowed .ensures s read W refl)
+    let start = c .before .before .before .before .before .before .before .before .before in
+    ap (λ (o : Operand). unread s (operandNames (operandMeant (start .args .text .now) o))) (c .before .before .before .v .given .1)
+    ∙ one-name s (part (start .args .text .now) (c .before .before .before .v .given .0 .0)) (c .allowed .result) (c .allowed .ensures s read W refl)
 
 returns-2 : tie.Need-returns-2
 returns-2 c s W =
-    ap (λ (o : Operand). unread s (operandNames (operandMeant (c .before .before .before .before .before .before .before .before .before .args .text .now) o))) (c .before .before .before .v2 .given .1)
-    ∙ one-name s (part (c .before .before .before .before .before .before .before .before .before .args .text .now) (c .before .before .before .v2 .given .0 .0)) (c .allowed2 .result) (c .allowed2 .ensures s read W refl)
+    let start = c .before .before .before .before .before .before .before .before .before in
+    ap (λ (o : Operand). unread s (operandNames (operandMeant (start .args .text .now) o))) (c .before .before .before .v2 .given .1)
+    ∙ one-name s (part (start .args .text .now) (c .before .before .before .v2 .given .0 .0)) (c .allowed2 .result) (c .allowed2 .ensures s read W refl)
 
 returns-3 : tie.Need-returns-3
-returns-3 c s W = ap (λ (o : Operand). unread s (operandNames (operandMeant (c .before .before .before .before .before .before .args .text .now) o))) (c .enum-told .given .1)
+returns-3 c s W =
+    let start = c .before .before .before .before .before .before in
+    ap (λ (o : Operand). unread s (operandNames (operandMeant (start .args .text .now) o))) (c .enum-told .given .1)
 
 pub operand-readable-spec : {M : Type 1} → statement M
 operand-readable-spec =

@@ -7,7 +7,7 @@ use Rattle.language.specs.Tokens.{lex}
 use Rattle.syntax.proofs.Reading.{told, known}
 use borrow.Author.Tests.{not-true, not-false}
 use Rattle.language.specs.Grammar.{spent}
-use Rattle.commands.specs.Commands.{commandMeant, commandReadMeant, CommandPlaced}
+use Rattle.command_readers.specs.Commands.{commandMeant, commandReadMeant, CommandPlaced}
 use Rattle.parser.proofs.Wholes.{not-spent, all-spent}
 use Rattle.parser.proofs.line.ending_line.Statement.{statement}
 use Rattle.parser.proofs.line.ending_line.Tie as tie
@@ -37,17 +37,20 @@ ends-at-requires c κs =
 
 returns-2 : tie.Need-returns-2
 returns-2 c =
-    let a = c .before .before .before .before .before .before .before .args in
+    let start = c .before .before .before .before .before .before .before in
+    let a = start .args in
     let t = now (a .text) in
     let e1 = told (commandReadMeant t) (c .before .before .before .before .before .ending-at .ensures .0) (c .before .before .before .ending .given .1) in
     (sym (ap spent e1 ∙ not-spent (commandMeant t (c .before .before .before .ending .given .0 .0)) (lex (drop (c .before .before .before .ending .given .0 .1 .0) t)) (sym (c .before .ends-at .ensures) ∙ not-true (c .before .ends-at .result) (c .if1 .taken))), tt)
 
 returns-3 : tie.Need-returns-3
 returns-3 c =
-    let a = c .before .before .before .before .before .before .before .args in
+    let back-5 = c .before .before .before .before .before in
+    let start = back-5 .before .before in
+    let a = start .args in
     let t = now (a .text) in
-    let e1 = told (commandReadMeant t) (c .before .before .before .before .before .ending-at .ensures .0) (c .before .before .before .ending .given .1) in
-    let p1 = known (CommandPlaced t (a .at)) (c .before .before .before .before .before .ending-at .ensures .1) (c .before .before .before .ending .given .1) in
+    let e1 = told (commandReadMeant t) (back-5 .ending-at .ensures .0) (c .before .before .before .ending .given .1) in
+    let p1 = known (CommandPlaced t (a .at)) (back-5 .ending-at .ensures .1) (c .before .before .before .ending .given .1) in
     (sym (ap spent e1 ∙ all-spent (commandMeant t (c .before .before .before .ending .given .0 .0)) (lex (drop (c .before .before .before .ending .given .0 .1 .0) t)) (sym (c .before .ends-at .ensures) ∙ not-false (c .before .ends-at .result) (c .if1 .left))), p1 .0)
 
 pub ending-line-spec : {M : Type 1} → statement M

@@ -19,15 +19,18 @@ shared-slice-read-if3 : tie.Need-shared-slice-read-if3
 shared-slice-read-if3 c = search needs
 
 returns-3 : tie.Need-returns-3
-returns-3 c = sym (one-slash (now (c .before .before .before .before .before .before .args .line)) (c .if3 .taken))
+returns-3 c =
+    let start = c .before .before .before .before .before .before in
+    sym (one-slash (now (start .args .line)) (c .if3 .taken))
 
 run-end-requires : tie.Need-run-end-requires
 run-end-requires c κs = search needs
 
 returns-4 : tie.Need-returns-4
 returns-4 c =
+    let start = c .before .before .before .before .before .before .before in
     let r = c .run-end in
-    slashes (now (c .before .before .before .before .before .before .before .args .line)) (r .result) (omega arith) (c .before .before .before .if2 .left) (c .before .if3 .left) (r .ensures .0)
+    slashes (now (start .args .line)) (r .result) (omega arith) (c .before .before .before .if2 .left) (c .before .if3 .left) (r .ensures .0)
 
 pub is-comment-spec : {M : Type 1} → statement M
 is-comment-spec =

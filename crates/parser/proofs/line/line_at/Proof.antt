@@ -29,30 +29,33 @@ sub-if2 c = search needs
 
 returns : tie.Need-returns
 returns c =
-    let a = c .before .before .before .before .before .before .before .args in
+    let start = c .before .before .before .before .before .before .before in
+    let a = start .args in
     let t = now (a .text) in
     let u = c .before .before .before .before .before .until in
     let e = u .result in
     let same = sym (c .before .before .same-bytes .ensures) ∙ c .before .if1 .taken in
-    (stars t (a .at) e (c .before .before .before .before .before .before .before .pre) (u .ensures .0) same (omega arith) (c .if2 .taken), tt)
+    (stars t (a .at) e (start .pre) (u .ensures .0) same (omega arith) (c .if2 .taken), tt)
 
 returns-2 : tie.Need-returns-2
 returns-2 c =
-    let a = c .before .before .before .before .before .before .before .args in
+    let start = c .before .before .before .before .before .before .before in
+    let a = start .args in
     let t = now (a .text) in
     let u = c .before .before .before .before .before .until in
     let e = u .result in
     let same = sym (c .before .before .same-bytes .ensures) ∙ c .before .if1 .taken in
-    (stars-more t (a .at) e (c .before .before .before .before .before .before .before .pre) (u .ensures .0) same (c .if2 .left), tt)
+    (stars-more t (a .at) e (start .pre) (u .ensures .0) same (c .if2 .left), tt)
 
 returns-3 : tie.Need-returns-3
 returns-3 c =
-    let a = c .before .before .before .before .before .before .before .args in
+    let start = c .before .before .before .before .before .before .before in
+    let a = start .args in
     let t = now (a .text) in
     let u = c .before .before .before .before .before .until in
     let e = u .result in
     let same = sym (c .before .before .same-bytes .ensures) ∙ c .before .if1 .left in
-    (no-newline t (a .at) e (c .before .before .before .before .before .before .before .pre) (u .ensures .0) same (omega arith), tt)
+    (no-newline t (a .at) e (start .pre) (u .ensures .0) same (omega arith), tt)
 
 add-next : tie.Need-add-next
 add-next c = search needs
@@ -71,21 +74,25 @@ is-comment-requires c κs = search needs
 
 returns-4 : tie.Need-returns-4
 returns-4 c =
-    let a = c .before .before .before .before .before .before .before .before .before .before .args in
+    let back-8 = c .before .before .before .before .before .before .before .before in
+    let start = back-8 .before .before in
+    let a = start .args in
     let t = now (a .text) in
-    let u = c .before .before .before .before .before .before .before .before .until in
+    let u = back-8 .until in
     let e = u .result in
     let same = sym (c .before .before .before .before .before .same-bytes .ensures) ∙ c .before .before .before .before .if1 .left in
-    (comment-row t (a .at) e (c .before .before .before .before .before .before .before .before .before .before .pre) (u .ensures .0) same (omega arith) (sym (c .before .is-comment .ensures) ∙ c .if4 .taken), omega arith)
+    (comment-row t (a .at) e (start .pre) (u .ensures .0) same (omega arith) (sym (c .before .is-comment .ensures) ∙ c .if4 .taken), omega arith)
 
 returns-5 : tie.Need-returns-5
 returns-5 c =
-    let a = c .before .before .before .before .before .before .before .before .before .before .args in
+    let back-8 = c .before .before .before .before .before .before .before .before in
+    let start = back-8 .before .before in
+    let a = start .args in
     let t = now (a .text) in
-    let u = c .before .before .before .before .before .before .before .before .until in
+    let u = back-8 .until in
     let e = u .result in
     let same = sym (c .before .before .before .before .before .same-bytes .ensures) ∙ c .before .before .before .before .if1 .left in
-    (token-row t (a .at) e (c .before .before .before .before .before .before .before .before .before .before .pre) (u .ensures .0) same (omega arith) (sym (c .before .is-comment .ensures) ∙ c .if4 .left), omega arith)
+    (token-row t (a .at) e (start .pre) (u .ensures .0) same (omega arith) (sym (c .before .is-comment .ensures) ∙ c .if4 .left), omega arith)
 
 pub line-at-spec : {M : Type 1} → statement M
 line-at-spec =

@@ -28,7 +28,8 @@ enum-known-line c = search needs
 
 loop-less : tie.Need-loop-less Inv-loop μ-loop
 loop-less c =
-    let t = now (c .before .before .before .before .before .before .args .text) in
+    let start = c .before .before .before .before .before .before in
+    let t = now (start .args .text) in
     let l = c .before .before .before .before .loop in
     let x = c .before .before .before .line-at in
     let is = c .before .line .given .1 in
@@ -37,7 +38,8 @@ loop-less c =
 
 loop-again : tie.Need-loop-again Inv-loop μ-loop
 loop-again c =
-    let t = now (c .before .before .before .before .before .before .args .text) in
+    let start = c .before .before .before .before .before .before in
+    let t = now (start .args .text) in
     let l = c .before .before .before .before .loop in
     let x = c .before .before .before .line-at in
     let is = c .before .line .given .1 in
@@ -62,7 +64,8 @@ enum-known-line-2 c = search needs
 
 returns-2 : tie.Need-returns-2 Inv-loop μ-loop
 returns-2 c =
-    let t = now (c .before .before .before .before .before .before .args .text) in
+    let start = c .before .before .before .before .before .before in
+    let t = now (start .args .text) in
     let l = c .before .before .before .before .loop in
     let x = c .before .before .before .line-at in
     let is = c .before .line2 .given .1 in

@@ -23,26 +23,29 @@ enum-known-p c = search needs
 
 sub-result : tie.Need-sub-result
 sub-result c =
-    let P = c .before .before .before .before .before .before .before .pre in
+    let start = c .before .before .before .before .before .before .before in
+    let P = start .pre in
     let A = c .before .before .before .password-of .ensures (P .1 .principals) (P .1 .held) in
-    subst (PasswordIn (take (c .before .before .before .before .before .before .before .args .len) (c .before .before .before .before .before .before .before .args .people .now))) (c .before .p .given .1) (A .within) .0
+    subst (PasswordIn (take (start .args .len) (start .args .principals .now))) (c .before .p .given .1) (A .within) .0
 
 enum-told : tie.Need-enum-told
 enum-told c = search needs
 
 returns : tie.Need-returns
 returns c ks K =
-    let a = c .before .before .before .before .before .before .before .args in
+    let start = c .before .before .before .before .before .before .before in
+    let a = start .args in
     let g = c .before .p .given in
-    let A : PasswordAt ks (take (a .len) (a .people .now)) (a .number) (Kept (g .0 .0) (g .0 .1 .0)) =
-    subst (PasswordAt ks (take (a .len) (a .people .now)) (a .number)) (g .1) (c .before .before .before .password-of .ensures ks K) in
-    kept-weight ks (take (a .len) (a .people .now)) (a .number) (g .0 .0) (g .0 .1 .0) A
+    let A : PasswordAt ks (take (a .len) (a .principals .now)) (a .number) (Kept (g .0 .0) (g .0 .1 .0)) =
+    subst (PasswordAt ks (take (a .len) (a .principals .now)) (a .number)) (g .1) (c .before .before .before .password-of .ensures ks K) in
+    kept-weight ks (take (a .len) (a .principals .now)) (a .number) (g .0 .0) (g .0 .1 .0) A
 
 returns-2 : tie.Need-returns-2
 returns-2 c ks K =
-    let a = c .before .before .before .before .before .before .args in
-    let A : PasswordAt ks (take (a .len) (a .people .now)) (a .number) Absent =
-    subst (PasswordAt ks (take (a .len) (a .people .now)) (a .number)) (c .enum-told .given .1) (c .before .before .password-of .ensures ks K) in
+    let start = c .before .before .before .before .before .before in
+    let a = start .args in
+    let A : PasswordAt ks (take (a .len) (a .principals .now)) (a .number) Absent =
+    subst (PasswordAt ks (take (a .len) (a .principals .now)) (a .number)) (c .enum-told .given .1) (c .before .before .password-of .ensures ks K) in
     ap passwordWeight (A .meant)
 
 pub password-weight-spec : {M : Type 1} → statement M

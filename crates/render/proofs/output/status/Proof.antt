@@ -24,7 +24,10 @@ same-length : tie.Need-same-length
 same-length c = search needs
 
 returns : tie.Need-returns
-returns c = c .before .before .before .before .before .before .before .before .before .before .before .copy-in .ensures ▸ c .before .before .before .before .before .before .before .copy-in2 .ensures ▸ c .before .before .copy-in3 .ensures
+returns c =
+    let back-7 = c .before .before .before .before .before .before .before in
+    let back-11 = back-7 .before .before .before .before in
+    back-11 .copy-in .ensures ▸ back-7 .copy-in2 .ensures ▸ c .before .before .copy-in3 .ensures
 
 pub status-spec : {M : Type 1} → statement M
 status-spec =

@@ -65,7 +65,9 @@ put-digits-returns : (t : ℕ) → put-digits-lts.Need-returns (
   put-digits-below t,
   put-digits.Post,
 ) (put-digits-at t) put-digits.Post
-put-digits-returns t c = λ more d. rewritten (digit-last more (c .before .before .before .before .before .before .args .n) (c .before .before .before .before .if1 .taken)) (c .before .before .put-byte .ensures)
+put-digits-returns t c =
+    let start = c .before .before .before .before .before .before in
+    λ more d. rewritten (digit-last more (start .args .n) (c .before .before .before .before .if1 .taken)) (c .before .before .put-byte .ensures)
 
 put-digits-put-digits-requires : (t : ℕ) → put-digits-lts.Need-put-digits-requires (
   put-byte-reads.Asked,

@@ -18,7 +18,9 @@ same-length : tie.Need-same-length
 same-length c = search needs
 
 returns : tie.Need-returns
-returns c = c .before .before .before .before .before .before .copy-in .ensures ▸ c .before .before .put-part .ensures
+returns c =
+    let back-6 = c .before .before .before .before .before .before in
+    back-6 .copy-in .ensures ▸ c .before .before .put-part .ensures
 
 pub put-delegator-spec : {M : Type 1} → statement M
 put-delegator-spec =

@@ -22,25 +22,36 @@ put-byte-requires-2 : tie.Need-put-byte-requires-2
 put-byte-requires-2 c κs = search needs
 
 put-digits-requires : tie.Need-put-digits-requires
-put-digits-requires c κs = record {
-  more = 9;
-  enough = ten (c .before .before .before .before .before .before .before .before .before .before .before);
-  room = omega (arith, c .before .before .before .before .before .before .before .before .before .before .before .pre, digits-length 9 (c .before .before .before .before .before .before .before .before .before .before .before .args .count), c .before .before .before .before .before .before .before .put-byte .ensures .ends, c .before .before .before .put-byte2 .ensures .ends, written-length (c .before .before .before .before .before .before .before .put-byte .ensures), written-length (c .before .before .before .put-byte2 .ensures));
-}
+put-digits-requires c κs =
+    let back-7 = c .before .before .before .before .before .before .before in
+    let start = back-7 .before .before .before .before in
+    record {
+      more = 9;
+      enough = ten start;
+      room = omega (arith, start .pre, digits-length 9 (start .args .count), back-7 .put-byte .ensures .ends, c .before .before .before .put-byte2 .ensures .ends, written-length (back-7 .put-byte .ensures), written-length (c .before .before .before .put-byte2 .ensures));
+    }
 
 put-byte-requires-3 : tie.Need-put-byte-requires-3
 put-byte-requires-3 c κs =
-    let W = c .before .before .before .put-digits .ensures 9 (ten (c .before .before .before .before .before .before .before .before .before .before .before .before .before .before .before)) in
-    omega (arith, c .before .before .before .before .before .before .before .before .before .before .before .before .before .before .before .pre, digits-length 9 (c .before .before .before .before .before .before .before .before .before .before .before .before .before .before .before .args .count), c .before .before .before .before .before .before .before .before .before .before .before .put-byte .ensures .ends, c .before .before .before .before .before .before .before .put-byte2 .ensures .ends, W .ends)
+    let back-7 = c .before .before .before .before .before .before .before in
+    let back-11 = back-7 .before .before .before .before in
+    let start = back-11 .before .before .before .before in
+    let W = c .before .before .before .put-digits .ensures 9 (ten start) in
+    omega (arith, start .pre, digits-length 9 (start .args .count), back-11 .put-byte .ensures .ends, back-7 .put-byte2 .ensures .ends, W .ends)
 
 same-length : tie.Need-same-length
 same-length c = search needs
 
 returns : tie.Need-returns
 returns c =
-    rewritten (c .before .before .before .before .before .before .before .before .before .before .before .before .before .before .before .open-letter .ensures) (c .before .before .before .before .before .before .before .before .before .before .before .before .before .before .put-byte .ensures)
-    ▸ c .before .before .before .before .before .before .before .before .before .before .put-byte2 .ensures
-    ▸ c .before .before .before .before .before .before .put-digits .ensures 9 (ten (c .before .before .before .before .before .before .before .before .before .before .before .before .before .before .before .before .before .before))
+    let back-6 = c .before .before .before .before .before .before in
+    let back-10 = back-6 .before .before .before .before in
+    let back-14 = back-10 .before .before .before .before in
+    let back-15 = back-14 .before in
+    let back-18 = back-15 .before .before .before in
+    rewritten (back-15 .open-letter .ensures) (back-14 .put-byte .ensures)
+    ▸ back-10 .put-byte2 .ensures
+    ▸ back-6 .put-digits .ensures 9 (ten back-18)
     ▸ c .before .before .put-byte3 .ensures
 
 pub put-header-spec : {M : Type 1} → statement M

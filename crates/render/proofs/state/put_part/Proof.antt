@@ -15,7 +15,9 @@ same-length : tie.Need-same-length
 same-length c = search needs
 
 returns : tie.Need-returns
-returns c = c .before .before .before .before .before .before .copy-in .ensures ▸ c .before .before .put-byte .ensures
+returns c =
+    let back-6 = c .before .before .before .before .before .before in
+    back-6 .copy-in .ensures ▸ c .before .before .put-byte .ensures
 
 pub put-part-spec : {M : Type 1} → statement M
 put-part-spec = tie.close (tie.spec copy-in-requires put-byte-requires same-length returns)

@@ -6,7 +6,7 @@ use Prim.Native.Nat.{ℕ}
 use native.Mathlib.Omega.{arith}
 use Rattle.language.specs.Syntax.{Right, read, write, append, delegate}
 use Rattle.language.specs.Encode.{letter}
-use Rattle.numbers.specs.Numbers.{code}
+use Rattle.named_rights.specs.Numbers.{code}
 use Rattle.saving.proofs.number.letter_of.Statement.{statement}
 use Rattle.saving.proofs.number.letter_of.Tie as tie
 

@@ -13,7 +13,7 @@ safe : (c : tie.After-nth) → Lies (c .before .before .before .args .text .now)
 safe c =
     let s = c .before .before .before in
     let a = s .args in
-    lies (s .pre .0 .rows) (a .text .now) (a .count) (a .marks .now) (s .pre .0 .held) (a .number) (s .pre .1) (c .nth .result) (c .nth .ensures (s .pre .0 .rows) (s .pre .0 .held))
+    lies (s .pre .0 .rows) (a .text .now) (a .count) (a .slots .now) (s .pre .0 .held) (a .number) (s .pre .1) (c .nth .result) (c .nth .ensures (s .pre .0 .rows) (s .pre .0 .held))
 
 nth-requires : tie.Need-nth-requires
 nth-requires c κs = search needs
@@ -35,7 +35,7 @@ returns c rows H =
     let s = c .before .before .before .before .before in
     let a = s .args in
     let n = c .before .before .nth in
-    name-is rows (a .text .now) (a .count) (a .marks .now) H (a .number) (s .pre .1) (n .result) (n .ensures rows H) (n .result .start + 2) refl
+    name-is rows (a .text .now) (a .count) (a .slots .now) H (a .number) (s .pre .1) (n .result) (n .ensures rows H) (n .result .start + 2) refl
 
 pub name-of-spec : {M : Type 1} → statement M
 name-of-spec =

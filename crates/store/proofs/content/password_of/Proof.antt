@@ -11,7 +11,7 @@ safe : (c : tie.After-nth) → Lies (c .before .before .before .args .text .now)
 safe c =
     let s = c .before .before .before in
     let a = s .args in
-    lies (s .pre .0 .rows) (a .text .now) (a .count) (a .marks .now) (s .pre .0 .held) (a .number) (s .pre .1) (c .nth .result) (c .nth .ensures (s .pre .0 .rows) (s .pre .0 .held))
+    lies (s .pre .0 .rows) (a .text .now) (a .count) (a .slots .now) (s .pre .0 .held) (a .number) (s .pre .1) (c .nth .result) (c .nth .ensures (s .pre .0 .rows) (s .pre .0 .held))
 
 nth-requires : tie.Need-nth-requires
 nth-requires c κs = search needs
@@ -23,8 +23,8 @@ returns : tie.Need-returns
 returns c ks K =
     let s = c .before .before .before .before .before in
     let a = s .args in
-    no-password ks (a .text .now) (a .count) (a .marks .now) K (a .number) (s .pre .1) (c .before .before .nth .result)
-    (c .before .before .nth .ensures (map principalRow ks) (principals-rows ks (a .text .now) (a .count) (a .marks .now) K)) (c .if1 .taken)
+    no-password ks (a .text .now) (a .count) (a .slots .now) K (a .number) (s .pre .1) (c .before .before .nth .result)
+    (c .before .before .nth .ensures (map principalRow ks) (principals-rows ks (a .text .now) (a .count) (a .slots .now) K)) (c .if1 .taken)
 
 add-start : tie.Need-add-start
 add-start c = let l = safe (c .before .before) in omega (arith, l .middle, l .last)
@@ -36,8 +36,8 @@ returns-2 : tie.Need-returns-2
 returns-2 c ks K =
     let s = c .before .before .before .before .before in
     let a = s .args in
-    kept-password ks (a .text .now) (a .count) (a .marks .now) K (a .number) (s .pre .1) (c .before .before .nth .result)
-    (c .before .before .nth .ensures (map principalRow ks) (principals-rows ks (a .text .now) (a .count) (a .marks .now) K)) (c .if1 .left)
+    kept-password ks (a .text .now) (a .count) (a .slots .now) K (a .number) (s .pre .1) (c .before .before .nth .result)
+    (c .before .before .nth .ensures (map principalRow ks) (principals-rows ks (a .text .now) (a .count) (a .slots .now) K)) (c .if1 .left)
 
 pub password-of-spec : {M : Type 1} → statement M
 password-of-spec =

@@ -14,15 +14,15 @@ add-start : tie.Need-add-start
 add-start c =
     let s = c .before .before .before in
     let a = s .args in
-    let l = lies (s .pre .0 .rows) (a .text .now) (a .count) (a .marks .now) (s .pre .0 .held) (a .number) (s .pre .1) (c .nth .result) (c .nth .ensures (s .pre .0 .rows) (s .pre .0 .held)) in
+    let l = lies (s .pre .0 .rows) (a .text .now) (a .count) (a .slots .now) (s .pre .0 .held) (a .number) (s .pre .1) (c .nth .result) (c .nth .ensures (s .pre .0 .rows) (s .pre .0 .held)) in
     omega (arith, l .middle, l .last)
 
 returns : tie.Need-returns
 returns c vs W =
     let s = c .before .before .before in
     let a = s .args in
-    value-there vs (a .text .now) (a .count) (a .marks .now) W (a .number) (s .pre .1) (c .nth .result)
-    (c .nth .ensures (map variableRow vs) (variables-rows vs (a .text .now) (a .count) (a .marks .now) W))
+    value-there vs (a .text .now) (a .count) (a .slots .now) W (a .number) (s .pre .1) (c .nth .result)
+    (c .nth .ensures (map variableRow vs) (variables-rows vs (a .text .now) (a .count) (a .slots .now) W))
 
 pub value-of-spec : {M : Type 1} → statement M
 value-of-spec = tie.close (tie.spec nth-requires add-start returns)

@@ -3,7 +3,8 @@ use mathlib.Core.Bool.{Bool, _||_}
 use denote.Ref.{now}
 use Rattle.language.specs.Text.{_==_}
 use Rattle.language.specs.State.{admin, anyone}
-use Rattle.store.proofs.NameWeights.{weighs-one, weighs-all, second-one}
+use Rattle.store.proofs.NameWeights.{weighs-one, weighs-all}
+use Rattle.language.proofs.Logic.Tests.{or-second}
 use borrow.Author.Needs.{needs}
 use Rattle.store.proofs.name.name_weight.Statement.{statement}
 use Rattle.store.proofs.name.name_weight.Tie as tie
@@ -27,12 +28,14 @@ same-bytes-requires-2 c κs = search needs
 
 returns-2 : tie.Need-returns-2
 returns-2 c =
-    let x = now (c .before .before .before .before .before .before .before .args .name) in
-    sym (weighs-one x (second-one (x == admin) (x == anyone) (sym (c .before .same-bytes2 .ensures) ∙ c .if2 .taken)))
+    let start = c .before .before .before .before .before .before .before in
+    let x = now (start .args .name) in
+    sym (weighs-one x (or-second (x == admin) (x == anyone) (sym (c .before .same-bytes2 .ensures) ∙ c .if2 .taken)))
 
 returns-3 : tie.Need-returns-3
 returns-3 c =
-    let x = now (c .before .before .before .before .before .before .before .args .name) in
+    let start = c .before .before .before .before .before .before .before in
+    let x = now (start .args .name) in
     sym (weighs-all x (sym (c .before .before .before .before .same-bytes .ensures) ∙ c .before .before .before .if1 .left) (sym (c .before .same-bytes2 .ensures) ∙ c .if2 .left))
 
 pub name-weight-spec : {M : Type 1} → statement M

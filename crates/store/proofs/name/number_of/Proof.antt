@@ -23,13 +23,15 @@ enum-told c = search needs
 
 returns : tie.Need-returns
 returns c l H =
-    let a = c .before .before .before .before .before .before .before .before .args in
+    let start = c .before .before .before .before .before .before .before .before in
+    let a = start .args in
     let g = c .before .found .given in
     answered l (a .name .now) _ _ _ (sym (g .1) ∙ c .before .before .before .find .ensures l H) .number
 
 returns-2 : tie.Need-returns-2
 returns-2 c l H =
-    let a = c .before .before .before .before .before .before .before .args in
+    let start = c .before .before .before .before .before .before .before in
+    let a = start .args in
     let u = unanswered l (a .name .now) (sym (c .enum-told .given .1) ∙ c .before .before .find .ensures l H) in
     omega (arith, u, H .counted, position-most (rowNames l) (a .name .now), length-map l (λ (r : Row). r .name))
 

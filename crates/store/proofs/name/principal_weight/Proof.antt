@@ -8,11 +8,11 @@ use borrow.Author.Needs.{needs}
 use Rattle.store.proofs.name.principal_weight.Statement.{statement}
 use Rattle.store.proofs.name.principal_weight.Tie as tie
 
-lying : (c : tie.After-nth) → Lies (c .before .before .before .args .people .now) (c .nth .result)
+lying : (c : tie.After-nth) → Lies (c .before .before .before .args .principals .now) (c .nth .result)
 lying c =
     let s = c .before .before .before in
     let a = s .args in
-    lies (s .pre .0 .rows) (a .people .now) (a .count) (a .marks .now) (s .pre .0 .held) (a .number) (s .pre .1) (c .nth .result) (c .nth .ensures (s .pre .0 .rows) (s .pre .0 .held))
+    lies (s .pre .0 .rows) (a .principals .now) (a .count) (a .slots .now) (s .pre .0 .held) (a .number) (s .pre .1) (c .nth .result) (c .nth .ensures (s .pre .0 .rows) (s .pre .0 .held))
 
 nth-requires : tie.Need-nth-requires
 nth-requires c κs = search needs
@@ -34,10 +34,11 @@ name-weight-requires c κs = search needs
 
 returns : tie.Need-returns
 returns c rows H =
-    let s = c .before .before .before .before .before .before in
+    let back-6 = c .before .before .before .before .before .before in
+    let s = back-6 in
     let a = s .args in
     let n = c .before .before .before .nth in
-    c .name-weight .ensures ∙ ap nameWeight (name-is rows (a .people .now) (a .count) (a .marks .now) H (a .number) (s .pre .1) (n .result) (n .ensures rows H) (n .result .start + 2) (omega arith))
+    c .name-weight .ensures ∙ ap nameWeight (name-is rows (a .principals .now) (a .count) (a .slots .now) H (a .number) (s .pre .1) (n .result) (n .ensures rows H) (n .result .start + 2) (omega arith))
 
 pub principal-weight-spec : {M : Type 1} → statement M
 principal-weight-spec =

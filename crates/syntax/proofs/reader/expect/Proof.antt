@@ -27,13 +27,15 @@ returns c =
 
 is-sign-requires : tie.Need-is-sign-requires
 is-sign-requires c κs =
-    let a = c .before .before .before .before .before .before .args in
+    let start = c .before .before .before .before .before .before in
+    let a = start .args in
     let p = known (FoundPlaced (now (a .text)) (a .at)) (c .before .before .before .sign-at .ensures .1) (c .before .sign .given .1) in
     omega arith
 
 returns-2 : tie.Need-returns-2
 returns-2 c =
-    let a = c .before .before .before .before .before .before .before .before .args in
+    let start = c .before .before .before .before .before .before .before .before in
+    let a = start .args in
     let t = now (a .text) in
     let x = c .before .before .before .before .before .sign-at in
     let e = told (foundMeant t) (x .ensures .0) (c .before .before .before .sign .given .1) in
@@ -42,7 +44,8 @@ returns-2 c =
 
 returns-3 : tie.Need-returns-3
 returns-3 c =
-    let a = c .before .before .before .before .before .before .before .before .args in
+    let start = c .before .before .before .before .before .before .before .before in
+    let a = start .args in
     let t = now (a .text) in
     let e = told (foundMeant t) (c .before .before .before .before .before .sign-at .ensures .0) (c .before .before .before .sign .given .1) in
     (sym (sign-other (now (a .word)) (lex (drop (a .at) t)) e (sym (c .before .is-sign .ensures) ∙ c .if1 .left)), tt)

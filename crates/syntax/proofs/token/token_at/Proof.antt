@@ -31,21 +31,26 @@ enum-told c = search needs
 
 word-at-requires : tie.Need-word-at-requires Inv-loop μ-loop
 word-at-requires c κs =
-    let s = c .before .before .before .before .before .before .before in
+    let back-7 = c .before .before .before .before .before .before .before in
+    let s = back-7 in
     let l = c .before .before .before .before .before .loop in
     let t = now (s .args .text) in
     let k = sym (c .before .before .class-of .ensures) ∙ ap classMeant (c .enum-told .given .1) in
     (search needs, k)
 
 returns : tie.Need-returns Inv-loop μ-loop
-returns c = (c .before .before .before .before .before .before .loop .inv .2 ∙ c .word-at .ensures .0, placed-from (now (c .before .before .before .before .before .before .before .before .args .text)) (c .before .before .before .before .before .before .before .before .args .at) (c .before .before .before .before .before .before .loop .i) (c .word-at .result) (search needs) (c .word-at .ensures .1))
+returns c =
+    let back-6 = c .before .before .before .before .before .before in
+    let start = back-6 .before .before in
+    (back-6 .loop .inv .2 ∙ c .word-at .ensures .0, placed-from (now (start .args .text)) (start .args .at) (back-6 .loop .i) (c .word-at .result) (search needs) (c .word-at .ensures .1))
 
 enum-told-2 : tie.Need-enum-told-2 Inv-loop μ-loop
 enum-told-2 c = search needs
 
 returns-2 : tie.Need-returns-2 Inv-loop μ-loop
 returns-2 c =
-    let s = c .before .before .before .before .before .before .before in
+    let back-7 = c .before .before .before .before .before .before .before in
+    let s = back-7 in
     let l = c .before .before .before .before .before .loop in
     let t = now (s .args .text) in
     let k = sym (c .before .before .class-of .ensures) ∙ ap classMeant (c .enum-told2 .given .1) in
@@ -62,7 +67,8 @@ loop-less c = search needs
 
 loop-again : tie.Need-loop-again Inv-loop μ-loop
 loop-again c =
-    let s = c .before .before .before .before .before .before .before in
+    let back-7 = c .before .before .before .before .before .before .before in
+    let s = back-7 in
     let l = c .before .before .before .before .before .loop in
     let t = now (s .args .text) in
     let k = sym (c .before .before .class-of .ensures) ∙ ap classMeant (c .enum-told3 .given .1) in
@@ -73,7 +79,8 @@ enum-told-4 c = search needs
 
 returns-3 : tie.Need-returns-3 Inv-loop μ-loop
 returns-3 c =
-    let s = c .before .before .before .before .before .before .before in
+    let back-7 = c .before .before .before .before .before .before .before in
+    let s = back-7 in
     let l = c .before .before .before .before .before .loop in
     let t = now (s .args .text) in
     let k = sym (c .before .before .class-of .ensures) ∙ ap classMeant (c .enum-told4 .given .1) in
@@ -84,21 +91,27 @@ enum-known-c c = search needs
 
 mark-at-requires : tie.Need-mark-at-requires Inv-loop μ-loop
 mark-at-requires c κs =
-    let s = c .before .before .before .before .before .before .before .before in
-    let l = c .before .before .before .before .before .before .loop in
+    let back-6 = c .before .before .before .before .before .before in
+    let back-8 = back-6 .before .before in
+    let s = back-8 in
+    let l = back-6 .loop in
     let t = now (s .args .text) in
     let k = sym (c .before .before .before .class-of .ensures) ∙ ap classMeant (c .before .c .given .1) in
     (search needs, k)
 
 returns-4 : tie.Need-returns-4 Inv-loop μ-loop
-returns-4 c = (c .before .before .before .before .before .before .before .loop .inv .2 ∙ c .mark-at .ensures .0, placed-from (now (c .before .before .before .before .before .before .before .before .before .args .text)) (c .before .before .before .before .before .before .before .before .before .args .at) (c .before .before .before .before .before .before .before .loop .i) (c .mark-at .result) (search needs) (c .mark-at .ensures .1))
+returns-4 c =
+    let back-7 = c .before .before .before .before .before .before .before in
+    let start = back-7 .before .before in
+    (back-7 .loop .inv .2 ∙ c .mark-at .ensures .0, placed-from (now (start .args .text)) (start .args .at) (back-7 .loop .i) (c .mark-at .result) (search needs) (c .mark-at .ensures .1))
 
 enum-told-5 : tie.Need-enum-told-5 Inv-loop μ-loop
 enum-told-5 c = search needs
 
 returns-5 : tie.Need-returns-5 Inv-loop μ-loop
 returns-5 c =
-    let s = c .before .before .before .before .before .before .before in
+    let back-7 = c .before .before .before .before .before .before .before in
+    let s = back-7 in
     let l = c .before .before .before .before .before .loop in
     let t = now (s .args .text) in
     let k = sym (c .before .before .class-of .ensures) ∙ ap classMeant (c .enum-told5 .given .1) in

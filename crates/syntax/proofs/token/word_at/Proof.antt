@@ -35,13 +35,17 @@ sub-if2 c = search needs
 
 returns-2 : tie.Need-returns-2
 returns-2 c =
-    let s = c .before .before .before .before .before .before in
-    (word-name (now (s .args .text)) (s .args .at) (s .pre .0) (c .before .before .before .before .run-end .result) (c .before .before .before .before .run-end .ensures .0) (s .pre .1) (sym (c .before .before .is-keyword .ensures) ∙ c .before .if1 .left) (c .if2 .taken), omega (arith, s .pre, c .before .before .before .before .run-end .ensures .0))
+    let back-4 = c .before .before .before .before in
+    let back-6 = back-4 .before .before in
+    let s = back-6 in
+    (word-name (now (s .args .text)) (s .args .at) (s .pre .0) (back-4 .run-end .result) (back-4 .run-end .ensures .0) (s .pre .1) (sym (c .before .before .is-keyword .ensures) ∙ c .before .if1 .left) (c .if2 .taken), omega (arith, s .pre, back-4 .run-end .ensures .0))
 
 returns-3 : tie.Need-returns-3
 returns-3 c =
-    let s = c .before .before .before .before .before .before in
-    (word-long (now (s .args .text)) (s .args .at) (s .pre .0) (c .before .before .before .before .run-end .result) (c .before .before .before .before .run-end .ensures .0) (s .pre .1) (sym (c .before .before .is-keyword .ensures) ∙ c .before .if1 .left) (c .if2 .left), tt)
+    let back-4 = c .before .before .before .before in
+    let back-6 = back-4 .before .before in
+    let s = back-6 in
+    (word-long (now (s .args .text)) (s .args .at) (s .pre .0) (back-4 .run-end .result) (back-4 .run-end .ensures .0) (s .pre .1) (sym (c .before .before .is-keyword .ensures) ∙ c .before .if1 .left) (c .if2 .left), tt)
 
 pub word-at-spec : {M : Type 1} → statement M
 word-at-spec =

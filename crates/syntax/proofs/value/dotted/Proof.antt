@@ -25,14 +25,16 @@ enum-told c = search needs
 
 returns : tie.Need-returns
 returns c =
-    let a = c .before .before .before .before .before .args in
+    let start = c .before .before .before .before .before in
+    let a = start .args in
     let t = now (a .text) in
     let e1 = told (nextMeant t) (c .before .before .expect .ensures .0) (c .enum-told .given .1) in
-    (sym (no-dot (part t (a .name)) (lex (drop (a .at) t)) e1), λ from h. (c .before .before .before .before .before .pre .1, h, c .before .before .before .before .before .pre .0))
+    (sym (no-dot (part t (a .name)) (lex (drop (a .at) t)) e1), λ from h. (start .pre .1, h, start .pre .0))
 
 name-at-requires : tie.Need-name-at-requires
 name-at-requires c κs =
-    let a = c .before .before .before .before .before .before .args in
+    let start = c .before .before .before .before .before .before in
+    let a = start .args in
     let t = now (a .text) in
     let p1 = known (NextPlaced t (a .at)) (c .before .before .before .expect .ensures .1) (c .before .dot .given .1) in
     omega arith
@@ -45,22 +47,28 @@ enum-told-2 c = search needs
 
 returns-2 : tie.Need-returns-2
 returns-2 c =
-    let a = c .before .before .before .before .before .before .before .before .before .args in
+    let back-4 = c .before .before .before .before in
+    let back-6 = back-4 .before .before in
+    let start = back-6 .before .before .before in
+    let a = start .args in
     let t = now (a .text) in
-    let e1 = told (nextMeant t) (c .before .before .before .before .before .before .expect .ensures .0) (c .before .before .before .before .dot .given .1) in
+    let e1 = told (nextMeant t) (back-6 .expect .ensures .0) (back-4 .dot .given .1) in
     let e2 = told (foundMeant t) (c .before .before .name-at .ensures .0) (c .enum-told2 .given .1) in
-    let p1 = known (NextPlaced t (a .at)) (c .before .before .before .before .before .before .expect .ensures .1) (c .before .before .before .before .dot .given .1) in
-    (sym (no-field (part t (a .name)) (lex (drop (a .at) t)) e1 e2), λ from h. (c .before .before .before .before .before .before .before .before .before .pre .1, h, c .before .before .before .before .before .before .before .before .before .pre .0))
+    let p1 = known (NextPlaced t (a .at)) (back-6 .expect .ensures .1) (back-4 .dot .given .1) in
+    (sym (no-field (part t (a .name)) (lex (drop (a .at) t)) e1 e2), λ from h. (start .pre .1, h, start .pre .0))
 
 returns-3 : tie.Need-returns-3
 returns-3 c =
-    let a = c .before .before .before .before .before .before .before .before .before .before .args in
+    let back-5 = c .before .before .before .before .before in
+    let back-7 = back-5 .before .before in
+    let start = back-7 .before .before .before in
+    let a = start .args in
     let t = now (a .text) in
-    let e1 = told (nextMeant t) (c .before .before .before .before .before .before .before .expect .ensures .0) (c .before .before .before .before .before .dot .given .1) in
+    let e1 = told (nextMeant t) (back-7 .expect .ensures .0) (back-5 .dot .given .1) in
     let e2 = told (foundMeant t) (c .before .before .before .name-at .ensures .0) (c .before .field .given .1) in
-    let p1 = known (NextPlaced t (a .at)) (c .before .before .before .before .before .before .before .expect .ensures .1) (c .before .before .before .before .before .dot .given .1) in
-    let p2 = known (FoundPlaced t (c .before .before .before .before .before .dot .given .0 .0)) (c .before .before .before .name-at .ensures .1) (c .before .field .given .1) in
-    (sym (read-field (part t (a .name)) (lex (drop (a .at) t)) e1 e2), λ from h. ((c .before .before .before .before .before .before .before .before .before .before .pre .1, omega arith), omega arith, omega arith))
+    let p1 = known (NextPlaced t (a .at)) (back-7 .expect .ensures .1) (back-5 .dot .given .1) in
+    let p2 = known (FoundPlaced t (back-5 .dot .given .0 .0)) (c .before .before .before .name-at .ensures .1) (c .before .field .given .1) in
+    (sym (read-field (part t (a .name)) (lex (drop (a .at) t)) e1 e2), λ from h. ((start .pre .1, omega arith), omega arith, omega arith))
 
 pub dotted-spec : {M : Type 1} → statement M
 dotted-spec =

@@ -29,7 +29,8 @@ enum-told c = search needs
 
 returns : tie.Need-returns
 returns c =
-    let a = c .before .before .before .before .before .before .before .args in
+    let start = c .before .before .before .before .before .before .before in
+    let a = start .args in
     let t = now (a .text) in
     let brace = sym (c .before .before .before .before .is-sign .ensures) ∙ c .before .before .before .if1 .taken in
     let e = told (nextMeant t) (c .before .before .record-end .ensures .0) (c .enum-told .given .1) in
@@ -37,12 +38,13 @@ returns c =
 
 returns-2 : tie.Need-returns-2
 returns-2 c =
-    let a = c .before .before .before .before .before .before .before .before .args in
+    let start = c .before .before .before .before .before .before .before .before in
+    let a = start .args in
     let t = now (a .text) in
     let brace = sym (c .before .before .before .before .before .is-sign .ensures) ∙ c .before .before .before .before .if1 .taken in
     let e = told (nextMeant t) (c .before .before .before .record-end .ensures .0) (c .before .last .given .1) in
     let p = known (NextPlaced t (a .at)) (c .before .before .before .record-end .ensures .1) (c .before .last .given .1) in
-    (sym (one-record (part t (a .mark)) (lex (drop (a .at) t)) brace e), λ from h. ((c .before .before .before .before .before .before .before .before .pre .0, fields-there (recordAt t (a .at)) e), omega arith, omega arith))
+    (sym (one-record (part t (a .mark)) (lex (drop (a .at) t)) brace e), λ from h. ((start .pre .0, fields-there (recordAt t (a .at)) e), omega arith, omega arith))
 
 slice-aggregate-is-sign-2 : tie.Need-slice-aggregate-is-sign-2
 slice-aggregate-is-sign-2 c = search needs
@@ -52,13 +54,15 @@ is-sign-requires-2 c κs = search needs
 
 returns-3 : tie.Need-returns-3
 returns-3 c =
-    let a = c .before .before .before .before .before .before .before .args in
+    let start = c .before .before .before .before .before .before .before in
+    let a = start .args in
     let t = now (a .text) in
-    (sym (empty-list (part t (a .mark)) (lex (drop (a .at) t)) (sym (c .before .is-sign2 .ensures) ∙ c .if2 .taken)), λ from h. (tt, h, c .before .before .before .before .before .before .before .pre .0))
+    (sym (empty-list (part t (a .mark)) (lex (drop (a .at) t)) (sym (c .before .is-sign2 .ensures) ∙ c .if2 .taken)), λ from h. (tt, h, start .pre .0))
 
 returns-4 : tie.Need-returns-4
 returns-4 c =
-    let a = c .before .before .before .before .before .before .before .args in
+    let start = c .before .before .before .before .before .before .before in
+    let a = start .args in
     let t = now (a .text) in
     let brace = sym (c .before .before .before .before .is-sign .ensures) ∙ c .before .before .before .if1 .left in
     (sym (no-enclosed (part t (a .mark)) (lex (drop (a .at) t)) brace (sym (c .before .is-sign2 .ensures) ∙ c .if2 .left)), λ from h. tt)

@@ -46,13 +46,16 @@ enum-told-2 c = search needs
 
 returns : tie.Need-returns
 returns c =
-    let a = c .before .before .before .before .before .before .before .before .args in
+    let back-4 = c .before .before .before .before in
+    let back-6 = back-4 .before .before in
+    let start = back-6 .before .before in
+    let a = start .args in
     let t = now (a .text) in
-    let r = c .before .before .before .before .before .before .first-token in
-    let is = c .before .before .before .before .t2 .given .1 in
+    let r = back-6 .first-token in
+    let is = back-4 .t2 .given .1 in
     let e = told (operandReadMeant t) (c .before .before .dotted .ensures .0) (c .enum-told2 .given .1) in
-    let w = part t (c .before .before .before .before .t2 .given .0 .0) in
-    let us = lex (drop (c .before .before .before .before .t2 .given .0 .1 .0) t) in
+    let w = part t (back-4 .t2 .given .0 .0) in
+    let us = lex (drop (back-4 .t2 .given .0 .1 .0) t) in
     (sym (no-value w us e) ∙ read-as t (a .at) (r .result) is anyExpression (r .ensures .0), tt)
 
 enum-known-t-3 : tie.Need-enum-known-t-3
@@ -69,7 +72,8 @@ returns-2 c =
 
 returns-3 : tie.Need-returns-3
 returns-3 c =
-    let a = c .before .before .before .before .before .before .args in
+    let start = c .before .before .before .before .before .before in
+    let a = start .args in
     let t = now (a .text) in
     let r = c .before .before .before .before .first-token in
     let is = c .before .before .t .given .1 in
@@ -78,15 +82,18 @@ returns-3 c =
 
 returns-4 : tie.Need-returns-4
 returns-4 c =
-    let a = c .before .before .before .before .before .before .before .before .before .args in
+    let back-5 = c .before .before .before .before .before in
+    let back-7 = back-5 .before .before in
+    let start = back-7 .before .before in
+    let a = start .args in
     let t = now (a .text) in
-    let r = c .before .before .before .before .before .before .before .first-token in
-    let is = c .before .before .before .before .before .t2 .given .1 in
+    let r = back-7 .first-token in
+    let is = back-5 .t2 .given .1 in
     let p = placed-as t (a .at) (r .result) is (r .ensures .1) in
     let e = told (operandReadMeant t) (c .before .before .before .dotted .ensures .0) (c .before .value .given .1) in
     let q = known (OperandPlaced t (a .at)) (c .before .before .before .dotted .ensures .1 (a .at) (omega arith)) (c .before .value .given .1) in
-    let w = part t (c .before .before .before .before .before .t2 .given .0 .0) in
-    let us = lex (drop (c .before .before .before .before .before .t2 .given .0 .1 .0) t) in
+    let w = part t (back-5 .t2 .given .0 .0) in
+    let us = lex (drop (back-5 .t2 .given .0 .1 .0) t) in
     (sym (one-value w us e) ∙ read-as t (a .at) (r .result) is anyExpression (r .ensures .0), q)
 
 returns-5 : tie.Need-returns-5

@@ -53,7 +53,8 @@ returns-2 c =
 
 returns-3 : tie.Need-returns-3
 returns-3 c =
-    let a = c .before .before .before .before .before .before .args in
+    let start = c .before .before .before .before .before .before in
+    let a = start .args in
     let r = c .before .before .before .before .first-token in
     let t = now (a .text) in
     let is = c .before .before .t .given .1 in

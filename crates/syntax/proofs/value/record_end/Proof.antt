@@ -42,30 +42,37 @@ returns c =
 
 returns-2 : tie.Need-returns-2 Inv-loop μ-loop
 returns-2 c =
-    let t = now (c .before .before .before .before .before .before .before .args .text) in
+    let back-4 = c .before .before .before .before in
+    let back-5 = back-4 .before in
+    let start = back-5 .before .before in
+    let t = now (start .args .text) in
     let g = c .before .before .field .given in
-    let e = told (fieldMeant t) (c .before .before .before .before .field-at .ensures .0) (g .1) in
-    let p = known (FieldPlaced t (c .before .before .before .before .before .loop .p)) (c .before .before .before .before .field-at .ensures .1) (g .1) in
+    let e = told (fieldMeant t) (back-4 .field-at .ensures .0) (g .1) in
+    let p = known (FieldPlaced t (back-5 .loop .p)) (back-4 .field-at .ensures .1) (g .1) in
     let b : Binding = record { label = part t (g .0 .0); operand = operandMeant t (g .0 .1 .0) } in
     let last = not-true (g .0 .1 .1 .0) (c .if1 .taken) in
-    (sym (c .before .before .before .before .before .loop .inv .2 ∙ ap skipped (e ∙ ap (λ m. withField t b m (g .0 .1 .1 .1 .0)) last)), omega arith)
+    (sym (back-5 .loop .inv .2 ∙ ap skipped (e ∙ ap (λ m. withField t b m (g .0 .1 .1 .1 .0)) last)), omega arith)
 
 loop-less : tie.Need-loop-less Inv-loop μ-loop
 loop-less c =
-    let t = now (c .before .before .before .before .before .before .before .args .text) in
+    let start = c .before .before .before .before .before .before .before in
+    let t = now (start .args .text) in
     let g = c .before .before .field .given in
     let p = known (FieldPlaced t (c .before .before .before .before .before .loop .p)) (c .before .before .before .before .field-at .ensures .1) (g .1) in
     omega arith
 
 loop-again : tie.Need-loop-again Inv-loop μ-loop
 loop-again c =
-    let t = now (c .before .before .before .before .before .before .before .args .text) in
+    let back-4 = c .before .before .before .before in
+    let back-5 = back-4 .before in
+    let start = back-5 .before .before in
+    let t = now (start .args .text) in
     let g = c .before .before .field .given in
-    let e = told (fieldMeant t) (c .before .before .before .before .field-at .ensures .0) (g .1) in
-    let p = known (FieldPlaced t (c .before .before .before .before .before .loop .p)) (c .before .before .before .before .field-at .ensures .1) (g .1) in
+    let e = told (fieldMeant t) (back-4 .field-at .ensures .0) (g .1) in
+    let p = known (FieldPlaced t (back-5 .loop .p)) (back-4 .field-at .ensures .1) (g .1) in
     let b : Binding = record { label = part t (g .0 .0); operand = operandMeant t (g .0 .1 .0) } in
     let more = not-false (g .0 .1 .1 .0) (c .if1 .left) in
-    (omega arith, omega arith, c .before .before .before .before .before .loop .inv .2 ∙ ap skipped (e ∙ ap (λ m. withField t b m (g .0 .1 .1 .1 .0)) more) ∙ skip-before b (recordAt t (g .0 .1 .1 .1 .0)))
+    (omega arith, omega arith, back-5 .loop .inv .2 ∙ ap skipped (e ∙ ap (λ m. withField t b m (g .0 .1 .1 .1 .0)) more) ∙ skip-before b (recordAt t (g .0 .1 .1 .1 .0)))
 
 pub record-end-spec : {M : Type 1} → statement M
 record-end-spec =

@@ -7,7 +7,7 @@ use Rattle.language.specs.Text.{Text}
 use Rattle.language.specs.Commands.{DENIED, FAILED, FULL}
 use Rattle.language.specs.Run.{End}
 use Rattle.values.proofs.Pieces.{written-length}
-use Rattle.running.specs.Sessions.{Slices, slices}
+use Rattle.session.specs.Sessions.{Slices, slices}
 use Rattle.engine.specs.declared.Performed.{Performed}
 use Rattle.engine.specs.Ends.{Completes, Ends}
 use Rattle.transaction.specs.Endings.{endOr}
@@ -17,14 +17,20 @@ use Rattle.transaction.proofs.ending.settle.Statement.{statement}
 use Rattle.transaction.proofs.ending.settle.Tie as tie
 
 abbrev lent : tie.Start → Slices
-lent c = let a = c .args in slices (a .people .now) (a .people-marks .now) (a .work .now) (a .var-marks .now) (a .locals .now) (a .local-marks .now) (a .standing .now)
+lent c = let a = c .args in slices (a .principals .now) (a .principal-slots .now) (a .work .now) (a .variable-slots .now) (a .locals .now) (a .local-slots .now) (a .assertions .now)
 
 abbrev Ending : tie.Start → Option End → Text → Performed → Type 0
 Ending c e before d = Ends d e (lent c) before (c .args .output .now)
 
-completes : (c : tie.After-performed) (e : Option End) (before : Text) → Ending (c .before .before .before .before .before .before .before .before .before .before .before) e before (c .before .before .before .before .before .before .before .before .before .before .before .args .performed)
-    → Completes e (c .performed .given .0 .0) (c .performed .given .0 .1 .0) (c .performed .given .0 .1 .1 .0) (lent (c .before .before .before .before .before .before .before .before .before .before .before)) before (c .before .before .before .before .before .before .before .before .before .before .before .args .output .now)
-completes c e before D = subst (Ending (c .before .before .before .before .before .before .before .before .before .before .before) e before) (c .performed .given .1) D
+-- the function's start, as these places see it
+abbrev start-after-performed : tie.After-performed → tie.Start
+start-after-performed c = c .before .before .before .before .before .before .before .before .before .before .before
+
+completes : (c : tie.After-performed) (e : Option End) (before : Text) → Ending (start-after-performed c) e before (start-after-performed c .args .performed)
+    → Completes e (c .performed .given .0 .0) (c .performed .given .0 .1 .0) (c .performed .given .0 .1 .1 .0) (lent (start-after-performed c)) before (start-after-performed c .args .output .now)
+completes c e before D =
+    let back-11 = start-after-performed c in
+    subst (Ending back-11 e before) (c .performed .given .1) D
 
 enum-told : tie.Need-enum-told
 enum-told c = search needs
@@ -70,18 +76,21 @@ counted-requires c κs = search needs
 
 save-requires : tie.Need-save-requires
 save-requires c κs =
-    let P = c .before .before .before .before .before .before .before .before .before .before .before .before .before .before .before .pre .0 in
+    let start = c .before .before .before .before .before .before .before .before .before .before .before .before .before .before .before in
+    let P = start .pre .0 in
     let C = completes (c .before .before .before .before) (P .end) (P .before) (P .ends) in
-    (record { session = C .session; running = C .running }, (c .before .before .before .before .before .before .before .before .before .before .before .before .before .before .before .pre .1 .1, c .before .before .counted .ensures .1, c .before .before .before .before .before .before .before .before .before .before .before .before .before .before .before .pre .1 .4, c .before .before .before .before .before .before .before .before .before .before .before .before .before .before .before .pre .1 .5))
+    (record { session = C .session; running = C .running }, (start .pre .1 .1, omega (arith, c .before .before .counted .ensures .1, start .pre .1 .3), start .pre .1 .4, start .pre .1 .5))
 
 end-kind-requires : tie.Need-end-kind-requires
 end-kind-requires c κs = search needs
 
 close-requires : tie.Need-close-requires
 close-requires c κs =
-    let P = c .before .before .before .before .before .before .before .before .before .before .before .before .before .before .before .before .before .before .before .before .before .pre .0 in
-    let C = completes (c .before .before .before .before .before .before .before .before .before .before) (P .end) (P .before) (P .ends) in
-    (c .before .before .before .before .before .before .before .before .before .before .before .before .before .before .before .before .before .before .before .before .before .pre .1 .0, c .before .before .before .before .before .before .before .before .before .before .before .before .before .before .before .before .before .before .before .before .before .pre .1 .2, omega (arith, C .printed .fits, written-length (C .printed), c .before .before .before .before .before .before .before .before .before .before .before .before .before .before .before .before .before .before .before .before .before .pre .1 .2))
+    let back-10 = c .before .before .before .before .before .before .before .before .before .before in
+    let start = back-10 .before .before .before .before .before .before .before .before .before .before .before in
+    let P = start .pre .0 in
+    let C = completes back-10 (P .end) (P .before) (P .ends) in
+    (start .pre .1 .0, start .pre .1 .2, omega (arith, C .printed .fits, written-length (C .printed), start .pre .1 .2))
 
 same-length : tie.Need-same-length
 same-length c = search needs
@@ -91,9 +100,11 @@ same-length-2 c = search needs
 
 returns : tie.Need-returns
 returns c e before D =
+    let back-8 = c .before .before .before .before .before .before .before .before in
+    let start = back-8 .before .before .before .before .before .before .before .before .before .before .before in
     let R = c .before .before .before .before .refuse .ensures FAILED refl refl in
-    let h = ap endOr (subst (Ending (c .before .before .before .before .before .before .before .before .before .before .before .before .before .before .before .before .before .before .before) e before) (c .before .before .before .before .before .before .before .before .enum-told .given .1) D) in
-    (closed-refusal R h, λ s k. kept R h (c .before .before .before .before .before .before .before .before .before .before .before .before .before .before .before .before .before .before .before .args .state .now) s)
+    let h = ap endOr (subst (Ending start e before) (back-8 .enum-told .given .1) D) in
+    (closed-refusal R h, λ s k. kept R h (start .args .state .now) s)
 
 same-length-3 : tie.Need-same-length-3
 same-length-3 c = search needs
@@ -103,9 +114,11 @@ same-length-4 c = search needs
 
 returns-2 : tie.Need-returns-2
 returns-2 c e before D =
+    let back-8 = c .before .before .before .before .before .before .before .before in
+    let start = back-8 .before .before .before .before .before .before .before .before .before .before .before in
     let R = c .before .before .before .before .refuse2 .ensures DENIED refl refl in
-    let h = ap endOr (subst (Ending (c .before .before .before .before .before .before .before .before .before .before .before .before .before .before .before .before .before .before .before) e before) (c .before .before .before .before .before .before .before .before .enum-told2 .given .1) D) in
-    (closed-refusal R h, λ s k. kept R h (c .before .before .before .before .before .before .before .before .before .before .before .before .before .before .before .before .before .before .before .args .state .now) s)
+    let h = ap endOr (subst (Ending start e before) (back-8 .enum-told2 .given .1) D) in
+    (closed-refusal R h, λ s k. kept R h (start .args .state .now) s)
 
 same-length-5 : tie.Need-same-length-5
 same-length-5 c = search needs
@@ -115,9 +128,11 @@ same-length-6 c = search needs
 
 returns-3 : tie.Need-returns-3
 returns-3 c e before D =
+    let back-8 = c .before .before .before .before .before .before .before .before in
+    let start = back-8 .before .before .before .before .before .before .before .before .before .before .before in
     let R = c .before .before .before .before .refuse3 .ensures FAILED refl refl in
-    let h = ap endOr (subst (Ending (c .before .before .before .before .before .before .before .before .before .before .before .before .before .before .before .before .before .before .before) e before) (c .before .before .before .before .before .before .before .before .enum-told3 .given .1) D) in
-    (closed-refusal R h, λ s k. kept R h (c .before .before .before .before .before .before .before .before .before .before .before .before .before .before .before .before .before .before .before .args .state .now) s)
+    let h = ap endOr (subst (Ending start e before) (back-8 .enum-told3 .given .1) D) in
+    (closed-refusal R h, λ s k. kept R h (start .args .state .now) s)
 
 same-length-7 : tie.Need-same-length-7
 same-length-7 c = search needs
@@ -127,9 +142,11 @@ same-length-8 c = search needs
 
 returns-4 : tie.Need-returns-4
 returns-4 c e before D =
+    let back-8 = c .before .before .before .before .before .before .before .before in
+    let start = back-8 .before .before .before .before .before .before .before .before .before .before .before in
     let R = c .before .before .before .before .refuse4 .ensures FULL refl refl in
-    let h = ap endOr (subst (Ending (c .before .before .before .before .before .before .before .before .before .before .before .before .before .before .before .before .before .before .before) e before) (c .before .before .before .before .before .before .before .before .enum-told4 .given .1) D) in
-    (closed-refusal R h, λ s k. kept R h (c .before .before .before .before .before .before .before .before .before .before .before .before .before .before .before .before .before .before .before .args .state .now) s)
+    let h = ap endOr (subst (Ending start e before) (back-8 .enum-told4 .given .1) D) in
+    (closed-refusal R h, λ s k. kept R h (start .args .state .now) s)
 
 same-length-9 : tie.Need-same-length-9
 same-length-9 c = search needs
@@ -142,9 +159,14 @@ same-length-11 c = search needs
 
 returns-5 : tie.Need-returns-5
 returns-5 c e before D =
-    let C = completes (c .before .before .before .before .before .before .before .before .before .before .before .before .before .before .before) e before D in (
-      c .before .before .before .before .close .ensures (endOr e) (kind-is C (c .before .before .before .before .before .before .before .end-kind .result) (c .before .before .before .before .before .before .before .end-kind .ensures)) (count-is C) (bytes-are C) (lines-are C),
-      state-is C (c .before .before .before .before .before .before .before .before .before .before .before .before .before .before .before .before .before .before .before .before .before .before .before .before .before .before .args .count) (c .before .before .before .before .before .before .before .before .before .before .before .before .before .counted .result) (c .before .before .before .before .before .before .before .before .before .before .before .before .before .before .before .before .before .before .before .before .before .before .before .before .before .before .args .state .now) _ (c .before .before .before .before .before .before .before .before .before .before .before .before .before .counted .ensures .0) (c .before .before .before .before .before .before .before .before .before .before .save .ensures (C .session) (C .running)),
+    let back-7 = c .before .before .before .before .before .before .before in
+    let back-10 = back-7 .before .before .before in
+    let back-13 = back-10 .before .before .before in
+    let back-15 = back-13 .before .before in
+    let start = back-15 .before .before .before .before .before .before .before .before .before .before .before in
+    let C = completes back-15 e before D in (
+      c .before .before .before .before .close .ensures (endOr e) (kind-is C (back-7 .end-kind .result) (back-7 .end-kind .ensures)) (count-is C) (bytes-are C) (lines-are C),
+      state-is C (start .args .count) (back-13 .counted .result) (start .args .state .now) _ (back-13 .counted .ensures .0) (back-10 .save .ensures (C .session) (C .running)),
     )
 
 pub settle-spec : {M : Type 1} → statement M

@@ -11,13 +11,13 @@ use lib.ListN.{length, drop}
 use Rattle.language.specs.State.{Variable}
 use Rattle.language.specs.Weight.{variableWeight}
 use Rattle.language.specs.Valid.{validVariable}
-use Rattle.lines.specs.Cuts.{part}
+use Rattle.text.specs.Parts.{part}
 use Rattle.store.specs.Rows.{Row, Rows}
 use Rattle.records.specs.Sections.{Entitled, VariableMeant, offElement}
 use Rattle.records.specs.Entering.{Entered}
 use Rattle.records.proofs.Variables.{textOf}
 use Rattle.validate.specs.Shared.{offVariable}
-use Rattle.validate.proofs.Vars.{Sharing, sharing-start, sharing-low, remarked, variables-good, variables-stuck, variables-stray, variable-ahead, variable-light, variable-entering, variable-again, variable-next, lent, lent-front, lent-length, free-length}
+use Rattle.validate.proofs.Vars.{Sharing, sharing-start, sharing-low, reindexed, variables-good, variables-stuck, variables-stray, variable-ahead, variable-light, variable-entering, variable-again, variable-next, lent, lent-front, lent-length, free-length}
 use Rattle.validate.proofs.shared.variables.Statement.{statement}
 use Rattle.validate.proofs.shared.variables.Tie as tie
 use Rattle.validate.proofs.shared.variables.Reads as reads
@@ -28,45 +28,76 @@ use Rattle.records.proofs.variable_at.Reads as variable-at-reads
 use Rattle.validate.proofs.shared.goes_on.Reads as goes-on-reads
 
 abbrev Inv-loop : tie.InvT-loop
-Inv-loop text at w marks₀ i₀ n₀ now₀ marks i n now =
-    (length marks ≡ length marks₀) × (now ≤ 8192) × Sharing text at w marks i n now
+Inv-loop text at w slots₀ i₀ n₀ now₀ slots i n now =
+    (length slots ≡ length slots₀) × (now ≤ 8192) × Sharing text at w slots i n now
 
 abbrev μ-loop : tie.MeasureT-loop
-μ-loop text at w marks₀ i₀ n₀ now₀ marks i n now =
+μ-loop text at w slots₀ i₀ n₀ now₀ slots i n now =
     length text - i
 
-whole : (c : tie.At-loop Inv-loop μ-loop) → length (c .loop .marks) ≡ 4096
+whole : (c : tie.At-loop Inv-loop μ-loop) → length (c .loop .slots) ≡ 4096
 whole c = c .loop .inv .0 ∙ c .before .before .before .pre .2
 
 lowest : (c : tie.At-loop Inv-loop μ-loop) → c .before .before .before .args .w + 2 * c .loop .n ≤ c .loop .now
-lowest c = let l = c .loop in sharing-low (Ref.now (c .before .before .before .args .text)) (c .before .before .before .args .at) (c .before .before .before .args .w) (l .marks) (l .i) (l .n) (l .now) (l .inv .2)
+lowest c = let l = c .loop in sharing-low (Ref.now (c .before .before .before .args .text)) (c .before .before .before .args .at) (c .before .before .before .args .w) (l .slots) (l .i) (l .n) (l .now) (l .inv .2)
 
-few : (c : tie.At-loop Inv-loop μ-loop) → c .loop .n ≤ length (c .loop .marks)
+few : (c : tie.At-loop Inv-loop μ-loop) → c .loop .n ≤ length (c .loop .slots)
 few c = let k = lowest c in let w = whole c in omega (arith, k, w, c .loop .inv .1)
 
-on : (c : tie.Then1 Inv-loop μ-loop) → T (offVariable (drop (c .before .before .loop .i) (Ref.now (c .before .before .before .before .before .args .text)))) → ⊥
-on c h = subst (λ (b : Bool). T b) (not-true (offVariable (drop (c .before .before .loop .i) (Ref.now (c .before .before .before .before .before .args .text)))) (sym (c .before .goes-on .ensures) ∙ c .if1 .taken)) h
+-- the function's start, as these places see it
+abbrev start-else1 : tie.Else1 Inv-loop μ-loop → tie.Start Inv-loop μ-loop
+start-else1 c = c .before .before .before .before .before
 
-off : (c : tie.Else1 Inv-loop μ-loop) → T (offVariable (drop (c .before .before .loop .i) (Ref.now (c .before .before .before .before .before .args .text))))
-off c = subst (λ (b : Bool). T b) (sym (not-false (offVariable (drop (c .before .before .loop .i) (Ref.now (c .before .before .before .before .before .args .text)))) (sym (c .before .goes-on .ensures) ∙ c .if1 .left))) tt
+abbrev start-then1 : tie.Then1 Inv-loop μ-loop → tie.Start Inv-loop μ-loop
+start-then1 c = c .before .before .before .before .before
 
-abbrev marks-then : (c : tie.After-variable-at Inv-loop μ-loop) → List ℕ
-marks-then c = lent (c .before .before .before .before .before .before .loop .n) (c .before .before .before .before .before .before .loop .marks) (c .variable-at .last .1 .1 .1 .0)
+abbrev start-after-variable-at : tie.After-variable-at Inv-loop μ-loop → tie.Start Inv-loop μ-loop
+start-after-variable-at c = c .before .before .before .before .before .before .before .before .before
 
-same : (c : tie.After-variable-at Inv-loop μ-loop) → length (marks-then c) ≡ length (c .before .before .before .before .before .before .loop .marks)
-same c = lent-length (c .before .before .before .before .before .before .loop .n) (c .before .before .before .before .before .before .loop .marks) (c .variable-at .last .1 .1 .1 .0) (few (c .before .before .before .before .before .before)) (c .variable-at .kept .1 .1 .1 .0)
+abbrev start-after-enter : tie.After-enter Inv-loop μ-loop → tie.Start Inv-loop μ-loop
+start-after-enter c = c .before .before .before .before .before .before .before .before .before .before .before .before .before .before .before .before
 
-sharing : (c : tie.After-variable-at Inv-loop μ-loop) → Sharing (Ref.now (c .before .before .before .before .before .before .before .before .before .args .text)) (c .before .before .before .before .before .before .before .before .before .args .at) (c .before .before .before .before .before .before .before .before .before .args .w) (marks-then c) (c .before .before .before .before .before .before .loop .i) (c .before .before .before .before .before .before .loop .n) (c .before .before .before .before .before .before .loop .now)
+on : (c : tie.Then1 Inv-loop μ-loop) → T (offVariable (drop (c .before .before .loop .i) (Ref.now (start-then1 c .args .text)))) → ⊥
+on c h = subst (λ (b : Bool). T b) (not-true (offVariable (drop (c .before .before .loop .i) (Ref.now (start-then1 c .args .text)))) (sym (c .before .goes-on .ensures) ∙ c .if1 .taken)) h
+
+off : (c : tie.Else1 Inv-loop μ-loop) → T (offVariable (drop (c .before .before .loop .i) (Ref.now (start-else1 c .args .text))))
+off c = subst (λ (b : Bool). T b) (sym (not-false (offVariable (drop (c .before .before .loop .i) (Ref.now (start-else1 c .args .text)))) (sym (c .before .goes-on .ensures) ∙ c .if1 .left))) tt
+
+abbrev slots-then : (c : tie.After-variable-at Inv-loop μ-loop) → List ℕ
+slots-then c =
+    let back-6 = c .before .before .before .before .before .before in
+    lent (back-6 .loop .n) (back-6 .loop .slots) (c .variable-at .last .1 .1 .1 .0)
+
+same : (c : tie.After-variable-at Inv-loop μ-loop) → length (slots-then c) ≡ length (c .before .before .before .before .before .before .loop .slots)
+same c =
+    let back-6 = c .before .before .before .before .before .before in
+    lent-length (back-6 .loop .n) (back-6 .loop .slots) (c .variable-at .last .1 .1 .1 .0) (few back-6) (c .variable-at .kept .1 .1 .1 .0)
+
+sharing : (c : tie.After-variable-at Inv-loop μ-loop) → Sharing (Ref.now (start-after-variable-at c .args .text)) (start-after-variable-at c .args .at) (start-after-variable-at c .args .w) (slots-then c)
+    (c .before .before .before .before .before .before .loop .i) (c .before .before .before .before .before .before .loop .n) (c .before .before .before .before .before .before .loop .now)
 sharing c =
-    let l = c .before .before .before .before .before .before .loop in
-    remarked (Ref.now (c .before .before .before .before .before .before .before .before .before .args .text)) (c .before .before .before .before .before .before .before .before .before .args .at) (c .before .before .before .before .before .before .before .before .before .args .w) (l .marks) (marks-then c) (l .i) (l .n) (l .now) (lent-front (l .n) (l .marks) (c .variable-at .last .1 .1 .1 .0) (few (c .before .before .before .before .before .before))) (l .inv .2)
+    let back-6 = c .before .before .before .before .before .before in
+    let start = back-6 .before .before .before in
+    let l = back-6 .loop in
+    reindexed (Ref.now (start .args .text)) (start .args .at) (start .args .w) (l .slots) (slots-then c) (l .i) (l .n) (l .now) (lent-front (l .n) (l .slots) (c .variable-at .last .1 .1 .1 .0) (few back-6)) (l .inv .2)
 
-entitled : (c : tie.After-line Inv-loop μ-loop) → Entitled (λ (v : Variable). v .name) textOf validVariable variableWeight offElement (Ref.now (c .before .before .before .before .before .before .before .before .before .before .before .before .before .args .text)) (c .before .before .before .before .before .before .before .before .before .before .loop .i) (c .before .before .before .before .before .before .before .before .before .before .loop .now) (c .line .given .0 .0) (c .line .given .0 .1 .0) (c .line .given .0 .1 .1 .0)
-entitled c = subst (λ k. VariableMeant (Ref.now (c .before .before .before .before .before .before .before .before .before .before .before .before .before .args .text)) (c .before .before .before .before .before .before .before .before .before .before .loop .i) (c .before .before .before .before .before .before .before .before .before .before .loop .now) k) (c .line .given .1) (c .before .before .before .before .variable-at .ensures)
+entitled : (c : tie.After-line Inv-loop μ-loop) → Entitled (λ (v : Variable). v .name) textOf validVariable variableWeight offElement
+    (Ref.now (c .before .before .before .before .before .before .before .before .before .before .before .before .before .args .text)) (c .before .before .before .before .before .before .before .before .before .before .loop .i)
+    (c .before .before .before .before .before .before .before .before .before .before .loop .now) (c .line .given .0 .0) (c .line .given .0 .1 .0) (c .line .given .0 .1 .1 .0)
+entitled c =
+    let back-10 = c .before .before .before .before .before .before .before .before .before .before in
+    let start = back-10 .before .before .before in
+    subst (λ k. VariableMeant (Ref.now (start .args .text)) (back-10 .loop .i) (back-10 .loop .now) k) (c .line .given .1) (c .before .before .before .before .variable-at .ensures)
 
-entered : (c : tie.After-enter Inv-loop μ-loop) (b : Bool) → c .enter .result ≡ b → (rows : List Row) → let l = c .before .before .before .before .before .before .before .before .before .before .before .before .before .loop in let t = Ref.now (c .before .before .before .before .before .before .before .before .before .before .before .before .before .before .before .before .args .text) in Rows rows (part t (c .before .before .before .before .before .before .before .before .before .before .before .before .before .before .before .before .args .at) (l .i)) (l .n) (marks-then (c .before .before .before .before .before .before .before))
-    → Entered rows (part t (l .i + 2) (c .before .before .before .line .given .0 .0)) (l .i - c .before .before .before .before .before .before .before .before .before .before .before .before .before .before .before .before .args .at) (l .n) (marks-then (c .before .before .before .before .before .before .before)) (c .enter .last .1 .1 .1 .1 .0) b
-entered c b e rows H = let l = c .before .before .before .before .before .before .before .before .before .before .before .before .before .loop in subst (λ k. Entered rows (part (Ref.now (c .before .before .before .before .before .before .before .before .before .before .before .before .before .before .before .before .args .text)) (l .i + 2) (c .before .before .before .line .given .0 .0)) (l .i - c .before .before .before .before .before .before .before .before .before .before .before .before .before .before .before .before .args .at) (l .n) (marks-then (c .before .before .before .before .before .before .before)) (c .enter .last .1 .1 .1 .1 .0) k) e (c .enter .ensures rows H)
+entered : (c : tie.After-enter Inv-loop μ-loop) (b : Bool) → c .enter .result ≡ b → (rows : List Row)
+    → let l = c .before .before .before .before .before .before .before .before .before .before .before .before .before .loop in let t = Ref.now (start-after-enter c .args .text) in Rows rows
+    (part t (start-after-enter c .args .at) (l .i)) (l .n) (slots-then (c .before .before .before .before .before .before .before))
+    → Entered rows (part t (l .i + 2) (c .before .before .before .line .given .0 .0)) (l .i - (start-after-enter c) .args .at) (l .n) (slots-then (c .before .before .before .before .before .before .before)) (c .enter .last .1 .1 .1 .1 .0) b
+entered c b e rows H =
+    let back-7 = c .before .before .before .before .before .before .before in
+    let back-13 = back-7 .before .before .before .before .before .before in
+    let start = back-13 .before .before .before in
+    let l = back-13 .loop in subst (λ k. Entered rows (part (Ref.now (start .args .text)) (l .i + 2) (c .before .before .before .line .given .0 .0)) (l .i - start .args .at) (l .n) (slots-then back-7) (c .enter .last .1 .1 .1 .1 .0) k) e (c .enter .ensures rows H)
 
 loop-holds : tie.Need-loop-holds Inv-loop μ-loop
 loop-holds c = (refl, c .before .before .pre .3, sharing-start (Ref.now (c .before .before .args .text)) (c .before .before .args .at) (c .before .before .args .w) _ (c .before .before .pre .0))
@@ -82,12 +113,15 @@ same-length c = c .before .before .before .before .loop .inv .0
 
 returns : tie.Need-returns Inv-loop μ-loop
 returns c =
-    let a = c .before .before .before .before .before .before .before .args in
+    let start = c .before .before .before .before .before .before .before in
+    let a = start .args in
     let l = c .before .before .before .before .loop in
-    variables-stray (Ref.now (a .text)) (a .at) (a .w) (l .marks) (l .i) (l .n) (l .now) (l .inv .2) (on (c .before .before)) (λ e. c .if2 .taken (c .before .byte-at .ensures ∙ e))
+    variables-stray (Ref.now (a .text)) (a .at) (a .w) (l .slots) (l .i) (l .n) (l .now) (l .inv .2) (on (c .before .before)) (λ e. c .if2 .taken (c .before .byte-at .ensures ∙ e))
 
 mul-variable-at : tie.Need-mul-variable-at Inv-loop μ-loop
-mul-variable-at c = let h = few (c .before .before .before .before) in let w = whole (c .before .before .before .before) in omega (arith, h, w)
+mul-variable-at c =
+    let back-4 = c .before .before .before .before in
+    let h = few back-4 in let w = whole back-4 in omega (arith, h, w)
 
 sub-variable-at : tie.Need-sub-variable-at Inv-loop μ-loop
 sub-variable-at c = let h = few (c .before .before .before .before) in omega (arith, h)
@@ -100,10 +134,11 @@ part-variable-at-end c = search needs
 
 variable-at-requires : tie.Need-variable-at-requires Inv-loop μ-loop
 variable-at-requires c κs =
-    let l = c .before .before .before .before .before .loop in
-    let k = lowest (c .before .before .before .before .before) in
-    let w = whole (c .before .before .before .before .before) in
-    let f = free-length (l .n) (l .marks) [] (few (c .before .before .before .before .before)) in (
+    let back-5 = c .before .before .before .before .before in
+    let l = back-5 .loop in
+    let k = lowest back-5 in
+    let w = whole back-5 in
+    let f = free-length (l .n) (l .slots) [] (few back-5) in (
       record {
         start = l .inv .2 .run .high;
         small = c .before .before .before .before .before .before .before .before .pre .1;
@@ -120,48 +155,77 @@ enum-told : tie.Need-enum-told Inv-loop μ-loop
 enum-told c = search needs
 
 same-length-2 : tie.Need-same-length-2 Inv-loop μ-loop
-same-length-2 c = same (c .before .before .before .before) ∙ c .before .before .before .before .before .before .before .before .before .before .loop .inv .0
+same-length-2 c =
+    let back-10 = c .before .before .before .before .before .before .before .before .before .before in
+    same (c .before .before .before .before) ∙ back-10 .loop .inv .0
 
 returns-2 : tie.Need-returns-2 Inv-loop μ-loop
 returns-2 c =
-    let a = c .before .before .before .before .before .before .before .before .before .before .before .before .before .args in
-    let l = c .before .before .before .before .before .before .before .before .before .before .loop in
-    variables-stuck (Ref.now (a .text)) (a .at) (a .w) (l .marks) (l .i) (l .n) (l .now) (l .inv .2) (on (c .before .before .before .before .before .before .before .before))
+    let back-8 = c .before .before .before .before .before .before .before .before in
+    let back-10 = back-8 .before .before in
+    let start = back-10 .before .before .before in
+    let a = start .args in
+    let l = back-10 .loop in
+    variables-stuck (Ref.now (a .text)) (a .at) (a .w) (l .slots) (l .i) (l .n) (l .now) (l .inv .2) (on back-8)
     (subst (λ k. VariableMeant (Ref.now (a .text)) (l .i) (l .now) k) (c .enum-told .given .1) (c .before .before .before .before .variable-at .ensures))
 
 enter-requires : tie.Need-enter-requires Inv-loop μ-loop
 enter-requires c κs =
-    let a = c .before .before .before .before .before .before .before .before .before .before .before .before .before .before .before .args in
-    let l = c .before .before .before .before .before .before .before .before .before .before .before .before .loop in
-    variable-entering (Ref.now (a .text)) (a .at) (a .w) (marks-then (c .before .before .before .before .before .before)) (l .i) (l .n) (l .now) (sharing (c .before .before .before .before .before .before)) (on (c .before .before .before .before .before .before .before .before .before .before)) _ _ _ (entitled (c .before .before)) (c .before .before .before .before .before .before .before .before .before .before .before .before .before .before .before .pre .1) (same (c .before .before .before .before .before .before) ∙ whole (c .before .before .before .before .before .before .before .before .before .before .before .before))
+    let back-6 = c .before .before .before .before .before .before in
+    let back-10 = back-6 .before .before .before .before in
+    let back-12 = back-10 .before .before in
+    let start = back-12 .before .before .before in
+    let a = start .args in
+    let l = back-12 .loop in
+    variable-entering (Ref.now (a .text)) (a .at) (a .w) (slots-then back-6) (l .i) (l .n) (l .now) (sharing back-6) (on back-10) _ _ _ (entitled (c .before .before)) (start .pre .1) (same back-6 ∙ whole back-12)
 
 same-length-3 : tie.Need-same-length-3 Inv-loop μ-loop
-same-length-3 c = c .before .before .before .enter .kept .1 .1 .1 .1 .0 ∙ (same (c .before .before .before .before .before .before .before .before .before .before) ∙ c .before .before .before .before .before .before .before .before .before .before .before .before .before .before .before .before .loop .inv .0)
+same-length-3 c =
+    let back-10 = c .before .before .before .before .before .before .before .before .before .before in
+    let back-16 = back-10 .before .before .before .before .before .before in
+    c .before .before .before .enter .kept .1 .1 .1 .1 .0 ∙ (same back-10 ∙ back-16 .loop .inv .0)
 
 returns-3 : tie.Need-returns-3 Inv-loop μ-loop
 returns-3 c =
-    let a = c .before .before .before .before .before .before .before .before .before .before .before .before .before .before .before .before .before .before .before .args in
-    let l = c .before .before .before .before .before .before .before .before .before .before .before .before .before .before .before .before .loop in
-    variable-again (Ref.now (a .text)) (a .at) (a .w) (marks-then (c .before .before .before .before .before .before .before .before .before .before)) (l .i) (l .n) (l .now) (sharing (c .before .before .before .before .before .before .before .before .before .before)) (on (c .before .before .before .before .before .before .before .before .before .before .before .before .before .before)) _ _ _ (entitled (c .before .before .before .before .before .before)) (c .before .before .before .before .before .before .before .before .before .before .before .before .before .before .before .before .before .before .before .pre .1) (c .before .before .before .enter .last .1 .1 .1 .1 .0) (entered (c .before .before .before) false (not-true (c .before .before .before .enter .result) (c .if3 .taken)))
+    let back-6 = c .before .before .before .before .before .before in
+    let back-10 = back-6 .before .before .before .before in
+    let back-14 = back-10 .before .before .before .before in
+    let back-16 = back-14 .before .before in
+    let start = back-16 .before .before .before in
+    let a = start .args in
+    let l = back-16 .loop in
+    variable-again (Ref.now (a .text)) (a .at) (a .w) (slots-then back-10) (l .i) (l .n) (l .now) (sharing back-10) (on back-14) _ _ _ (entitled back-6) (start .pre .1) (c .before .before .before .enter .last .1 .1 .1 .1 .0)
+    (entered (c .before .before .before) false (not-true (c .before .before .before .enter .result) (c .if3 .taken)))
 
 add-n : tie.Need-add-n Inv-loop μ-loop
-add-n c = let h = few (c .before .before .before .before .before .before .before .before .before .before .before .before .before .before .before .before) in let w = whole (c .before .before .before .before .before .before .before .before .before .before .before .before .before .before .before .before) in omega (arith, h, w)
+add-n c =
+    let back-16 = c .before .before .before .before .before .before .before .before .before .before .before .before .before .before .before .before in
+    let h = few back-16 in let w = whole back-16 in omega (arith, h, w)
 
 loop-less : tie.Need-loop-less Inv-loop μ-loop
 loop-less c =
-    let a = c .before .before .before .before .before .before .before .before .before .before .before .before .before .before .before .before .before .before .before .args in
-    let l = c .before .before .before .before .before .before .before .before .before .before .before .before .before .before .before .before .loop in
-    let h = variable-ahead (Ref.now (a .text)) (a .at) (a .w) (l .marks) (l .i) (l .n) (l .now) (l .inv .2) (on (c .before .before .before .before .before .before .before .before .before .before .before .before .before .before)) _ _ _ (entitled (c .before .before .before .before .before .before)) in
-    let k = entitled (c .before .before .before .before .before .before) .one .reads .high in
+    let back-6 = c .before .before .before .before .before .before in
+    let back-14 = back-6 .before .before .before .before .before .before .before .before in
+    let back-16 = back-14 .before .before in
+    let start = back-16 .before .before .before in
+    let a = start .args in
+    let l = back-16 .loop in
+    let h = variable-ahead (Ref.now (a .text)) (a .at) (a .w) (l .slots) (l .i) (l .n) (l .now) (l .inv .2) (on back-14) _ _ _ (entitled back-6) in
+    let k = entitled back-6 .one .reads .high in
     omega (arith, h, k)
 
 loop-again : tie.Need-loop-again Inv-loop μ-loop
 loop-again c =
-    let a = c .before .before .before .before .before .before .before .before .before .before .before .before .before .before .before .before .before .before .before .args in
-    let l = c .before .before .before .before .before .before .before .before .before .before .before .before .before .before .before .before .loop in (
-      c .before .before .before .enter .kept .1 .1 .1 .1 .0 ∙ (same (c .before .before .before .before .before .before .before .before .before .before) ∙ l .inv .0),
-      variable-light (Ref.now (a .text)) (a .at) (a .w) (l .marks) (l .i) (l .n) (l .now) (l .inv .2) (on (c .before .before .before .before .before .before .before .before .before .before .before .before .before .before)) _ _ _ (entitled (c .before .before .before .before .before .before)),
-      variable-next (Ref.now (a .text)) (a .at) (a .w) (marks-then (c .before .before .before .before .before .before .before .before .before .before)) (l .i) (l .n) (l .now) (sharing (c .before .before .before .before .before .before .before .before .before .before)) (on (c .before .before .before .before .before .before .before .before .before .before .before .before .before .before)) _ _ _ (entitled (c .before .before .before .before .before .before)) (c .before .before .before .before .before .before .before .before .before .before .before .before .before .before .before .before .before .before .before .pre .1) (c .before .before .before .enter .last .1 .1 .1 .1 .0) (same (c .before .before .before .before .before .before .before .before .before .before) ∙ whole (c .before .before .before .before .before .before .before .before .before .before .before .before .before .before .before .before))
+    let back-6 = c .before .before .before .before .before .before in
+    let back-10 = back-6 .before .before .before .before in
+    let back-14 = back-10 .before .before .before .before in
+    let back-16 = back-14 .before .before in
+    let start = back-16 .before .before .before in
+    let a = start .args in
+    let l = back-16 .loop in (
+      c .before .before .before .enter .kept .1 .1 .1 .1 .0 ∙ (same back-10 ∙ l .inv .0),
+      variable-light (Ref.now (a .text)) (a .at) (a .w) (l .slots) (l .i) (l .n) (l .now) (l .inv .2) (on back-14) _ _ _ (entitled back-6),
+      variable-next (Ref.now (a .text)) (a .at) (a .w) (slots-then back-10) (l .i) (l .n) (l .now) (sharing back-10) (on back-14) _ _ _ (entitled back-6) (start .pre .1) (c .before .before .before .enter .last .1 .1 .1 .1 .0) (same back-10 ∙ whole back-16)
           (entered (c .before .before .before) true (not-false (c .before .before .before .enter .result) (c .if3 .left))),
     )
 
@@ -170,8 +234,9 @@ same-length-4 c = c .before .before .loop .inv .0
 
 returns-4 : tie.Need-returns-4 Inv-loop μ-loop
 returns-4 c =
+    let start = c .before .before .before .before .before in
     let l = c .before .before .loop in
-    variables-good (Ref.now (c .before .before .before .before .before .args .text)) (c .before .before .before .before .before .args .at) (c .before .before .before .before .before .args .w) (l .marks) (l .i) (l .n) (l .now) (l .inv .2) (off (c)) (l .inv .1) (c .before .before .before .before .before .pre .1)
+    variables-good (Ref.now (start .args .text)) (start .args .at) (start .args .w) (l .slots) (l .i) (l .n) (l .now) (l .inv .2) (off (c)) (l .inv .1) (start .pre .1)
 
 pub variables-spec : {M : Type 1} → statement M
 variables-spec =

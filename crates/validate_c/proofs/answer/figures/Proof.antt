@@ -33,12 +33,14 @@ same-length c = search needs
 
 returns : tie.Need-returns
 returns c =
-    let a = c .before .before .before .before .before .before .before .before .before .before .before .args in
+    let back-7 = c .before .before .before .before .before .before .before in
+    let start = back-7 .before .before .before .before in
+    let a = start .args in
     let n : ℕ = a .parts .asserted in
     let z : n - 0 ≡ n = omega arith in
-    let m : length (take n (a .standing .now)) ≡ n = length-take-le n (a .standing .now) (c .before .before .before .before .before .before .before .before .before .before .before .pre .0) in
-    says-both (tally (a .parts)) (take n (a .standing .now)) (a .out .now) _ _ (omega (arith, m))
-    (c .before .before .copy-numbers .ensures ∙ (λ i. over (c .before .before .before .before .before .before .before .head .ensures i) 7 (take (z i) (a .standing .now))))
+    let m : length (take n (a .assertions .now)) ≡ n = length-take-le n (a .assertions .now) (start .pre .0) in
+    says-both (tally (a .parts)) (take n (a .assertions .now)) (a .out .now) _ _ (omega (arith, m))
+    (c .before .before .copy-numbers .ensures ∙ (λ i. over (back-7 .head .ensures i) 7 (take (z i) (a .assertions .now))))
 
 pub figures-spec : {M : Type 1} → statement M
 figures-spec =

@@ -40,8 +40,8 @@ returns c =
     let a = c .before .before .args in
     let p = a .parts in
     let l = a .out .now in
-    seven (c .bit .result) (p .count) (p .weight) (p .people) (p .delegator) (p .vars) (p .asserted) l (c .before .before .pre)
-    ∙ ap (λ (v : ℕ). (v ∷ p .count ∷ p .weight ∷ p .people ∷ p .delegator ∷ p .vars ∷ p .asserted ∷ []) ++ drop 7 l) (c .bit .ensures)
+    seven (c .bit .result) (p .count) (p .weight) (p .principals) (p .delegator) (p .vars) (p .asserted) l (c .before .before .pre)
+    ∙ ap (λ (v : ℕ). (v ∷ p .count ∷ p .weight ∷ p .principals ∷ p .delegator ∷ p .vars ∷ p .asserted ∷ []) ++ drop 7 l) (c .bit .ensures)
 
 pub head-spec : {M : Type 1} → statement M
 head-spec =

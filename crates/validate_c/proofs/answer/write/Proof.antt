@@ -17,7 +17,8 @@ same-length c = search needs
 
 returns : tie.Need-returns
 returns c =
-    let a = c .before .before .before .before .before .before .args in
+    let start = c .before .before .before .before .before .before in
+    let a = start .args in
     says-found (a .number) (a .text .now) (a .out .now) _ _ (search needs) (c .before .before .copy .ensures)
 
 pub write-spec : {M : Type 1} → statement M

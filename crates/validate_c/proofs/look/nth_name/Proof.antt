@@ -9,11 +9,16 @@ use borrow.Author.Needs.{needs}
 use Rattle.validate_c.proofs.look.nth_name.Statement.{statement}
 use Rattle.validate_c.proofs.look.nth_name.Tie as tie
 
-safe : (c : tie.After-nth) → Lies (c .before .before .before .before .before .args .text .now) (c .nth .result)
+-- the function's start, as these places see it
+abbrev start-after-nth : tie.After-nth → tie.Start
+start-after-nth c = c .before .before .before .before .before
+
+safe : (c : tie.After-nth) → Lies (start-after-nth c .args .text .now) (c .nth .result)
 safe c =
-    let a = c .before .before .before .before .before .args in
-    let p = c .before .before .before .before .before .pre .0 in
-    lies (p .rows) (a .text .now) (a .count) (a .marks .now) (p .held) (a .number) (c .before .if1 .left) (c .nth .result) (c .nth .ensures (p .rows) (p .held))
+    let start = start-after-nth c in
+    let a = start .args in
+    let p = start .pre .0 in
+    lies (p .rows) (a .text .now) (a .count) (a .slots .now) (p .held) (a .number) (c .before .if1 .left) (c .nth .result) (c .nth .ensures (p .rows) (p .held))
 
 returns : tie.Need-returns
 returns c rows H =
@@ -49,10 +54,13 @@ same-length c = search needs
 
 returns-2 : tie.Need-returns-2
 returns-2 c rows H =
-    let a = c .before .before .before .before .before .before .before .before .before .before .args in
-    let g = c .before .before .before .before .before .nth .result in
+    let back-5 = c .before .before .before .before .before in
+    let back-6 = back-5 .before in
+    let start = back-6 .before .before .before .before in
+    let a = start .args in
+    let g = back-5 .nth .result in
     subst (λ (l : Look). Says l (a .out .now) (c .before .before .write .last .1 .1 .0) (c .before .before .write .result))
-    (sym (name-here rows (a .number) (a .text .now) (a .count) (a .marks .now) H (c .before .before .before .before .before .before .if1 .left) g (c .before .before .before .before .before .nth .ensures rows H)))
+    (sym (name-here rows (a .number) (a .text .now) (a .count) (a .slots .now) H (back-6 .if1 .left) g (back-5 .nth .ensures rows H)))
     (c .before .before .write .ensures)
 
 pub nth-name-spec : {M : Type 1} → statement M

@@ -5,7 +5,7 @@ use native.Mathlib.Omega.{arith}
 use Rattle.language.specs.State.{Variable}
 use Rattle.store.specs.Held.{Variables}
 use Rattle.store.specs.Rows.{place, variableRow}
-use Rattle.store.specs.declared.mark.Found.the-variants.{At}
+use Rattle.store.specs.declared.index.Found.the-variants.{At}
 use Rattle.store.proofs.Holders.{variables-rows, some-variables}
 use Rattle.store.proofs.Answers.{variable-found}
 use Rattle.edits.proofs.Splicing.{length-part}
@@ -15,24 +15,31 @@ use borrow.Author.Needs.{needs}
 use Rattle.validate_c.proofs.look.variable.Statement.{statement}
 use Rattle.validate_c.proofs.look.variable.Tie as tie
 
-here : (c : tie.After-place) (vs : List Variable) → let a = c .before .before .before .before .before .before .before .args in Variables vs (a .text .now) (a .count) (a .marks .now)
+-- the function's start, as these places see it
+abbrev start-after-place : tie.After-place → tie.Start
+start-after-place c = c .before .before .before .before .before .before .before
+
+here : (c : tie.After-place) (vs : List Variable) → let a = (start-after-place c) .args in Variables vs (a .text .now) (a .count) (a .slots .now)
     → At (c .place .given .0 .0) (c .place .given .0 .1 .0) (c .place .given .0 .1 .1 .0) ≡ place (map variableRow vs) (a .name .now)
 here c vs W =
-    let a = c .before .before .before .before .before .before .before .args in
-    sym (c .place .given .1) ∙ c .before .before .find .ensures (map variableRow vs) (variables-rows vs (a .text .now) (a .count) (a .marks .now) W)
+    let start = start-after-place c in
+    let a = start .args in
+    sym (c .place .given .1) ∙ c .before .before .find .ensures (map variableRow vs) (variables-rows vs (a .text .now) (a .count) (a .slots .now) W)
 
-below : (c : tie.After-place) → c .place .given .0 .0 < c .before .before .before .before .before .before .before .args .count
+below : (c : tie.After-place) → c .place .given .0 .0 < (start-after-place c) .args .count
 below c =
-    let a = c .before .before .before .before .before .before .before .args in
-    let p = c .before .before .before .before .before .before .before .pre .0 in
-    let F = variable-found (p .rows) (a .text .now) (a .count) (a .marks .now) (p .held) (a .name .now) (c .place .given .0 .0) (c .place .given .0 .1 .0) (c .place .given .0 .1 .1 .0) (here c (p .rows) (p .held)) in
+    let start = start-after-place c in
+    let a = start .args in
+    let p = start .pre .0 in
+    let F = variable-found (p .rows) (a .text .now) (a .count) (a .slots .now) (p .held) (a .name .now) (c .place .given .0 .0) (c .place .given .0 .1 .0) (c .place .given .0 .1 .1 .0) (here c (p .rows) (p .held)) in
     omega (arith, F .below, p .held .counted)
 
 find-requires : tie.Need-find-requires
 find-requires c κs =
-    let a = c .before .before .before .before .args in
-    let p = c .before .before .before .before .pre .0 in
-    some-variables (p .rows) (a .text .now) (a .count) (a .marks .now) (p .held)
+    let start = c .before .before .before .before in
+    let a = start .args in
+    let p = start .pre .0 in
+    some-variables (p .rows) (a .text .now) (a .count) (a .slots .now) (p .held)
 
 enum-known-place : tie.Need-enum-known-place
 enum-known-place c = search needs
@@ -42,25 +49,33 @@ enum-told c = search needs
 
 returns : tie.Need-returns
 returns c vs W =
-    let a = c .before .before .before .before .before .before .before .args in
+    let start = c .before .before .before .before .before .before .before in
+    let a = start .args in
     subst (λ (l : Look). Says l (a .out .now) (a .out .now) 4294967298)
-    (sym (variable-gone vs (a .name .now) (sym (c .enum-told .given .1) ∙ c .before .before .find .ensures (map variableRow vs) (variables-rows vs (a .text .now) (a .count) (a .marks .now) W))))
+    (sym (variable-gone vs (a .name .now) (sym (c .enum-told .given .1) ∙ c .before .before .find .ensures (map variableRow vs) (variables-rows vs (a .text .now) (a .count) (a .slots .now) W))))
     (record { number-is = refl; written = refl })
 
 value-of-requires : tie.Need-value-of-requires
 value-of-requires c κs =
-    let a = c .before .before .before .before .before .before .before .before .args in
-    let p = c .before .before .before .before .before .before .before .before .pre .0 in
-    (some-variables (p .rows) (a .text .now) (a .count) (a .marks .now) (p .held), below (c .before))
+    let start = c .before .before .before .before .before .before .before .before in
+    let a = start .args in
+    let p = start .pre .0 in
+    (some-variables (p .rows) (a .text .now) (a .count) (a .slots .now) (p .held), below (c .before))
 
 sub-write : tie.Need-sub-write
-sub-write c = c .value-of .ensures (c .before .before .before .before .before .before .before .before .before .pre .0 .rows) (c .before .before .before .before .before .before .before .before .before .pre .0 .held) .order
+sub-write c =
+    let start = c .before .before .before .before .before .before .before .before .before in
+    c .value-of .ensures (start .pre .0 .rows) (start .pre .0 .held) .order
 
 part-write-start : tie.Need-part-write-start
-part-write-start c = let w = c .value-of .ensures (c .before .before .before .before .before .before .before .before .before .pre .0 .rows) (c .before .before .before .before .before .before .before .before .before .pre .0 .held) in omega (arith, w .order, w .within)
+part-write-start c =
+    let start = c .before .before .before .before .before .before .before .before .before in
+    let w = c .value-of .ensures (start .pre .0 .rows) (start .pre .0 .held) in omega (arith, w .order, w .within)
 
 part-write-end : tie.Need-part-write-end
-part-write-end c = let w = c .value-of .ensures (c .before .before .before .before .before .before .before .before .before .pre .0 .rows) (c .before .before .before .before .before .before .before .before .before .pre .0 .held) in omega (arith, w .order, w .within)
+part-write-end c =
+    let start = c .before .before .before .before .before .before .before .before .before in
+    let w = c .value-of .ensures (start .pre .0 .rows) (start .pre .0 .held) in omega (arith, w .order, w .within)
 
 write-requires : tie.Need-write-requires
 write-requires c κs =
@@ -75,11 +90,13 @@ same-length c = search needs
 
 returns-2 : tie.Need-returns-2
 returns-2 c vs W =
+    let back-5 = c .before .before .before .before .before in
+    let back-7 = back-5 .before .before in
     let a = c .before .before .before .before .before .before .before .before .before .before .before .before .before .before .args in
-    let f = c .before .before .before .before .before .before .before .place .given .0 in
-    let g = c .before .before .before .before .before .value-of .result in
+    let f = back-7 .place .given .0 in
+    let g = back-5 .value-of .result in
     subst (λ (l : Look). Says l (a .out .now) (c .before .before .write .last .1 .1 .0) (c .before .before .write .result))
-    (sym (variable-here vs (a .name .now) (f .0) (f .1 .0) (f .1 .1 .0) (here (c .before .before .before .before .before .before .before) vs W) (a .text .now) (g .start) (g .end) (c .before .before .before .before .before .value-of .ensures vs W)))
+    (sym (variable-here vs (a .name .now) (f .0) (f .1 .0) (f .1 .1 .0) (here back-7 vs W) (a .text .now) (g .start) (g .end) (back-5 .value-of .ensures vs W)))
     (c .before .before .write .ensures)
 
 pub variable-spec : {M : Type 1} → statement M

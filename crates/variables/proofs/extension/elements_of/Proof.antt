@@ -26,13 +26,19 @@ enum-told-3 : tie.Need-enum-told-3
 enum-told-3 c = search needs
 
 returns : tie.Need-returns
-returns c v W = adds-by v (c .before .before .before .before .args .value .now) (c .before .before .before .before .args .weight) W (c .before .before .kind-of .result) Is.Text (c .before .before .kind-of .ensures v (W .held)) (c .enum-told .given .1)
+returns c v W =
+    let start = c .before .before .before .before in
+    adds-by v (start .args .value .now) (start .args .weight) W (c .before .before .kind-of .result) Is.Text (c .before .before .kind-of .ensures v (W .held)) (c .enum-told .given .1)
 
 returns-2 : tie.Need-returns-2
-returns-2 c v W = adds-by v (c .before .before .before .before .args .value .now) (c .before .before .before .before .args .weight) W (c .before .before .kind-of .result) Is.Record (c .before .before .kind-of .ensures v (W .held)) (c .enum-told2 .given .1)
+returns-2 c v W =
+    let start = c .before .before .before .before in
+    adds-by v (start .args .value .now) (start .args .weight) W (c .before .before .kind-of .result) Is.Record (c .before .before .kind-of .ensures v (W .held)) (c .enum-told2 .given .1)
 
 returns-3 : tie.Need-returns-3
-returns-3 c v W = adds-by v (c .before .before .before .before .args .value .now) (c .before .before .before .before .args .weight) W (c .before .before .kind-of .result) Is.List (c .before .before .kind-of .ensures v (W .held)) (c .enum-told3 .given .1)
+returns-3 c v W =
+    let start = c .before .before .before .before in
+    adds-by v (start .args .value .now) (start .args .weight) W (c .before .before .kind-of .result) Is.List (c .before .before .kind-of .ensures v (W .held)) (c .enum-told3 .given .1)
 
 pub elements-of-spec : {M : Type 1} → statement M
 elements-of-spec =

@@ -12,8 +12,8 @@ use Rattle.language.specs.Weight.{limit}
 use Rattle.language.specs.Commands.{assign, sessionWeight}
 use Rattle.store.specs.Rows.{variableRow, place}
 use Rattle.store.proofs.Holders.{variables-rows, some-variables}
-use Rattle.running.specs.declared.Layout.{Layout}
-use Rattle.running.specs.Sessions.{slices, Running}
+use Rattle.session.specs.declared.Layout.{Layout}
+use Rattle.session.specs.Sessions.{slices, Running}
 use Rattle.variables.proofs.Weighing.{both-valid, put-full, put-done}
 use Rattle.variables.proofs.Extending.{extend-adds, in-first, in-second}
 use Rattle.variables.specs.Extensions.{addedBy, Adds}
@@ -23,30 +23,45 @@ use borrow.Author.Needs.{needs}
 use Rattle.variables.proofs.extension.join.Statement.{statement}
 use Rattle.variables.proofs.extension.join.Tie as tie
 
-looked-up : (c : tie.After-find) → let a = c .before .before .before .before .before .before .before .before .before .before .before .before .before .args in (s : Session)
-    → Running s (a .l) (slices (a .people .now) (a .people-marks .now) (a .vars .now) (a .var-marks .now) (a .locals .now) (a .local-marks .now) (a .standing .now))
+-- the function's start, as these places see it
+abbrev start-after-elements-of : tie.After-elements-of → tie.Start
+start-after-elements-of c = c .before .before .before .before .before .before .before .before .before .before
+
+abbrev start-after-find : tie.After-find → tie.Start
+start-after-find c = c .before .before .before .before .before .before .before .before .before .before .before .before .before
+
+looked-up : (c : tie.After-find) → let a = (start-after-find c) .args in (s : Session)
+    → Running s (a .l) (slices (a .principals .now) (a .principal-slots .now) (a .vars .now) (a .variable-slots .now) (a .locals .now) (a .local-slots .now) (a .assertions .now))
     → c .find .result ≡ place (map variableRow (s .locals)) (a .name .now)
 looked-up c s R =
-    let a = c .before .before .before .before .before .before .before .before .before .before .before .before .before .args in
-    c .find .ensures (map variableRow (s .locals)) (variables-rows (s .locals) (take (a .l .«locals_len») (a .locals .now)) (a .l .locals) (a .local-marks .now) (R .local-variables))
+    let start = start-after-find c in
+    let a = start .args in
+    c .find .ensures (map variableRow (s .locals)) (variables-rows (s .locals) (take (a .l .«locals_len») (a .locals .now)) (a .l .locals) (a .local-slots .now) (R .local-variables))
 
-its-own : (c : tie.After-elements-of) → Adds (c .before .before .before .before .before .before .before .before .before .before .pre .1 .1 .value) (c .before .before .before .before .before .before .before .before .before .before .args .value .now) (c .elements-of .result .from) (c .elements-of .result .weight)
-its-own c = c .elements-of .ensures (c .before .before .before .before .before .before .before .before .before .before .pre .1 .1 .value) (c .before .before .before .before .before .before .before .before .before .before .pre .1 .1 .is-value)
+its-own : (c : tie.After-elements-of) → Adds (start-after-elements-of c .pre .1 .1 .value) (start-after-elements-of c .args .value .now) (c .elements-of .result .from) (c .elements-of .result .weight)
+its-own c =
+    let start = start-after-elements-of c in
+    c .elements-of .ensures (start .pre .1 .1 .value) (start .pre .1 .1 .is-value)
 
 elements-of-requires : tie.Need-elements-of-requires
-elements-of-requires c κs = c .before .before .before .before .before .before .before .before .before .pre .1 .1
+elements-of-requires c κs =
+    let start = c .before .before .before .before .before .before .before .before .before in
+    start .pre .1 .1
 
 slice-reshare-prefix-find : tie.Need-slice-reshare-prefix-find
 slice-reshare-prefix-find c = search needs
 
 slice-aggregate-find : tie.Need-slice-aggregate-find
-slice-aggregate-find c = sym (length-take-le _ _ (c .before .before .before .before .before .before .before .before .before .before .before .pre .0 .running .locals-within))
+slice-aggregate-find c =
+    let start = c .before .before .before .before .before .before .before .before .before .before .before in
+    sym (length-take-le _ _ (start .pre .0 .running .locals-within))
 
 find-requires : tie.Need-find-requires
 find-requires c κs =
-    let a = c .before .before .before .before .before .before .before .before .before .before .before .before .args in
-    let S = c .before .before .before .before .before .before .before .before .before .before .before .before .pre .0 in
-    some-variables (S .session .locals) (take (a .l .«locals_len») (a .locals .now)) (a .l .locals) (a .local-marks .now) (S .running .local-variables)
+    let start = c .before .before .before .before .before .before .before .before .before .before .before .before in
+    let a = start .args in
+    let S = start .pre .0 in
+    some-variables (S .session .locals) (take (a .l .«locals_len») (a .locals .now)) (a .l .locals) (a .local-slots .now) (S .running .local-variables)
 
 enum-known-found : tie.Need-enum-known-found
 enum-known-found c = search needs
@@ -55,29 +70,38 @@ enum-told : tie.Need-enum-told
 enum-told c = search needs
 
 sub-join-shared : tie.Need-sub-join-shared
-sub-join-shared c = omega (arith, its-own (c .before .before .before .before .before .before .before) .within)
+sub-join-shared c =
+    let back-7 = c .before .before .before .before .before .before .before in
+    omega (arith, its-own back-7 .within)
 
 part-join-shared-start : tie.Need-part-join-shared-start
-part-join-shared-start c = omega (arith, its-own (c .before .before .before .before .before .before .before) .within)
+part-join-shared-start c =
+    let back-7 = c .before .before .before .before .before .before .before in
+    omega (arith, its-own back-7 .within)
 
 part-join-shared-end : tie.Need-part-join-shared-end
-part-join-shared-end c = omega (arith, its-own (c .before .before .before .before .before .before .before) .within)
+part-join-shared-end c =
+    let back-7 = c .before .before .before .before .before .before .before in
+    omega (arith, its-own back-7 .within)
 
 join-shared-requires : tie.Need-join-shared-requires
 join-shared-requires c κs =
-    let a = c .before .before .before .before .before .before .before .before .before .before .before .before .before .before .before .before .before .before .args in
-    let S = c .before .before .before .before .before .before .before .before .before .before .before .before .before .before .before .before .before .before .pre .0 in
-    let A = its-own (c .before .before .before .before .before .before .before .before) in
-    let n = not-there (S .session .locals) (take (a .l .«locals_len») (a .locals .now)) (a .l .locals) (a .local-marks .now) (S .running .local-variables) (a .name .now) (c .before .before .before .before .before .find .result) (looked-up (c .before .before .before .before .before) (S .session) (S .running))
+    let back-5 = c .before .before .before .before .before in
+    let back-8 = back-5 .before .before .before in
+    let start = back-8 .before .before .before .before .before .before .before .before .before .before in
+    let a = start .args in
+    let S = start .pre .0 in
+    let A = its-own back-8 in
+    let n = not-there (S .session .locals) (take (a .l .«locals_len») (a .locals .now)) (a .l .locals) (a .local-slots .now) (S .running .local-variables) (a .name .now) (back-5 .find .result) (looked-up back-5 (S .session) (S .running))
     (c .before .before .before .enum-told .given .1) in (
       record {
-        some-shared = record { session = S .session; locals = a .locals .now; local-marks = a .local-marks .now; running = S .running };
+        some-shared = record { session = S .session; locals = a .locals .now; local-slots = a .local-slots .now; running = S .running };
         elements = S .elements;
-        more = addedBy (c .before .before .before .before .before .before .before .before .before .before .before .before .before .before .before .before .before .before .pre .1 .1 .value);
+        more = addedBy (start .pre .1 .1 .value);
         is-list = in-second (valueIn (S .session .locals) (a .name .now)) (valueIn (S .session .store .variables) (a .name .now)) n (S .is-list);
         extra = A .extra;
       },
-      c .before .before .before .before .before .before .before .before .before .before .before .before .before .before .before .before .before .before .pre .1 .0,
+      start .pre .1 .0,
       A .small,
     )
 
@@ -95,38 +119,51 @@ same-length-4 c = search needs
 
 returns : tie.Need-returns
 returns c s v es R i W =
-    let a = c .before .before .before .before .before .before .before .before .before .before .before .before .before .before .before .before .before .before .before .before .before .before .before .args in
+    let back-8 = c .before .before .before .before .before .before .before .before in
+    let back-10 = back-8 .before .before in
+    let back-13 = back-10 .before .before .before in
+    let start = back-13 .before .before .before .before .before .before .before .before .before .before in
+    let a = start .args in
     let J = c .before .before .before .before .join-shared in
-    let n = not-there (s .locals) (take (a .l .«locals_len») (a .locals .now)) (a .l .locals) (a .local-marks .now) (R .local-variables) (a .name .now) (c .before .before .before .before .before .before .before .before .before .before .find .result) (looked-up (c .before .before .before .before .before .before .before .before .before .before) s R) (c .before .before .before .before .before .before .before .before .enum-told .given .1) in
-    subst (λ (z : List Element). Assigns (J .result) (assign s (a .name .now) (list z)) (slices (a .people .now) (a .people-marks .now) (J .last .1 .1 .0) (J .last .1 .1 .1 .0) (a .locals .now) (a .local-marks .now) (a .standing .now)))
-    (extend-adds es v) (J .ensures s (a .locals .now) (a .local-marks .now) es (addedBy v) R n (in-second (valueIn (s .locals) (a .name .now)) (valueIn (s .store .variables) (a .name .now)) n i) (c .before .before .before .before .before .before .before .before .before .before .before .before .before .elements-of .ensures v W .extra))
+    let n = not-there (s .locals) (take (a .l .«locals_len») (a .locals .now)) (a .l .locals) (a .local-slots .now) (R .local-variables) (a .name .now) (back-10 .find .result) (looked-up back-10 s R) (back-8 .enum-told .given .1) in
+    subst (λ (z : List Element). Assigns (J .result) (assign s (a .name .now) (list z)) (slices (a .principals .now) (a .principal-slots .now) (J .last .1 .1 .0) (J .last .1 .1 .1 .0) (a .locals .now) (a .local-slots .now) (a .assertions .now)))
+    (extend-adds es v) (J .ensures s (a .locals .now) (a .local-slots .now) es (addedBy v) R n (in-second (valueIn (s .locals) (a .name .now)) (valueIn (s .store .variables) (a .name .now)) n i) (back-13 .elements-of .ensures v W .extra))
 
 sub-extend : tie.Need-sub-extend
-sub-extend c = omega (arith, its-own (c .before .before .before .before .before .before .before .before) .within)
+sub-extend c =
+    let back-8 = c .before .before .before .before .before .before .before .before in
+    omega (arith, its-own back-8 .within)
 
 part-extend-start : tie.Need-part-extend-start
-part-extend-start c = omega (arith, its-own (c .before .before .before .before .before .before .before .before) .within)
+part-extend-start c =
+    let back-8 = c .before .before .before .before .before .before .before .before in
+    omega (arith, its-own back-8 .within)
 
 part-extend-end : tie.Need-part-extend-end
-part-extend-end c = omega (arith, its-own (c .before .before .before .before .before .before .before .before) .within)
+part-extend-end c =
+    let back-8 = c .before .before .before .before .before .before .before .before in
+    omega (arith, its-own back-8 .within)
 
 extend-requires : tie.Need-extend-requires
 extend-requires c κs =
-    let a = c .before .before .before .before .before .before .before .before .before .before .before .before .before .before .before .before .before .before .before .args in
-    let S = c .before .before .before .before .before .before .before .before .before .before .before .before .before .before .before .before .before .before .before .pre .0 in
-    let A = its-own (c .before .before .before .before .before .before .before .before .before) in
-    let b = slices (a .people .now) (a .people-marks .now) (a .vars .now) (a .var-marks .now) (a .locals .now) (a .local-marks .now) (a .standing .now) in
+    let back-6 = c .before .before .before .before .before .before in
+    let back-9 = back-6 .before .before .before in
+    let start = back-9 .before .before .before .before .before .before .before .before .before .before in
+    let a = start .args in
+    let S = start .pre .0 in
+    let A = its-own back-9 in
+    let b = slices (a .principals .now) (a .principal-slots .now) (a .vars .now) (a .variable-slots .now) (a .locals .now) (a .local-slots .now) (a .assertions .now) in
     let f = c .before .before .before .before .found .given in
-    let q = looked-up (c .before .before .before .before .before .before) (S .session) (S .running) in
+    let q = looked-up back-6 (S .session) (S .running) in
     let t = take (a .l .«locals_len») (a .locals .now) in
-    let F = there (S .session .locals) t (a .l .locals) (a .local-marks .now) (S .running .local-variables) (a .name .now) (c .before .before .before .before .before .before .find .result) q (f .0 .0) (f .0 .1 .0) (f .0 .1 .1 .0) (f .1) in (
+    let F = there (S .session .locals) t (a .l .locals) (a .local-slots .now) (S .running .local-variables) (a .name .now) (back-6 .find .result) q (f .0 .0) (f .0 .1 .0) (f .0 .1 .1 .0) (f .1) in (
       record {
         variables = S .session .locals;
         name = a .name .now;
         elements = S .elements;
-        more = addedBy (c .before .before .before .before .before .before .before .before .before .before .before .before .before .before .before .before .before .before .before .pre .1 .1 .value);
+        more = addedBy (start .pre .1 .1 .value);
         lies = locals-lie (S .session) (a .l) b (S .running);
-        below = there-below (S .session .locals) t (a .l .locals) (a .local-marks .now) (S .running .local-variables) (a .name .now) (c .before .before .before .before .before .before .find .result) q (f .0 .0) (f .0 .1 .0) (f .0 .1 .1 .0) (f .1);
+        below = there-below (S .session .locals) t (a .l .locals) (a .local-slots .now) (S .running .local-variables) (a .name .now) (back-6 .find .result) q (f .0 .0) (f .0 .1 .0) (f .0 .1 .1 .0) (f .1);
         is-number = F .number;
         is-list = in-first (valueIn (S .session .locals) (a .name .now)) (valueIn (S .session .store .variables) (a .name .now)) (F .is-value) (S .is-list);
         extra = A .extra;
@@ -149,16 +186,21 @@ same-length-6 c = search needs
 
 returns-2 : tie.Need-returns-2
 returns-2 c s v es R i W =
-    let a = c .before .before .before .before .before .before .before .before .before .before .before .before .before .before .before .before .before .before .before .before .before .before .before .before .before .before .args in
-    let b = slices (a .people .now) (a .people-marks .now) (a .vars .now) (a .var-marks .now) (a .locals .now) (a .local-marks .now) (a .standing .now) in
-    let f = c .before .before .before .before .before .before .before .before .before .before .before .found .given in
-    let E = c .before .before .before .before .before .before .extend in
+    let back-6 = c .before .before .before .before .before .before in
+    let back-11 = back-6 .before .before .before .before .before in
+    let back-13 = back-11 .before .before in
+    let back-16 = back-13 .before .before .before in
+    let start = back-16 .before .before .before .before .before .before .before .before .before .before in
+    let a = start .args in
+    let b = slices (a .principals .now) (a .principal-slots .now) (a .vars .now) (a .variable-slots .now) (a .locals .now) (a .local-slots .now) (a .assertions .now) in
+    let f = back-11 .found .given in
+    let E = back-6 .extend in
     let t = take (a .l .«locals_len») (a .locals .now) in
-    let q = looked-up (c .before .before .before .before .before .before .before .before .before .before .before .before .before) s R in
+    let q = looked-up back-13 s R in
     let fs = addedBy v in
-    let X = c .before .before .before .before .before .before .before .before .before .before .before .before .before .before .before .before .elements-of .ensures v W .extra in
-    let k = there-below (s .locals) t (a .l .locals) (a .local-marks .now) (R .local-variables) (a .name .now) (c .before .before .before .before .before .before .before .before .before .before .before .before .before .find .result) q (f .0 .0) (f .0 .1 .0) (f .0 .1 .1 .0) (f .1) in
-    let F = there (s .locals) t (a .l .locals) (a .local-marks .now) (R .local-variables) (a .name .now) (c .before .before .before .before .before .before .before .before .before .before .before .before .before .find .result) q (f .0 .0) (f .0 .1 .0) (f .0 .1 .1 .0) (f .1) in
+    let X = back-16 .elements-of .ensures v W .extra in
+    let k = there-below (s .locals) t (a .l .locals) (a .local-slots .now) (R .local-variables) (a .name .now) (back-13 .find .result) q (f .0 .0) (f .0 .1 .0) (f .0 .1 .1 .0) (f .1) in
+    let F = there (s .locals) t (a .l .locals) (a .local-slots .now) (R .local-variables) (a .name .now) (back-13 .find .result) q (f .0 .0) (f .0 .1 .0) (f .0 .1 .1 .0) (f .1) in
     let j = in-first (valueIn (s .locals) (a .name .now)) (valueIn (s .store .variables) (a .name .now)) (F .is-value) i in
     let L = locals-lie s (a .l) b R in
     let h = both-valid L (a .name .now) (f .0 .0) k (F .number) es fs j _ _ X in
@@ -178,22 +220,27 @@ same-length-8 c = search needs
 
 returns-3 : tie.Need-returns-3
 returns-3 c s v es R i W =
-    let a = c .before .before .before .before .before .before .before .before .before .before .before .before .before .before .before .before .before .before .before .before .before .before .before .before .before .before .before .before .args in
-    let b = slices (a .people .now) (a .people-marks .now) (a .vars .now) (a .var-marks .now) (a .locals .now) (a .local-marks .now) (a .standing .now) in
-    let f = c .before .before .before .before .before .before .before .before .before .before .before .before .before .found .given in
-    let E = c .before .before .before .before .before .before .before .before .extend in
+    let back-8 = c .before .before .before .before .before .before .before .before in
+    let back-13 = back-8 .before .before .before .before .before in
+    let back-15 = back-13 .before .before in
+    let back-18 = back-15 .before .before .before in
+    let start = back-18 .before .before .before .before .before .before .before .before .before .before in
+    let a = start .args in
+    let b = slices (a .principals .now) (a .principal-slots .now) (a .vars .now) (a .variable-slots .now) (a .locals .now) (a .local-slots .now) (a .assertions .now) in
+    let f = back-13 .found .given in
+    let E = back-8 .extend in
     let t = take (a .l .«locals_len») (a .locals .now) in
-    let q = looked-up (c .before .before .before .before .before .before .before .before .before .before .before .before .before .before .before) s R in
+    let q = looked-up back-15 s R in
     let fs = addedBy v in
-    let X = c .before .before .before .before .before .before .before .before .before .before .before .before .before .before .before .before .before .before .elements-of .ensures v W .extra in
-    let k = there-below (s .locals) t (a .l .locals) (a .local-marks .now) (R .local-variables) (a .name .now) (c .before .before .before .before .before .before .before .before .before .before .before .before .before .before .before .find .result) q (f .0 .0) (f .0 .1 .0) (f .0 .1 .1 .0) (f .1) in
-    let F = there (s .locals) t (a .l .locals) (a .local-marks .now) (R .local-variables) (a .name .now) (c .before .before .before .before .before .before .before .before .before .before .before .before .before .before .before .find .result) q (f .0 .0) (f .0 .1 .0) (f .0 .1 .1 .0) (f .1) in
+    let X = back-18 .elements-of .ensures v W .extra in
+    let k = there-below (s .locals) t (a .l .locals) (a .local-slots .now) (R .local-variables) (a .name .now) (back-15 .find .result) q (f .0 .0) (f .0 .1 .0) (f .0 .1 .1 .0) (f .1) in
+    let F = there (s .locals) t (a .l .locals) (a .local-slots .now) (R .local-variables) (a .name .now) (back-15 .find .result) q (f .0 .0) (f .0 .1 .0) (f .0 .1 .1 .0) (f .1) in
     let j = in-first (valueIn (s .locals) (a .name .now)) (valueIn (s .store .variables) (a .name .now)) (F .is-value) i in
     let L = locals-lie s (a .l) b R in
     let h = both-valid L (a .name .now) (f .0 .0) k (F .number) es fs j _ _ X in
     let P = c .before .before .put .given in
-    subst (λ (z : List Element). Running (assign s (a .name .now) (list z)) (c .with-locals .result) (slices (a .people .now) (a .people-marks .now) (a .vars .now) (a .var-marks .now) (E .last .0) (E .last .1 .1 .0) (a .standing .now))) (extend-adds es v)
-    (subst (λ (k : Layout). Running (assign s (a .name .now) (list (es ++ fs))) k (slices (a .people .now) (a .people-marks .now) (a .vars .now) (a .var-marks .now) (E .last .0) (E .last .1 .1 .0) (a .standing .now))) (sym (c .with-locals .ensures))
+    subst (λ (z : List Element). Running (assign s (a .name .now) (list z)) (c .with-locals .result) (slices (a .principals .now) (a .principal-slots .now) (a .vars .now) (a .variable-slots .now) (E .last .0) (E .last .1 .1 .0) (a .assertions .now))) (extend-adds es v)
+    (subst (λ (k : Layout). Running (assign s (a .name .now) (list (es ++ fs))) k (slices (a .principals .now) (a .principal-slots .now) (a .vars .now) (a .variable-slots .now) (E .last .0) (E .last .1 .1 .0) (a .assertions .now))) (sym (c .with-locals .ensures))
     (local-done s (a .l) b R (a .name .now) (list (es ++ fs)) h (list es) j (E .last .0) (E .last .1 .1 .0) (P .0 .0) (P .0 .1 .0) (E .kept .0)
     (put-done (s .locals) (put (a .name .now) (list (es ++ fs)) (s .locals)) (a .l .weight) (E .result) (E .last .0) (a .l .locals) (E .last .1 .1 .0)
     (E .ensures (s .locals) (a .name .now) es fs L (F .number) j X) (P .0 .0) (P .0 .1 .0) (P .1))))

@@ -8,11 +8,11 @@ use borrow.Author.Needs.{needs}
 use Rattle.variables.proofs.grants.grant.Statement.{statement}
 use Rattle.variables.proofs.grants.grant.Tie as tie
 
-room : (c : tie.Else1) → c .before .before .args .n + 4 ≤ length (c .before .before .args .standing .now)
+room : (c : tie.Else1) → c .before .before .args .n + 4 ≤ length (c .before .before .args .assertions .now)
 room c = let q : 0 < c .before .before .args .sender = omega (arith, c .if1 .left) in c .before .before .pre .1 q
 
 returns : tie.Need-returns
-returns c = (c .before .before .pre .0, no-numbers (c .before .before .args .standing .now) (c .before .before .args .n) (c .before .before .args .variable) (c .before .before .args .sender) (c .if1 .taken))
+returns c = (c .before .before .pre .0, no-numbers (c .before .before .args .assertions .now) (c .before .before .args .n) (c .before .before .args .variable) (c .before .before .args .sender) (c .if1 .taken))
 
 add-second : tie.Need-add-second
 add-second c = search needs
@@ -26,38 +26,38 @@ add-fourth c = search needs
 granted-requires : tie.Need-granted-requires
 granted-requires c κs = search needs
 
-mul-standing : tie.Need-mul-standing
-mul-standing c = search needs
+mul-assertions : tie.Need-mul-assertions
+mul-assertions c = search needs
 
-slice-write-standing : tie.Need-slice-write-standing
-slice-write-standing c = omega (arith, room (c .before))
+slice-write-assertions : tie.Need-slice-write-assertions
+slice-write-assertions c = omega (arith, room (c .before))
 
 granted-requires-2 : tie.Need-granted-requires-2
 granted-requires-2 c κs = search needs
 
-mul-standing-2 : tie.Need-mul-standing-2
-mul-standing-2 c = search needs
+mul-assertions-2 : tie.Need-mul-assertions-2
+mul-assertions-2 c = search needs
 
-slice-write-standing-2 : tie.Need-slice-write-standing-2
-slice-write-standing-2 c = simp length-set (omega (arith, room (c .before .before)))
+slice-write-assertions-2 : tie.Need-slice-write-assertions-2
+slice-write-assertions-2 c = simp length-set (omega (arith, room (c .before .before)))
 
 granted-requires-3 : tie.Need-granted-requires-3
 granted-requires-3 c κs = search needs
 
-mul-standing-3 : tie.Need-mul-standing-3
-mul-standing-3 c = search needs
+mul-assertions-3 : tie.Need-mul-assertions-3
+mul-assertions-3 c = search needs
 
-slice-write-standing-3 : tie.Need-slice-write-standing-3
-slice-write-standing-3 c = simp length-set (omega (arith, room (c .before .before .before)))
+slice-write-assertions-3 : tie.Need-slice-write-assertions-3
+slice-write-assertions-3 c = simp length-set (omega (arith, room (c .before .before .before)))
 
 granted-requires-4 : tie.Need-granted-requires-4
 granted-requires-4 c κs = search needs
 
-mul-standing-4 : tie.Need-mul-standing-4
-mul-standing-4 c = search needs
+mul-assertions-4 : tie.Need-mul-assertions-4
+mul-assertions-4 c = search needs
 
-slice-write-standing-4 : tie.Need-slice-write-standing-4
-slice-write-standing-4 c = simp length-set (omega (arith, room (c .before .before .before .before)))
+slice-write-assertions-4 : tie.Need-slice-write-assertions-4
+slice-write-assertions-4 c = simp length-set (omega (arith, room (c .before .before .before .before)))
 
 add-result : tie.Need-add-result
 add-result c = search needs
@@ -66,7 +66,13 @@ same-length : tie.Need-same-length
 same-length c = search needs
 
 returns-2 : tie.Need-returns-2
-returns-2 c = (omega (arith, room (c .before .before .before .before)), some-numbers (c .before .before .before .before .before .before .args .standing .now) (c .before .before .before .before .before .before .args .n) (c .before .before .before .before .before .before .args .variable) (c .before .before .before .before .before .before .args .sender) _ _ _ _ (c .before .before .before .before .if1 .left) (room (c .before .before .before .before)) (c .before .before .before .granted .ensures) (c .before .before .granted2 .ensures) (c .before .granted3 .ensures) (c .granted4 .ensures))
+returns-2 c =
+    let back-4 = c .before .before .before .before in
+    let start = back-4 .before .before in (
+      omega (arith, room back-4),
+      some-numbers (start .args .assertions .now) (start .args .n) (start .args .variable) (start .args .sender) _ _ _ _ (back-4 .if1 .left) (room back-4) (c .before .before .before .granted .ensures)
+          (c .before .before .granted2 .ensures) (c .before .granted3 .ensures) (c .granted4 .ensures),
+    )
 
 pub grant-spec : {M : Type 1} → statement M
 grant-spec =
@@ -77,17 +83,17 @@ grant-spec =
     add-third
     add-fourth
     granted-requires
-    mul-standing
-    slice-write-standing
+    mul-assertions
+    slice-write-assertions
     granted-requires-2
-    mul-standing-2
-    slice-write-standing-2
+    mul-assertions-2
+    slice-write-assertions-2
     granted-requires-3
-    mul-standing-3
-    slice-write-standing-3
+    mul-assertions-3
+    slice-write-assertions-3
     granted-requires-4
-    mul-standing-4
-    slice-write-standing-4
+    mul-assertions-4
+    slice-write-assertions-4
     add-result
     same-length
     returns-2)

@@ -18,7 +18,7 @@ light c =
     let s = c .before .before .before .before in
     let a = s .args in
     let S = s .pre .0 in
-    omega (arith, c .principal-weight .ensures (S .rows) (S .held), row-light (S .rows) (a .people .now) (a .count) (a .marks .now) (S .held) (a .sender) (s .pre .1))
+    omega (arith, c .principal-weight .ensures (S .rows) (S .held), row-light (S .rows) (a .principals .now) (a .count) (a .slots .now) (S .held) (a .sender) (s .pre .1))
 
 returns : tie.Need-returns
 returns c = (omega arith, λ ks p W o n. no-grants ks p o (c .before .before .before .args .len) (c .before .before .before .args .sender) n (c .if1 .taken))
@@ -42,8 +42,8 @@ returns-2 c =
       omega (arith, light c),
       λ ks p W o n.
           some-grants ks p o (a .len) (a .sender) (c .principal-weight .result) n (c .before .if1 .left)
-          (c .principal-weight .ensures (map principalRow ks) (principals-rows ks (a .people .now) (a .count) (a .marks .now) W)
-          ∙ ap nameWeight (name-at ks (a .people .now) (a .count) (a .marks .now) W p (a .sender) (s .pre .1) n)),
+          (c .principal-weight .ensures (map principalRow ks) (principals-rows ks (a .principals .now) (a .count) (a .slots .now) W)
+          ∙ ap nameWeight (name-at ks (a .principals .now) (a .count) (a .slots .now) W p (a .sender) (s .pre .1) n)),
     )
 
 pub grant-weight-spec : {M : Type 1} → statement M

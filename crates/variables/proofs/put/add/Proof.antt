@@ -15,12 +15,15 @@ add-after-3 : tie.Need-add-after-3
 add-after-3 c = search needs
 
 returns : tie.Need-returns
-returns c vs v L n W = added-full L (c .before .before .before .before .before .args .name .now) v (c .before .before .before .before .before .args .value .now) (c .before .before .before .before .before .args .weight) (c .before .before .before .before .before .pre .2) W n (c .if1 .taken)
+returns c vs v L n W =
+    let start = c .before .before .before .before .before in
+    added-full L (start .args .name .now) v (start .args .value .now) (start .args .weight) (start .pre .2) W n (c .if1 .taken)
 
 add-variable-requires : tie.Need-add-variable-requires
 add-variable-requires c κs =
-    let a = c .before .before .before .before .before .before .before .args in
-    let P = c .before .before .before .before .before .before .before .pre in
+    let start = c .before .before .before .before .before .before .before in
+    let a = start .args in
+    let P = start .pre in
     added-room (P .0 .lies) (a .name .now) (P .1 .value) (a .value .now) (a .weight) (P .2) (P .1 .is-value) (c .before .before .if1 .left)
 
 same-length : tie.Need-same-length
@@ -31,10 +34,12 @@ same-length-2 c = search needs
 
 returns-2 : tie.Need-returns-2
 returns-2 c vs v L n W =
-    let a = c .before .before .before .before .before .before .before .before .before .before .before .before .args in
+    let back-7 = c .before .before .before .before .before .before .before in
+    let start = back-7 .before .before .before .before .before in
+    let a = start .args in
     let E = c .before .before .before .before .add-variable in
-    added L (a .name .now) v (a .value .now) (a .weight) (c .before .before .before .before .before .before .before .before .before .before .before .before .pre .2) W n (E .last .0) (E .result) (E .last .1 .1 .0) (c .before .before .before .before .before .before .before .if1 .left) (E .kept .0) (E .kept .1 .1 .0)
-    (E .ensures .1 .0 .within) (E .ensures .1 .1 vs v (L .held) (c .before .before .before .before .before .before .before .before .before .before .before .before .pre .2) (W .held .is-text))
+    added L (a .name .now) v (a .value .now) (a .weight) (start .pre .2) W n (E .last .0) (E .result) (E .last .1 .1 .0) (back-7 .if1 .left) (E .kept .0) (E .kept .1 .1 .0)
+    (E .ensures .1 .0 .within) (E .ensures .1 .1 vs v (L .held) (start .pre .2) (W .held .is-text))
 
 pub add-spec : {M : Type 1} → statement M
 add-spec =

@@ -11,12 +11,14 @@ add-after c = search needs
 
 returns : tie.Need-returns
 returns c vs x es fs L n i E =
-    extended-full L x (c .before .before .before .before .args .number) (c .before .before .before .before .pre .0 .below) n es fs i (c .before .before .before .before .args .more .now) (c .before .before .before .before .args .weight) E (c .if1 .taken)
+    let start = c .before .before .before .before in
+    extended-full L x (start .args .number) (start .pre .0 .below) n es fs i (start .args .more .now) (start .args .weight) E (c .if1 .taken)
 
 append-value-requires : tie.Need-append-value-requires
 append-value-requires c κs =
-    let a = c .before .before .before .before .before .before .args in
-    let P = c .before .before .before .before .before .before .pre in
+    let start = c .before .before .before .before .before .before in
+    let a = start .args in
+    let P = start .pre in
     let S = P .0 in (
       S .lies .small,
       S .lies .within,
@@ -42,9 +44,11 @@ same-length-2 c = search needs
 
 returns-2 : tie.Need-returns-2
 returns-2 c vs x es fs L n i X =
-    let a = c .before .before .before .before .before .before .before .before .before .before .before .args in
+    let back-7 = c .before .before .before .before .before .before .before in
+    let start = back-7 .before .before .before .before in
+    let a = start .args in
     let E = c .before .before .before .before .append-value in
-    extended L x (a .number) (c .before .before .before .before .before .before .before .before .before .before .before .pre .0 .below) n es fs i (a .more .now) (a .weight) X (E .last .0) (E .result) (E .last .1 .1 .0) (c .before .before .before .before .before .before .before .if1 .left) (E .kept .0) (E .kept .1 .1 .0)
+    extended L x (a .number) (start .pre .0 .below) n es fs i (a .more .now) (a .weight) X (E .last .0) (E .result) (E .last .1 .1 .0) (back-7 .if1 .left) (E .kept .0) (E .kept .1 .1 .0)
     (E .ensures .0 .within) (E .ensures .1 vs x es fs (L .held) n i (X .is-text))
 
 pub extend-spec : {M : Type 1} → statement M

@@ -21,8 +21,9 @@ weight-of-requires c κs =
 
 sub-after : tie.Need-sub-after
 sub-after c =
-    let S = c .before .before .before .before .before .before .pre .0 in
-    omega (arith, old-within (S .lies) (S .name) (c .before .before .before .before .before .before .args .number) (S .below) (S .is-number), c .weight-of .ensures (S .variables) (S .lies .held) (S .lies .are-valid))
+    let start = c .before .before .before .before .before .before in
+    let S = start .pre .0 in
+    omega (arith, old-within (S .lies) (S .name) (start .args .number) (S .below) (S .is-number), c .weight-of .ensures (S .variables) (S .lies .held) (S .lies .are-valid))
 
 add-after : tie.Need-add-after
 add-after c = search needs
@@ -35,13 +36,15 @@ same-length-2 c = search needs
 
 returns : tie.Need-returns
 returns c vs x v L n W =
-    replaced-full L x (c .before .before .before .before .before .before .before .args .number) (c .before .before .before .before .before .before .before .pre .0 .below) n v (c .before .before .before .before .before .before .before .args .value .now) (c .before .before .before .before .before .before .before .args .weight) W (c .before .weight-of .result)
+    let start = c .before .before .before .before .before .before .before in
+    replaced-full L x (start .args .number) (start .pre .0 .below) n v (start .args .value .now) (start .args .weight) W (c .before .weight-of .result)
     (c .before .weight-of .ensures vs (L .held) (L .are-valid)) (c .if1 .taken)
 
 set-value-requires : tie.Need-set-value-requires
 set-value-requires c κs =
-    let a = c .before .before .before .before .before .before .before .before .before .args in
-    let P = c .before .before .before .before .before .before .before .before .before .pre in
+    let start = c .before .before .before .before .before .before .before .before .before in
+    let a = start .args in
+    let P = start .pre in
     let S = P .0 in
     let U = P .1 in
     let q = c .before .before .before .weight-of .ensures (S .variables) (S .lies .held) (S .lies .are-valid) in (
@@ -67,10 +70,13 @@ same-length-4 c = search needs
 
 returns-2 : tie.Need-returns-2
 returns-2 c vs x v L n W =
-    let a = c .before .before .before .before .before .before .before .before .before .before .before .before .before .before .args in
+    let back-7 = c .before .before .before .before .before .before .before in
+    let back-8 = back-7 .before in
+    let start = back-8 .before .before .before .before .before .before in
+    let a = start .args in
     let E = c .before .before .before .before .set-value in
-    replaced L x (a .number) (c .before .before .before .before .before .before .before .before .before .before .before .before .before .before .pre .0 .below) n v (a .value .now) (a .weight) W (c .before .before .before .before .before .before .before .before .weight-of .result)
-    (c .before .before .before .before .before .before .before .before .weight-of .ensures vs (L .held) (L .are-valid)) (E .last .0) (E .result) (E .last .1 .1 .0) (c .before .before .before .before .before .before .before .if1 .left) (E .kept .0) (E .kept .1 .1 .0)
+    replaced L x (a .number) (start .pre .0 .below) n v (a .value .now) (a .weight) W (back-8 .weight-of .result)
+    (back-8 .weight-of .ensures vs (L .held) (L .are-valid)) (E .last .0) (E .result) (E .last .1 .1 .0) (back-7 .if1 .left) (E .kept .0) (E .kept .1 .1 .0)
     (E .ensures .0 .within) (E .ensures .1 vs x v (L .held) n (W .held .is-text))
 
 pub replace-spec : {M : Type 1} → statement M

@@ -16,7 +16,7 @@ value-of-requires : tie.Need-value-of-requires
 value-of-requires c κs =
     let a = c .before .before .args in
     let S = c .before .before .pre .0 in
-    (some-variables (S .variables) (a .text .now) (a .count) (a .marks .now) (S .held), c .before .before .pre .1)
+    (some-variables (S .variables) (a .text .now) (a .count) (a .slots .now) (S .held), c .before .before .pre .1)
 
 sub-weigh : tie.Need-sub-weigh
 sub-weigh c = omega (arith, placed c .order)
@@ -29,15 +29,17 @@ part-weigh-end c = omega (arith, placed c .order, placed c .within)
 
 weigh-requires : tie.Need-weigh-requires
 weigh-requires c κs =
-    let a = c .before .before .before .before .args in
-    let S = c .before .before .before .before .pre .0 in
-    let l : a .number < length (S .variables) = omega (arith, S .held .counted, c .before .before .before .before .pre .1) in
+    let start = c .before .before .before .before in
+    let a = start .args in
+    let S = start .pre .0 in
+    let l : a .number < length (S .variables) = omega (arith, S .held .counted, start .pre .1) in
     record { value = _; held = value-holds (S .variables) (a .text .now) (a .number) _ _ (S .are-valid) l (placed (c .before)) }
 
 returns : tie.Need-returns
 returns c vs W h =
-    let a = c .before .before .before .before .before .args in
-    let l : a .number < length vs = omega (arith, W .counted, c .before .before .before .before .before .pre .1) in
+    let start = c .before .before .before .before .before in
+    let a = start .args in
+    let l : a .number < length vs = omega (arith, W .counted, start .pre .1) in
     c .weigh .ensures _ (value-holds vs (a .text .now) (a .number) _ _ h l (c .before .before .value-of .ensures vs W))
 
 pub weight-of-spec : {M : Type 1} → statement M

@@ -1,0 +1,2 @@
+-- How a run is closed.
+pub mod Closed

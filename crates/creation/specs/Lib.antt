@@ -1,0 +1,2 @@
+-- A principal that is created.
+pub mod Creating

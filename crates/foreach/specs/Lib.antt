@@ -1,0 +1,2 @@
+-- What foreach asks.
+pub mod Asked

@@ -1,0 +1,5 @@
+-- Laws of what foreach makes of an element.
+pub mod Drafting
+pub mod Singles
+pub mod LightLists
+pub mod Lasting

@@ -1,0 +1,3 @@
+-- What foreach makes of an element.
+pub mod Drafts
+pub mod Turning

@@ -1,0 +1,102 @@
+-- What a session says of two names decides on the list that foreach goes through.
+-- Assumes nothing.
+use mathlib.Core.Path.{_≡_, refl, sym, ap, _∙_}
+use Prim.Native.Nat.{ℕ, _≤_}
+use native.Mathlib.Omega.{arith}
+use mathlib.Core.Bool.{Bool, true, false, not}
+use mathlib.Core.Option.{Option, none, some}
+use mathlib.Core.List.{List, [], _∷_}
+use lib.ListN.{length, take}
+use lib.Seq.{length-take-le}
+use Rattle.language.specs.Text.{Text, _>>=_, _>>_, given, present}
+use Rattle.language.specs.Syntax.{Name}
+use Rattle.language.specs.State.{Element, Value, single, list}
+use Rattle.language.specs.Encode.{valueText}
+use Rattle.language.specs.Weight.{limit, valueWeight}
+use Rattle.language.specs.Values.{Session, isDefined, lookup, asList}
+use Rattle.language.specs.Commands.{sessionWeight, isFilled}
+use Rattle.language.proofs.Logic.Outcomes.{Where}
+use Rattle.values.specs.Writing as Piece
+use Rattle.values.proofs.Pieces.{written-take, written-length}
+use Rattle.values.proofs.Listing.{starts-with}
+use Rattle.evaluate.specs.Scopes.{ReadAs}
+use Rattle.evaluate.proofs.Bounds.{text-bound}
+use Rattle.lookup.specs.Looks.{elementsIn}
+use Rattle.foreach_source.specs.Sources.{source, Copied}
+use Rattle.lookup.proofs.LightNames.{lookup-light}
+
+pub source-new : (s : Session) (y x : Name) (es : List Element) → source s y x ≡ some es → isDefined s y ≡ false
+source-new s y x es h = go (isDefined s y) h
+  where
+    go : (b : Bool) → (given (not b) >> (lookup s x >>= asList)) ≡ some es → b ≡ false
+    go true k = absurd (let z : _≡_ {A = ℕ} 0 1 = cc in omega arith)
+    go false k = refl
+
+module _ (s : Session) (y x : Name) where
+  by-defined : (b : Bool) → isDefined s y ≡ b → source s y x ≡ (given (not b) >> elementsIn (lookup s x))
+  by-defined b e = ap (λ (c : Bool). given (not c) >> elementsIn (lookup s x)) e
+
+  -- where y has a value, there is no list
+  pub other-there : isDefined s y ≡ true → source s y x ≡ none
+  other-there e = by-defined true e
+
+  module _ (e : isDefined s y ≡ false) where
+    pub no-list : (b : Bool) → b ≡ present (elementsIn (lookup s x)) → b ≡ false → source s y x ≡ none
+    no-list b q f = by-defined false e ∙ go (elementsIn (lookup s x)) (sym f ∙ q)
+      where
+        go : (o : Option (List Element)) → false ≡ present o → o ≡ none
+        go none h = refl
+        go (some es) h = absurd (let z : _≡_ {A = ℕ} 0 1 = cc in omega arith)
+
+    pub list-copied : (t : Text) → ReadAs (lookup s x) t → (b : Bool) → b ≡ present (elementsIn (lookup s x)) → b ≡ true → (out after : Text) (n : ℕ) → Piece.Written out 0 t n after
+        → Copied (source s y x) after n
+    list-copied t k b q f out after n P = go (lookup s x) (by-defined false e) k (sym f ∙ q)
+      where
+        go : (o : Option Value) → source s y x ≡ elementsIn o → ReadAs o t → true ≡ present (elementsIn o) → Copied (source s y x) after n
+        go none q k h = absurd (let z : _≡_ {A = ℕ} 0 1 = cc in omega arith)
+        go (some (single a)) q k h = absurd (let z : _≡_ {A = ℕ} 0 1 = cc in omega arith)
+        go (some (list es)) q k h = record {
+          elements = es;
+          is-source = q;
+          held = record { is-valid = k .is-valid; is-text = written-take P ∙ k .is-text };
+          within = omega (arith, P .fits, written-length P);
+        }
+
+-- what a name's value takes in bytes
+pub read-fits : (s : Session) (x : Name) (t : Text) → ReadAs (lookup s x) t → sessionWeight s ≤ limit → length t ≤ 24579
+read-fits s x t k l = go (lookup s x) k (lookup-light s x l)
+  where
+    go : (o : Option Value) → ReadAs o t → Where (λ v. valueWeight v ≤ limit) o → length t ≤ 24579
+    go none k h = omega (arith, ap length k)
+    go (some v) k h = omega (arith, h, text-bound v t k)
+
+pub source-fits : (s : Session) (y x : Name) (out : Text) (n : ℕ) → Copied (source s y x) out n → sessionWeight s ≤ limit → n ≤ 24579
+source-fits s y x out n C l = go (lookup s x) (lookup-light s x l) (ap (λ (b : Bool). given (not b) >> (lookup s x >>= asList)) (sym (source-new s y x (C .elements) (C .is-source))) ∙ C .is-source)
+  where
+    bound : (es : List Element) → valueWeight (list es) ≤ limit → es ≡ C .elements → n ≤ 24579
+    bound es k e = omega (arith, k, ap (λ (l : List Element). valueWeight (list l)) e, text-bound (list (C .elements)) (take n out) (C .held), length-take-le n out (C .within))
+
+    go : (o : Option Value) → Where (λ v. valueWeight v ≤ limit) o → (o >>= asList) ≡ some (C .elements) → n ≤ 24579
+    go none k e = absurd (let z : _≡_ {A = ℕ} 0 1 = cc in omega arith)
+    go (some (single a)) k e = absurd (let z : _≡_ {A = ℕ} 0 1 = cc in omega arith)
+    go (some (list es)) k e = bound es k (let q : es ≡ C .elements = cc in q)
+
+-- ---- an empty list's text has two bytes
+
+module _ (o : Option (List Element)) (out : Text) (n : ℕ) (C : Copied o out n) where
+  bytes-are : n ≡ length (valueText (list (C .elements)))
+  bytes-are = sym (length-take-le n out (C .within)) ∙ ap length (C .held .is-text)
+
+  pub not-filled : n ≡ 2 → isFilled o ≡ false
+  not-filled e = ap isFilled (C .is-source) ∙ go (C .elements) bytes-are
+    where
+      go : (es : List Element) → n ≡ length (valueText (list es)) → isFilled (some es) ≡ false
+      go [] q = refl
+      go (a ∷ es) q = absurd (omega (arith, e, q, starts-with a es))
+
+  pub filled : (n ≡ 2 → ⊥) → isFilled o ≡ true
+  filled f = ap isFilled (C .is-source) ∙ go (C .elements) bytes-are
+    where
+      go : (es : List Element) → n ≡ length (valueText (list es)) → isFilled (some es) ≡ true
+      go [] q = absurd (f q)
+      go (a ∷ es) q = refl

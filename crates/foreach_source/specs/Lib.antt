@@ -1,0 +1,2 @@
+-- The list that foreach goes through.
+pub mod Sources

@@ -1,0 +1,53 @@
+-- The list that foreach goes through, and whether the sender may send it.
+use mathlib.Core.Path.{_≡_}
+use Prim.Native.Nat.{ℕ, _≤_}
+use mathlib.Core.Bool.{Bool, true, false, _||_, not}
+use mathlib.Core.Option.{Option, none, some}
+use mathlib.Core.List.{List}
+use lib.ListN.{length, take}
+use Rattle.language.specs.Text.{Text, _>>=_, _>>_, given}
+use Rattle.language.specs.Syntax.{Name, read, write, Expr, foreach}
+use Rattle.language.specs.State.{Element, list}
+use Rattle.language.specs.Weight.{limit}
+use Rattle.language.specs.Values.{Session, isDefined, lookup, asList}
+use Rattle.language.specs.Commands.{denied, sessionWeight}
+use Rattle.syntax.specs.declared.value.Expr as Read
+use Rattle.values.specs.Encoding.{Holds}
+use Rattle.evaluate.specs.Permits.{allowedOn}
+use Rattle.session.specs.declared.Layout.{Layout}
+use Rattle.lookup.specs.Looks.{Scoped}
+use Rattle.foreach_source.specs.declared.Source.{Source}
+use Rattle.foreach_source.specs.declared.Source.the-variants as SourceIs
+use Rattle.foreach_source.specs.declared.Prepared.{Prepared}
+use Rattle.foreach_source.specs.declared.Prepared.the-variants as Is
+
+-- the elements of x, where that is a list and y is undefined
+abbrev pub source : Session → Name → Name → Option (List Element)
+source s y x = given (not (isDefined s y)) >> (lookup s x >>= asList)
+
+-- the sender may not read x, or may not write it
+abbrev pub forbidden : Session → Name → Bool
+forbidden s x = not (allowedOn s read x) || not (allowedOn s write x)
+
+-- the buffers hold some session that is not too heavy
+pub record SomeLight (l : Layout) (vars : Text) (variable-slots : List ℕ) (locals : Text) (local-slots : List ℕ) : Type 0 where
+  pub session : Session
+  pub scoped : Scoped session l vars variable-slots locals local-slots
+  pub is-light : sessionWeight session ≤ limit
+
+-- the list is there, and its text is the first n bytes of out
+pub record Copied (o : Option (List Element)) (out : Text) (n : ℕ) : Type 0 where
+  pub elements : List Element
+  pub is-source : o ≡ some elements
+  pub held : Holds (list elements) (take n out)
+  pub within : n ≤ length out
+
+abbrev pub Sourced : Source → Option (List Element) → Text → Type 0
+Sourced (SourceIs.List n) o out = Copied o out n
+Sourced SourceIs.No o out = o ≡ none
+
+-- foreach is denied; it may be sent, and there is no list to go through; or there is
+abbrev pub Prepares : Prepared → Session → Name → Name → Expr → Text → Type 0
+Prepares Is.Denied s y x e out = denied s (foreach y x e) ≡ true
+Prepares Is.Failed s y x e out = (denied s (foreach y x e) ≡ false) × (source s y x ≡ none)
+Prepares (Is.List n) s y x e out = (denied s (foreach y x e) ≡ false) × Copied (source s y x) out n

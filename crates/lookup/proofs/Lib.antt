@@ -1,0 +1,3 @@
+-- Laws of what a running session says of a name and of an expression.
+pub mod Looking
+pub mod LightNames

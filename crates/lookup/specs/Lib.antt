@@ -1,0 +1,2 @@
+-- What is asked of a name and of an expression in a running session.
+pub mod Looks

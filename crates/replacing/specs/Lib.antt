@@ -1,4 +1,0 @@
--- What foreach makes of a list, element by element.
-pub mod Drafts
-pub mod Turning
-pub mod Sources

@@ -1,8 +1,0 @@
--- Laws of a running program's session.
-pub mod Steps
-pub mod Scoping
-pub mod PeopleText
-pub mod Room
-pub mod Admin
-pub mod Changes
-pub mod OneValue

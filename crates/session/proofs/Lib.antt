@@ -1,0 +1,8 @@
+-- Laws of a running program's session.
+pub mod Steps
+pub mod Scoping
+pub mod PrincipalsText
+pub mod Room
+pub mod Admin
+pub mod Changes
+pub mod OneValue

@@ -1,0 +1,2 @@
+-- What a command did, and the status that it prints.
+pub mod Acts
