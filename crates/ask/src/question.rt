@@ -1,5 +1,9 @@
 // The question whether a principal has a right on a shared variable, on a state that was checked.
 use answers::Answer;
+use assertion::APPEND;
+use assertion::DELEGATE;
+use assertion::READ;
+use assertion::WRITE;
 use store::index::Found;
 use store::index::find;
 use validate::Parts;
@@ -13,10 +17,10 @@ fn right_code(b: u8) -> u16
     ensures { λ r. ⌜ r ≡ rightCode (rightByte b) ⌝ }
 {
     match b {
-        b'r' => 0,
-        b'w' => 1,
-        b'a' => 2,
-        b'd' => 3,
+        b'r' => READ,
+        b'w' => WRITE,
+        b'a' => APPEND,
+        b'd' => DELEGATE,
         _ => 4,
     }
 }

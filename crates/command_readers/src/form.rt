@@ -22,7 +22,7 @@ pub enum AccountRead {
 }
 
 // A keyword, then a name and a string.
-pub fn account_at(text: &[u8], at: usize, word: &[u8]) -> AccountRead
+pub(crate) fn account_at(text: &[u8], at: usize, word: &[u8]) -> AccountRead
     requires { ⌜ at ≤ length (now text) ⌝ }
     ensures meant { λ r. ⌜ ((k : Syntax.Name → Text → Syntax.Command) → accountMeant (now (text .entry)) k r ≡ accountForm (now (word .entry)) k (lex (drop at (now (text .entry))))) ⌝ }
     ensures placed { λ r. ⌜ AccountPlaced (now (text .entry)) at r ⌝ }
@@ -43,7 +43,7 @@ pub fn account_at(text: &[u8], at: usize, word: &[u8]) -> AccountRead
 }
 
 // A keyword or a mark, then an expression.
-pub fn value_at(text: &[u8], at: usize, word: &[u8]) -> ExprRead
+pub(crate) fn value_at(text: &[u8], at: usize, word: &[u8]) -> ExprRead
     requires { ⌜ at ≤ length (now text) ⌝ }
     ensures meant { λ r. ⌜ exprReadMeant (now (text .entry)) r ≡ valueForm (now (word .entry)) (lex (drop at (now (text .entry)))) ⌝ }
     ensures placed { λ r. ⌜ ExprPlaced (now (text .entry)) at r ⌝ }
@@ -62,7 +62,7 @@ pub enum AssignRead {
 }
 
 // A name, then a keyword or a mark, then an expression.
-pub fn assign_at(text: &[u8], at: usize, word: &[u8]) -> AssignRead
+pub(crate) fn assign_at(text: &[u8], at: usize, word: &[u8]) -> AssignRead
     requires { ⌜ at ≤ length (now text) ⌝ }
     ensures meant { λ r. ⌜ ((k : Syntax.Name → Syntax.Expr → Syntax.Command) → assignMeant (now (text .entry)) k r ≡ assignForm (now (word .entry)) k (lex (drop at (now (text .entry))))) ⌝ }
     ensures placed { λ r. ⌜ AssignPlaced (now (text .entry)) at r ⌝ }
@@ -90,7 +90,7 @@ pub enum RightRead {
     No,
 }
 
-pub fn right_at(text: &[u8], at: usize) -> RightRead
+pub(crate) fn right_at(text: &[u8], at: usize) -> RightRead
     requires { ⌜ at ≤ length (now text) ⌝ }
     ensures meant { λ r. ⌜ rightReadMeant (now (text .entry)) r ≡ anyRight (lex (drop at (now (text .entry)))) ⌝ }
     ensures placed { λ r. ⌜ RightPlaced (now (text .entry)) at r ⌝ }
@@ -125,7 +125,7 @@ pub enum TargetRead {
     No,
 }
 
-pub fn target_at(text: &[u8], at: usize) -> TargetRead
+pub(crate) fn target_at(text: &[u8], at: usize) -> TargetRead
     requires { ⌜ at ≤ length (now text) ⌝ }
     ensures meant { λ r. ⌜ targetReadMeant (now (text .entry)) r ≡ anyTarget (lex (drop at (now (text .entry)))) ⌝ }
     ensures placed { λ r. ⌜ TargetPlaced (now (text .entry)) at r ⌝ }
@@ -151,7 +151,7 @@ pub enum DelegationRead {
     No,
 }
 
-pub fn delegation_at(text: &[u8], at: usize) -> DelegationRead
+pub(crate) fn delegation_at(text: &[u8], at: usize) -> DelegationRead
     requires { ⌜ at ≤ length (now text) ⌝ }
     ensures meant { λ r. ⌜ ((k : Syntax.Target → Syntax.Name → Syntax.Right → Syntax.Name → Syntax.Command) → delegationMeant (now (text .entry)) k r ≡ delegationForm k (lex (drop at (now (text .entry))))) ⌝ }
     ensures placed { λ r. ⌜ DelegationPlaced (now (text .entry)) at r ⌝ }

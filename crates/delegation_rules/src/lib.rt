@@ -1,4 +1,8 @@
 // What a delegation names, who may send it, and which variables it is about.
+use assertion::APPEND;
+use assertion::DELEGATE;
+use assertion::READ;
+use assertion::WRITE;
 use command_readers::form::Right;
 use command_readers::form::Target;
 use session::Layout;
@@ -119,7 +123,7 @@ fn lacks(assertions: &[u64], l: Layout, x: usize, q: usize) -> bool
     if l.vars <= x {
         return false;
     }
-    !named_rights::may(assertions, l.asserted, l.principals, x, 3, q)
+    !named_rights::may(assertions, l.asserted, l.principals, x, DELEGATE, q)
 }
 
 // Whether a set delegation is denied.
@@ -199,7 +203,7 @@ pub fn collect(
     let mut n = 0;
     let mut k = 0;
     while k < vars {
-        if named_rights::may(assertions, asserted, principals, k, 3, q) {
+        if named_rights::may(assertions, asserted, principals, k, DELEGATE, q) {
             targets[n] = k as u32;
             n += 1;
         }
@@ -237,9 +241,9 @@ pub fn right_code(right: Right) -> u16
     ensures { λ r. ⌜ r ≡ code (rightMeant right) ⌝ }
 {
     match right {
-        Right::Read => 0,
-        Right::Write => 1,
-        Right::Append => 2,
-        Right::Delegate => 3,
+        Right::Read => READ,
+        Right::Write => WRITE,
+        Right::Append => APPEND,
+        Right::Delegate => DELEGATE,
     }
 }

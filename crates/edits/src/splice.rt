@@ -76,7 +76,7 @@ fn slide(buf: &mut [u8], from: usize, to: usize, len: usize)
 }
 
 // Puts `src` in place of the bytes from `from` up to `to` of a text, the first `len` bytes of `buf`; the text's new length.
-pub fn splice(buf: &mut [u8], len: usize, from: usize, to: usize, src: &[u8]) -> usize
+pub(crate) fn splice(buf: &mut [u8], len: usize, from: usize, to: usize, src: &[u8]) -> usize
     requires { ⌜ (from ≤ to) × (to ≤ len) × (len ≤ length (now buf)) × (from + length (now src) + (len - to) ≤ length (now buf)) ⌝ }
     ensures size { λ r. ⌜ r ≡ from + length (now (src .entry)) + (len - to) ⌝ }
     ensures left { λ r. ⌜ now (buf .exit) ≡ spliced (now (buf .entry)) len from to (now (src .entry)) ⌝ }
@@ -88,7 +88,7 @@ pub fn splice(buf: &mut [u8], len: usize, from: usize, to: usize, src: &[u8]) ->
 }
 
 // Slots from `from` up to `to` of records that moved: `new` up, `old` down. Nothing moved where the two are the same.
-pub fn shift(slots: &mut [u32], from: usize, to: usize, old: u32, new: u32)
+pub(crate) fn shift(slots: &mut [u32], from: usize, to: usize, old: u32, new: u32)
     requires { ⌜ (from ≤ to) × (to ≤ length (now slots)) × ((j : ℕ) → from ≤ j → j < to → (old ≤ getD (now slots) j 0) × (getD (now slots) j 0 - old + new < 4294967296)) ⌝ }
     ensures { λ _. ⌜ now (slots .exit) ≡ shifted (now (slots .entry)) from to old new ⌝ }
 {

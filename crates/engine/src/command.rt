@@ -101,7 +101,7 @@ fn act(
 }
 
 // The command that stands at the places c of the program's text, on the running session. Its line is printed from `at` on.
-pub fn carry_out(
+pub(crate) fn carry_out(
     principals: &mut [u8],
     principal_slots: &mut [u32],
     vars: &mut [u8],

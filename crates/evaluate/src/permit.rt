@@ -1,4 +1,5 @@
 // Whether the sender of a program may do something with a name, and may read all that an expression evaluates.
+use assertion::READ;
 use store::index::Found;
 use syntax::value::Expr;
 use syntax::value::FieldRead;
@@ -72,7 +73,7 @@ fn operand_readable(
                 principals,
                 sender,
                 &text[a..b],
-                0,
+                READ,
             )
         }
         Operand::Field(x, _) => {
@@ -87,7 +88,7 @@ fn operand_readable(
                 principals,
                 sender,
                 &text[a..b],
-                0,
+                READ,
             )
         }
         Operand::Quoted(_) => true,

@@ -1,4 +1,6 @@
 // The list that foreach goes through, and whether the sender may send it.
+use assertion::READ;
+use assertion::WRITE;
 use session::Layout;
 use syntax::value::Expr;
 use text::Span;
@@ -41,10 +43,10 @@ fn may_replace(
     ensures { λ b. ⌜ ((s : Session) → Sending s l (now (vars .entry)) (now («variable_slots» .entry)) (now (assertions .entry))
         → forbidden s (now (name .entry)) ≡ not b) ⌝ }
 {
-    if !lookup::may_do(vars, variable_slots, assertions, l, name, 0) {
+    if !lookup::may_do(vars, variable_slots, assertions, l, name, READ) {
         return false;
     }
-    lookup::may_do(vars, variable_slots, assertions, l, name, 1)
+    lookup::may_do(vars, variable_slots, assertions, l, name, WRITE)
 }
 
 // Copies the value of x, where that is a list and y is undefined.

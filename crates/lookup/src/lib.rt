@@ -1,4 +1,6 @@
 // What a running session says of a name and of an expression, by its buffers and its layout.
+use assertion::APPEND;
+use assertion::WRITE;
 use evaluate::permit::allowed;
 use evaluate::permit::readable;
 use evaluate::result::Evaluated;
@@ -223,8 +225,8 @@ pub fn may_append(
     ensures { λ b. ⌜ ((s : Session) (y : Syntax.Expr) → Sending s l (now (vars .entry)) (now («variable_slots» .entry)) (now (assertions .entry))
         → exprMeant (now (text .entry)) e ≡ some y → denied s (Syntax.append-to (part (now (text .entry)) x) y) ≡ not b) ⌝ }
 {
-    if may_use(vars, variable_slots, assertions, l, text, x, e, 1) {
+    if may_use(vars, variable_slots, assertions, l, text, x, e, WRITE) {
         return true;
     }
-    may_use(vars, variable_slots, assertions, l, text, x, e, 2)
+    may_use(vars, variable_slots, assertions, l, text, x, e, APPEND)
 }

@@ -35,7 +35,7 @@ pub enum LineRead {
     No,
 }
 
-pub fn command_line(text: &[u8], at: usize) -> LineRead
+pub(crate) fn command_line(text: &[u8], at: usize) -> LineRead
     requires { ⌜ at ≤ length (now text) ⌝ }
     ensures meant { λ r. ⌜ lineReadMeant (now (text .entry)) r ≡ whole anyCommand (lex (drop at (now (text .entry)))) ⌝ }
     ensures placed { λ r. ⌜ LineWithin (now (text .entry)) r ⌝ }
@@ -50,7 +50,7 @@ pub fn command_line(text: &[u8], at: usize) -> LineRead
     LineRead::Found(c)
 }
 
-pub fn ending_line(text: &[u8], at: usize) -> LineRead
+pub(crate) fn ending_line(text: &[u8], at: usize) -> LineRead
     requires { ⌜ at ≤ length (now text) ⌝ }
     ensures meant { λ r. ⌜ lineReadMeant (now (text .entry)) r ≡ whole anyEnding (lex (drop at (now (text .entry)))) ⌝ }
     ensures placed { λ r. ⌜ LineWithin (now (text .entry)) r ⌝ }
@@ -72,7 +72,7 @@ pub enum LoginRead {
 }
 
 // as principal p password s do
-pub fn login_line(text: &[u8], at: usize) -> LoginRead
+pub(crate) fn login_line(text: &[u8], at: usize) -> LoginRead
     requires { ⌜ at ≤ length (now text) ⌝ }
     ensures meant { λ r. ⌜ loginMeant (now (text .entry)) r ≡ whole anyLogin (lex (drop at (now (text .entry)))) ⌝ }
     ensures placed { λ r. ⌜ LoginWithin (now (text .entry)) r ⌝ }
@@ -160,7 +160,7 @@ pub enum Step {
     Broken,
 }
 
-pub fn next_line(text: &[u8], at: usize) -> Step
+pub(crate) fn next_line(text: &[u8], at: usize) -> Step
     requires { ⌜ at ≤ length (now text) ⌝ }
     ensures meant { λ r. ⌜ lexedFrom (now (text .entry)) at ≡ stepMeant (now (text .entry)) r ⌝ }
     ensures placed { λ r. ⌜ StepPlaced (now (text .entry)) at r ⌝ }

@@ -118,7 +118,7 @@ fn elements_json(text: &[u8], at: usize, out: &mut [u8], o: usize) -> usize
 }
 
 // A value's JSON, from `at` on; records in the order written.
-pub fn json(value: &[u8], out: &mut [u8], at: usize) -> usize
+fn json(value: &[u8], out: &mut [u8], at: usize) -> usize
     requires { ⌜ JsonRoom (now value) (now out) at 0 ⌝ }
     ensures { λ r. ⌜ ((v : S.Value) → Holds v (now (value .entry)) → Written (now (out .entry)) at (valueJson v) r (now (out .exit))) ⌝ }
 {

@@ -1,7 +1,7 @@
 -- What a number stands for: the name of the record at that place, and the parts of an assertion.
 -- Assumes nothing.
 use mathlib.Core.Path.{_≡_, sym, ap, _∙_}
-use Prim.Native.Nat.{ℕ, _/_, _%_, _^_, _<_}
+use Prim.Native.Nat.{ℕ, _<_}
 use native.Mathlib.Omega.{arith}
 use mathlib.Core.List.{List, [], map}
 use lib.Dec.{T}
@@ -15,7 +15,7 @@ use Rattle.store.specs.Held.{Principals, Variables}
 use Rattle.store.specs.Rows.{Row, Rows, rowAt, rowNames, noRow, position, principalRow, variableRow}
 use Rattle.store.proofs.Holders.{principals-rows, variables-rows}
 use Rattle.store.proofs.Answers.{principal-names, variable-names}
-use Rattle.assertion.specs.Packed.{fields}
+use Rattle.assertion.specs.Packed.{fields, Assertion as Numbers}
 use Rattle.assertion.proofs.Packing.{fields-pack}
 use Rattle.named_rights.specs.Numbers.{principalsOf, variables, code, four}
 use Rattle.named_rights.proofs.Places.{name-at, position-lt, code-lt}
@@ -54,26 +54,25 @@ module _ (vs : List Variable) (t : Text) (count : ℕ) (slots : List ℕ) (W : V
 
 -- ---- an assertion
 
--- the four numbers of an assertion that has the number n; every name in it exists
-pub record Apart (s : Store) (a : Assertion) (n : ℕ) : Type 0 where
+-- the four numbers of an assertion; every name in it exists
+pub record Apart (s : Store) (a : Assertion) (f : Numbers) : Type 0 where
   pub variable-known : T (member (a .variable) (variables s))
   pub from-known : T (member (a .from) (principalsOf s))
   pub to-known : T (member (a .to) (principalsOf s))
-  pub variable-is : n / 2 ^ 48 ≡ position (variables s) (a .variable)
-  pub right-is : n / 2 ^ 32 % 2 ^ 16 ≡ code (a .right)
-  pub from-is : n / 2 ^ 16 % 2 ^ 16 ≡ position (principalsOf s) (a .from)
-  pub to-is : n % 2 ^ 16 ≡ position (principalsOf s) (a .to)
+  pub variable-is : f .variable ≡ position (variables s) (a .variable)
+  pub right-is : f .right ≡ code (a .right)
+  pub from-is : f .from ≡ position (principalsOf s) (a .from)
+  pub to-is : f .to ≡ position (principalsOf s) (a .to)
 
 pub apart : (s : Store) (l : Layout) (principals-text : Text) (principal-slots : List ℕ) (vars-text : Text) (variable-slots : List ℕ)
-    → Named s l principals-text principal-slots vars-text variable-slots → (a : Assertion) (n : ℕ) → Assertions s a n → Apart s a n
-unfolding fields
-apart s l principals-text principal-slots vars-text variable-slots N a n C =
+    → Named s l principals-text principal-slots vars-text variable-slots → (a : Assertion) (n : ℕ) → Assertions s a n → (f : Numbers) → f ≡ fields n → Apart s a f
+apart s l principals-text principal-slots vars-text variable-slots N a n C f is =
     let (x, q, p) = three (present (valueIn (s .variables) (a .variable))) (present (named (s .principals) (a .from))) (present (named (s .principals) (a .to))) (C .known) in
     let x-known : T (member (a .variable) (variables s)) = valued-is (a .variable) (s .variables) x in
     let q-known : T (member (a .from) (principalsOf s)) = named-is (a .from) (s .principals) q in
     let p-known : T (member (a .to) (principalsOf s)) = named-is (a .to) (s .principals) p in
-    let e : fields n ≡ four (principalsOf s) (variables s) a =
-    ap fields (C .number)
+    let e : f ≡ four (principalsOf s) (variables s) a =
+    is ∙ ap fields (C .number)
     ∙ fields-pack (position (variables s) (a .variable)) (position (principalsOf s) (a .from)) (code (a .right)) (position (principalsOf s) (a .to))
     (omega (arith, position-lt (variables s) (a .variable) x-known, few-variables s (N .is-valid))) (omega (arith, position-lt (principalsOf s) (a .from) q-known, few-names s (N .is-valid)))
     (omega (arith, code-lt (a .right))) (omega (arith, position-lt (principalsOf s) (a .to) p-known, few-names s (N .is-valid))) in

@@ -19,16 +19,17 @@ pub fn name_of<'a>(text: &'a [u8], slots: &[u32], count: usize, number: usize) -
     &text[from..to]
 }
 
-pub fn letter_of(right: u64) -> u8
+// The letter of a right's number.
+pub fn letter_of(right: u16) -> u8
     ensures { λ b. ⌜ ((r : Right) → right ≡ code r → letter r ≡ b ∷ []) ⌝ }
 {
-    if right == 0 {
+    if right == assertion::READ {
         return b'r';
     }
-    if right == 1 {
+    if right == assertion::WRITE {
         return b'w';
     }
-    if right == 2 {
+    if right == assertion::APPEND {
         return b'a';
     }
     b'd'

@@ -10,7 +10,7 @@ ghost use Rattle.values.specs.Writing.{Written};
 ghost use Rattle.named_rights.specs.Numbers.{Standing};
 ghost use Rattle.saving.specs.Stores.{Named, Assertions, SomeAssertion, SomeAssertions};
 
-// The line of the assertion of a number: from the top variable, right, from and to, 16 bits each.
+// The line of the assertion of a number.
 fn put_packed(
     out: &mut [u8],
     at: usize,
@@ -19,20 +19,17 @@ fn put_packed(
     vars: &[u8],
     variable_slots: &[u32],
     l: Layout,
-    assertion: u64,
+    number: u64,
 ) -> usize
-    requires { ⌜ SomeAssertion l (now principals) (now «principal_slots») (now vars) (now «variable_slots») assertion at (length (now out)) ⌝ }
+    requires { ⌜ SomeAssertion l (now principals) (now «principal_slots») (now vars) (now «variable_slots») number at (length (now out)) ⌝ }
     ensures { λ r. ⌜ ((s : Store) (a : Assertion) → Named s l (now (principals .entry)) (now («principal_slots» .entry)) (now (vars .entry)) (now («variable_slots» .entry))
-        → Assertions s a assertion → Written (now (out .entry)) at (assertionText a) r (now (out .exit))) ⌝ }
+        → Assertions s a number → Written (now (out .entry)) at (assertionText a) r (now (out .exit))) ⌝ }
 {
-    let variable = (assertion / 281474976710656) as usize;
-    let right = assertion / 4294967296 % 65536;
-    let from = (assertion / 65536 % 65536) as usize;
-    let to = (assertion % 65536) as usize;
-    let x = name_of(vars, variable_slots, l.vars, variable);
-    let q = name_of(principals, principal_slots, l.principals, from);
-    let p = name_of(principals, principal_slots, l.principals, to);
-    put_assertion(out, at, x, q, letter_of(right), p)
+    let a = assertion::unpack(number);
+    let x = name_of(vars, variable_slots, l.vars, a.variable as usize);
+    let q = name_of(principals, principal_slots, l.principals, a.from as usize);
+    let p = name_of(principals, principal_slots, l.principals, a.to as usize);
+    put_assertion(out, at, x, q, letter_of(a.right), p)
 }
 
 // The lines of all assertions, in order of entry.

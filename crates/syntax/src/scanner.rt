@@ -12,14 +12,14 @@ pub struct Scanner<'a> {
     pub at: usize,
 }
 
-pub fn scan<'a>(text: &'a [u8], at: usize) -> Scanner<'a>
+fn scan<'a>(text: &'a [u8], at: usize) -> Scanner<'a>
     ensures { λ r. ⌜ (r .text ≡ text .entry) × (r .at ≡ at) ⌝ }
 {
     Scanner { text, at }
 }
 
 // The next token.
-pub fn peek<'a>(s: Scanner<'a>) -> Token
+fn peek<'a>(s: Scanner<'a>) -> Token
     requires { ⌜ s .at ≤ length (now (s .text)) ⌝ }
     ensures { λ r. ⌜ Found (now (s .entry .text)) (s .entry .at) r ⌝ }
 {

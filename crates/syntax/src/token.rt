@@ -135,7 +135,7 @@ fn pair_at(text: &[u8], at: usize, m: u8, n: u8) -> Token
 }
 
 // The first token from `at` on, up to the end of the line.
-pub fn token_at(text: &[u8], at: usize) -> Token
+pub(crate) fn token_at(text: &[u8], at: usize) -> Token
     requires { ⌜ at ≤ length (now text) ⌝ }
     ensures meant { λ r. ⌜ lex (drop at (now (text .entry))) ≡ tokensMeant (now (text .entry)) r ⌝ }
     ensures placed { λ r. ⌜ Placed (now (text .entry)) at r ⌝ }

@@ -43,7 +43,7 @@ fn dotted(text: &[u8], name: Span, at: usize) -> OperandRead
     OperandRead::Found(Operand::Field(name, y), n)
 }
 
-pub fn operand_at(text: &[u8], at: usize) -> OperandRead
+fn operand_at(text: &[u8], at: usize) -> OperandRead
     requires { ⌜ at ≤ length (now text) ⌝ }
     ensures meant { λ r. ⌜ operandReadMeant (now (text .entry)) r ≡ anyOperand (lex (drop at (now (text .entry)))) ⌝ }
     ensures placed { λ r. ⌜ OperandPlaced (now (text .entry)) at r ⌝ }

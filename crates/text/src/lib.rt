@@ -88,7 +88,7 @@ fn in_comment(b: u8) -> bool
     }
 }
 
-pub fn in_alphabet(a: Alphabet, b: u8) -> bool
+fn in_alphabet(a: Alphabet, b: u8) -> bool
     ensures { λ r. ⌜ r ≡ inAlphabet a b ⌝ }
 {
     match a {

@@ -148,7 +148,7 @@ fn fields_end(text: &[u8], at: usize) -> usize
 }
 
 // The end of the element whose first line starts at `at`.
-pub fn element_end(text: &[u8], at: usize) -> usize
+fn element_end(text: &[u8], at: usize) -> usize
     requires { ⌜ SomeElement (now text) at ⌝ }
     ensures ends { λ r. ⌜ ((e : Element) (rest : Text) → ElementAt (now (text .entry)) at e rest → r ≡ at + length (elementText e)) ⌝ }
     ensures within { λ r. ⌜ r ≤ length (now (text .entry)) ⌝ }

@@ -40,7 +40,8 @@ use Rattle.session.specs.declared.Layout.{Layout}
 use Rattle.session.specs.Sessions.{Slices, slices, Running}
 use Rattle.session.proofs.Scoping.{locals-valid, sender-known, everyone}
 use Rattle.session.proofs.Room.{weighs, records-few, principals-some, assertions-few}
-use Rattle.session.proofs.Changes.{withOtherLocals, withOtherShared, withBoth, same-numbers, other-locals, other-shared}
+use Rattle.session.proofs.Changes.{withBoth, same-numbers, other-locals, other-shared}
+use Rattle.session.specs.Layouts.{withOtherLocals, withOtherShared}
 use Rattle.variables.specs.Puts.{Lies, Became}
 use Rattle.variables.specs.Grants.{grantWeight, grantNumbers}
 use Rattle.variables.proofs.Granting.{granting, grants, grants-weight, grants-entered, none-stands, all-numbers, some-grants}

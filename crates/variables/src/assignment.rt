@@ -18,7 +18,7 @@ ghost use Rattle.language.specs.Identifiers.{isName};
 ghost use Rattle.language.specs.Values.{Session};
 ghost use Rattle.language.specs.Commands.{assign};
 ghost use Rattle.session.specs.Sessions.{slices, Running, SomeRunning};
-ghost use Rattle.session.proofs.Changes.{withOtherLocals, withOtherShared};
+ghost use Rattle.session.specs.Layouts.{withOtherLocals, withOtherShared};
 ghost use Rattle.variables.specs.Puts.{Weighs, SomeWeighed};
 ghost use Rattle.variables.specs.Assignments.{SomeShared, SomeNew, Assigns};
 
@@ -28,7 +28,7 @@ pub enum Assigned {
 }
 
 // The layout with other locals.
-pub fn with_locals(l: Layout, len: usize, count: usize, weight: usize) -> Layout
+pub(crate) fn with_locals(l: Layout, len: usize, count: usize, weight: usize) -> Layout
     ensures { λ r. ⌜ r ≡ withOtherLocals l len count weight ⌝ }
 {
     Layout {
@@ -47,7 +47,13 @@ pub fn with_locals(l: Layout, len: usize, count: usize, weight: usize) -> Layout
 }
 
 // The layout with other shared variables and assertions.
-pub fn with_shared(l: Layout, len: usize, count: usize, asserted: usize, weight: usize) -> Layout
+pub(crate) fn with_shared(
+    l: Layout,
+    len: usize,
+    count: usize,
+    asserted: usize,
+    weight: usize,
+) -> Layout
     ensures { λ r. ⌜ r ≡ withOtherShared l len count asserted weight ⌝ }
 {
     Layout {

@@ -4,6 +4,7 @@ mod extension; // a list gets more elements
 mod grants; // what the maker of a variable is granted
 mod put; // one text of variables changed, where the session stays light enough
 
+use assertion::WRITE;
 use assignment::Assigned;
 use assignment::assign;
 use assignment::with_locals;
@@ -69,7 +70,7 @@ pub fn set(
         → Ended r (step s (Syntax.set (part (now (text .entry)) x) y))
         (slices (now (principals .entry)) (now («principal_slots» .entry)) (now (vars .exit)) (now («variable_slots» .exit)) (now (locals .exit)) (now («local_slots» .exit)) (now (assertions .exit)))) ⌝ }
 {
-    if !lookup::may_use(vars, variable_slots, assertions, l, text, x, e, 1) {
+    if !lookup::may_use(vars, variable_slots, assertions, l, text, x, e, WRITE) {
         return Verdict::Denied;
     }
     let v = lookup::worth(
