@@ -6,7 +6,7 @@ use lib.Dec.{T}
 use Rattle.language.specs.Text.{Text}
 use Rattle.language.specs.Syntax.{Command}
 use Rattle.language.proofs.Parsing.ValidPrograms.{validCommand}
-use Rattle.command_readers.specs.declared.command.Command as ReadCommand
+use Rattle.command_readers.specs.declared.Command as ReadCommand
 use Rattle.command_readers.specs.Commands.{commandMeant, SomeCommand}
 
 pub valid-as : {t : Text} {k : ReadCommand.Command} (m : Command) → commandMeant t k ≡ some m → SomeCommand t k → T (validCommand m)

@@ -1,5 +1,5 @@
 // The commands about principals and what they delegate, and exit: each is done by its function, and has its status.
-use command_readers::command::Administration;
+use command_readers::Administration;
 use session::Layout;
 use status::Acted;
 use status::Status;
@@ -13,19 +13,19 @@ ghost use Rattle.language.specs.Programs.{longest};
 ghost use Rattle.language.specs.Syntax as Syntax;
 ghost use Rattle.language.specs.Values.{Session};
 ghost use Rattle.language.specs.Commands.{step};
-ghost use Rattle.command_readers.specs.declared.command.Command.the-variants.{Administer};
+ghost use Rattle.command_readers.specs.declared.Command.the-variants.{Administer};
 ghost use Rattle.command_readers.specs.Commands.{administrationMeant, SomeCommand};
 ghost use Rattle.session.specs.Sessions.{Running, SomeRunning, slices};
 ghost use Rattle.status.specs.Acts.{Acts};
 
-// Does the command that stands at the places c of the program's text, on the running session. It returns no value.
+// Does the command that stands at the places c of the program's text, on the running session. It returns no value, and changes no variable.
 pub fn act(
     principals: &mut [u8],
     principal_slots: &mut [u32],
-    vars: &mut [u8],
-    variable_slots: &mut [u32],
-    locals: &mut [u8],
-    local_slots: &mut [u32],
+    vars: &[u8],
+    variable_slots: &[u32],
+    locals: &[u8],
+    local_slots: &[u32],
     assertions: &mut [u64],
     labels: &mut [u32],
     l: Layout,
@@ -36,7 +36,7 @@ pub fn act(
     requires { ⌜ length (now labels) ≡ 4096 ⌝ }
     requires { ⌜ SomeCommand (now text) (Administer c) × (length (now text) ≤ longest) ⌝ }
     ensures { λ r. ⌜ ((s : Session) (k : Syntax.Command) (value : Text) → Running s l (slices (now (principals .entry)) (now («principal_slots» .entry)) (now (vars .entry)) (now («variable_slots» .entry)) (now (locals .entry)) (now («local_slots» .entry)) (now (assertions .entry))) → administrationMeant (now (text .entry)) c ≡ some k
-        → Acts r (step s k) s l (slices (now (principals .exit)) (now («principal_slots» .exit)) (now (vars .exit)) (now («variable_slots» .exit)) (now (locals .exit)) (now («local_slots» .exit)) (now (assertions .exit))) value) ⌝ }
+        → Acts r (step s k) s l (slices (now (principals .exit)) (now («principal_slots» .exit)) (now (vars .entry)) (now («variable_slots» .entry)) (now (locals .entry)) (now («local_slots» .entry)) (now (assertions .exit))) value) ⌝ }
 {
     match c {
         Administration::CreatePrincipal(p, w) => {
@@ -57,7 +57,7 @@ pub fn act(
             done(v, Status::CreatePrincipal)
         }
         Administration::ChangePassword(p, w) => {
-            let v = principals::change_password(
+            let v = passwords::change_password(
                 principals,
                 principal_slots,
                 vars,
@@ -111,7 +111,7 @@ pub fn act(
             done(v, Status::DeleteDelegation)
         }
         Administration::DefaultDelegator(p) => {
-            let v = principals::default_delegator(
+            let v = server_commands::default_delegator(
                 principals,
                 principal_slots,
                 vars,
@@ -126,7 +126,7 @@ pub fn act(
             done(v, Status::DefaultDelegator)
         }
         Administration::Exit => {
-            let v = principals::exit(
+            let v = server_commands::exit(
                 principals,
                 principal_slots,
                 vars,

@@ -2,12 +2,12 @@
 use Prim.Native.Nat.{ℕ}
 use mathlib.Core.Option.{Option, none, some}
 use Rattle.language.specs.Syntax.{Right}
-use Rattle.language.specs.Commands as Refused
 use Rattle.language.specs.Run as Run
 use Rattle.language.specs.Calls as Calls
 use Rattle.named_rights.specs.Numbers.{code}
+use Rattle.refusal.specs.Refusals.{refusalMeant}
 use Rattle.answers.specs.declared.Kind.{Kind}
-use Rattle.answers.specs.declared.Kind.the-variants.{Returned, Exited, Denied, Failed, Full}
+use Rattle.answers.specs.declared.Kind.the-variants.{Returned, Exited, Refused}
 use Rattle.answers.specs.declared.Finish.{Finish}
 use Rattle.answers.specs.declared.Answer.{Answer}
 use Rattle.answers.specs.declared.Answer.the-variants.{Wrong, Ended, Yes, No, Ready}
@@ -15,9 +15,7 @@ use Rattle.answers.specs.declared.Answer.the-variants.{Wrong, Ended, Yes
 abbrev pub kindMeant : Kind → Run.Kind
 kindMeant Returned = Run.returned
 kindMeant Exited = Run.exited
-kindMeant Denied = Run.stopped Refused.DENIED
-kindMeant Failed = Run.stopped Refused.FAILED
-kindMeant Full = Run.stopped Refused.FULL
+kindMeant (Refused f) = Run.stopped (refusalMeant f)
 
 abbrev pub finishMeant : Finish → Run.Result
 finishMeant f = record { kind = kindMeant (f .kind); lines = f .lines; size = f .bytes }

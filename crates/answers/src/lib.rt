@@ -1,12 +1,12 @@
 // What the functions open to the host answer. Which number and values of document 01 each case says: specs/Answers.antt.
 
+use refusal::Refusal;
+
 // How a program ended.
 pub enum Kind {
     Returned,
     Exited,
-    Denied,
-    Failed,
-    Full,
+    Refused(Refusal),
 }
 
 // A program's result: the kind of end, and the lines and bytes of its output.

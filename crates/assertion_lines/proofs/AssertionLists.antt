@@ -26,10 +26,10 @@ use Rattle.assertion.specs.Packed.{fields}
 use Rattle.assertion.proofs.Packing.{fields-pack}
 use Rattle.named_rights.specs.Numbers.{code, numbered}
 use Rattle.named_rights.proofs.Places.{position-lt, same-place, code-lt, same-code}
-use Rattle.records.specs.Sections.{Fails, lightOne, lightAll, anyText}
-use Rattle.records.proofs.Follow.{Run, start, step, stuck, spoilt, finish}
-use Rattle.records.proofs.Labels.{opens-here, opens-not}
-use Rattle.records.proofs.Indexing.{ahead}
+use Rattle.record_fields.specs.Sections.{Fails, lightOne, lightAll, anyText}
+use Rattle.record_fields.proofs.Follow.{Run, start, step, stuck, spoilt, finish}
+use Rattle.record_fields.proofs.Labels.{opens-here, opens-not}
+use Rattle.record_fields.proofs.Indexing.{ahead}
 use Rattle.assertion_lines.specs.Assertions.{knownNames, offAssertion, goodAssertions, Granting, Granted}
 use Rattle.store.proofs.NameWeights.{name-light}
 

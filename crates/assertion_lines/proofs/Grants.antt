@@ -23,8 +23,8 @@ use Rattle.lines.proofs.Cuts.{only, wider}
 use Rattle.assertion.specs.Packed.{pack}
 use Rattle.store.specs.Rows as Store
 use Rattle.named_rights.specs.Numbers.{code}
-use Rattle.records.specs.Sections.{Fails, lightOne, anyText}
-use Rattle.records.proofs.Opening.{twice, tail-of, byte-here, next-here, part-length}
+use Rattle.record_fields.specs.Sections.{Fails, lightOne, anyText}
+use Rattle.record_fields.proofs.Opening.{twice, tail-of, byte-here, next-here, part-length}
 use Rattle.references.specs.Known.{Member}
 use Rattle.assertion_lines.specs.Assertions.{knownNames, byteOf, codeOf, Granting}
 use Rattle.language.proofs.Logic.Lists.{any-last}

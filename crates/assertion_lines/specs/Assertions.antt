@@ -14,9 +14,9 @@ use Rattle.language.specs.Valid.{unrepeated}
 use Rattle.text.specs.Parts.{part}
 use Rattle.store.specs.Rows.{SomeRows}
 use Rattle.named_rights.specs.Numbers.{numbered}
-use Rattle.records.specs.Sections.{Reads, Fails, Records, lightOne, lightAll, anyText, opens}
-use Rattle.records.specs.declared.Section.{Section}
-use Rattle.records.specs.declared.Section.the-variants as Many
+use Rattle.record_fields.specs.Sections.{Reads, Fails, Records, lightOne, lightAll, anyText, opens}
+use Rattle.record_fields.specs.declared.Section.{Section}
+use Rattle.record_fields.specs.declared.Section.the-variants as Many
 use Rattle.assertion_lines.specs.declared.Roll.{Roll}
 use Rattle.assertion_lines.specs.declared.AssertionRead.{AssertionRead}
 use Rattle.assertion_lines.specs.declared.AssertionRead.the-variants.{At, No}

@@ -11,9 +11,9 @@ use Rattle.language.specs.Commands.{Refusal, DENIED, FAILED, FULL}
 use Rattle.language.specs.Run.{End, refusalLine, output, Kind, kindOf, lineCount}
 use Rattle.language.specs.Run as Run
 use Rattle.language.specs.Calls.{ended}
-use Rattle.values.specs.Writing.{Written}
-use Rattle.values.proofs.Pieces.{rewritten, written-take}
-use Rattle.render.proofs.Zeros.{padded-is}
+use Rattle.value_text.specs.Writing.{Written}
+use Rattle.value_text.proofs.Pieces.{rewritten, written-take}
+use Rattle.state_lines.proofs.Zeros.{padded-is}
 use Rattle.answers.specs.declared.Kind as Is
 use Rattle.answers.specs.declared.Answer.the-variants.{Ended}
 use Rattle.answers.specs.Answers.{kindMeant}

@@ -2,15 +2,16 @@
 use answers::Answer;
 use answers::Finish;
 use answers::Kind;
+use refusal::Refusal;
 use render::output::status;
-use render::state::zero_rest;
+use state_lines::zero_rest;
 ghost use mathlib.Core.Path.{_≡_};
 ghost use Prim.Native.Nat.{_≤_};
 ghost use lib.ListN.{length, take};
 ghost use Rattle.language.specs.Text.{if_then_else_};
-ghost use Rattle.language.specs.Commands.{Refusal};
 ghost use Rattle.language.specs.Run as Run;
-ghost use Rattle.render.specs.Lines.{statusLine};
+ghost use Rattle.value_text.specs.Writing.{Written};
+ghost use Rattle.refusal.specs.Refusals.{refusalMeant};
 ghost use Rattle.answers.specs.Answers.{kindMeant};
 ghost use Rattle.closing.specs.Closed.{Closed};
 
@@ -35,12 +36,23 @@ pub fn close(work: &mut [u8], output: &mut [u8], kind: Kind, lines: usize, bytes
     Answer::Ended(Finish { kind, lines, bytes })
 }
 
-// A refused program has one line; what it printed before is gone.
-pub fn refuse(work: &mut [u8], output: &mut [u8], kind: Kind, word: &[u8]) -> Answer
-    requires { ⌜ (length (now work) ≡ 65536) × (length (now output) ≡ 65536) × (length (now word) ≤ 6) ⌝ }
-    ensures { λ r. ⌜ ((f : Refusal) → kindMeant kind ≡ Run.stopped f → statusLine (now (word .entry)) ≡ Run.refusalLine f
-        → Closed r (Run.refusal f) (now (work .exit)) (now (output .exit))) ⌝ }
+// The line of a refusal, from the output's start.
+fn put_refusal(output: &mut [u8], how: Refusal) -> usize
+    requires { ⌜ length (now output) ≡ 65536 ⌝ }
+    ensures { λ n. ⌜ Written (now (output .entry)) 0 (Run.refusalLine (refusalMeant how)) n (now (output .exit)) ⌝ }
 {
-    let n = status(output, 0, word);
-    close(work, output, kind, 1, n)
+    match how {
+        Refusal::Denied => status(output, 0, b"DENIED"),
+        Refusal::Failed => status(output, 0, b"FAILED"),
+        Refusal::Full => status(output, 0, b"FULL"),
+    }
+}
+
+// A refused program has one line; what it printed before is gone.
+pub fn refuse(work: &mut [u8], output: &mut [u8], how: Refusal) -> Answer
+    requires { ⌜ (length (now work) ≡ 65536) × (length (now output) ≡ 65536) ⌝ }
+    ensures { λ r. ⌜ Closed r (Run.refusal (refusalMeant how)) (now (work .exit)) (now (output .exit)) ⌝ }
+{
+    let n = put_refusal(output, how);
+    close(work, output, Kind::Refused(how), 1, n)
 }

@@ -10,14 +10,14 @@ use Rattle.language.specs.Text.{Text, bytes, _==_, _>>=_}
 use Rattle.language.specs.Tokens.{Token, sign, ident}
 use Rattle.language.specs.Syntax.{Name, Expr, Command, set, set-delegation, exit, return}
 use Rattle.language.specs.Grammar.{the, anyExpression, createForm, changeForm, appendForm, localForm, foreachForm, deleteDelegationForm, anyCommand, anyEnding}
-use Rattle.syntax.specs.Readers.{anySign}
-use Rattle.command_readers.specs.Forms.{ofExpr, assignForm, delegationForm}
+use Rattle.tokens.specs.Readers.{anySign}
+use Rattle.forms.specs.Forms.{ofExpr, assignForm, delegationForm}
 use Rattle.command_readers.specs.Commands.{CommandPlaced, aboutPrincipals}
-use Rattle.command_readers.specs.declared.command.CommandRead.{CommandRead}
-use Rattle.command_readers.specs.declared.command.CommandRead.the-variants as CommandIs
+use Rattle.command_readers.specs.declared.CommandRead.{CommandRead}
+use Rattle.command_readers.specs.declared.CommandRead.the-variants as CommandIs
 use Rattle.text.proofs.Words.{same-true}
-use Rattle.syntax.proofs.Reading.{sign-none, orElse-none}
-use Rattle.command_readers.proofs.Phrases.{of-expr}
+use Rattle.tokens.proofs.Reading.{sign-none, orElse-none}
+use Rattle.forms.proofs.Phrases.{of-expr}
 
 -- a command with an expression, as k makes it
 pub of-command : (o : Option Expr) (k : Expr → Command) (us : List Token) → ((o >>= λ v. some (k v)) >>= λ c. some (c, us)) ≡ ofExpr o k us

@@ -1,3 +1,2 @@
 -- Laws of the readers of commands.
-pub mod Phrases
 pub mod Dispatch

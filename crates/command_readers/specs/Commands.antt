@@ -11,16 +11,16 @@ use Rattle.language.specs.Syntax as Syntax
 use Rattle.language.specs.Grammar.{Reader, _∣_, createForm, changeForm, deleteDelegationForm, delegatorForm}
 use Rattle.language.proofs.Parsing.ValidPrograms.{validCommand}
 use Rattle.text.specs.Meaning.{part, Within}
-use Rattle.command_readers.specs.declared.command.Command.{Command}
-use Rattle.command_readers.specs.declared.command.Command.the-variants.{Administer, Variable}
-use Rattle.command_readers.specs.declared.command.Administration.{Administration}
-use Rattle.command_readers.specs.declared.command.Administration.the-variants.{CreatePrincipal, ChangePassword, SetDelegation, DeleteDelegation, DefaultDelegator, Exit}
-use Rattle.command_readers.specs.declared.command.VariableCommand.{VariableCommand}
-use Rattle.command_readers.specs.declared.command.VariableCommand.the-variants.{Set, Append, Local, Foreach, Return}
-use Rattle.command_readers.specs.declared.command.CommandRead.{CommandRead}
-use Rattle.command_readers.specs.declared.command.CommandRead.the-variants as CommandIs
+use Rattle.command_readers.specs.declared.Command.{Command}
+use Rattle.command_readers.specs.declared.Command.the-variants.{Administer, Variable}
+use Rattle.command_readers.specs.declared.Administration.{Administration}
+use Rattle.command_readers.specs.declared.Administration.the-variants.{CreatePrincipal, ChangePassword, SetDelegation, DeleteDelegation, DefaultDelegator, Exit}
+use Rattle.command_readers.specs.declared.VariableCommand.{VariableCommand}
+use Rattle.command_readers.specs.declared.VariableCommand.the-variants.{Set, Append, Local, Foreach, Return}
+use Rattle.command_readers.specs.declared.CommandRead.{CommandRead}
+use Rattle.command_readers.specs.declared.CommandRead.the-variants as CommandIs
 use Rattle.syntax.specs.Values.{exprMeant, ExprWithin}
-use Rattle.command_readers.specs.Forms.{rightMeant, targetMeant, TargetWithin}
+use Rattle.forms.specs.Forms.{rightMeant, targetMeant, TargetWithin}
 
 abbrev pub administrationMeant : Text → Administration → Option Syntax.Command
 administrationMeant t (CreatePrincipal p s) = some (Syntax.create-principal (part t p) (part t s))

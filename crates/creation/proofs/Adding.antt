@@ -34,7 +34,7 @@ use Rattle.session.specs.Sessions.{Slices, Running}
 use Rattle.session.proofs.Scoping.{store-valid, sender-known}
 use Rattle.session.proofs.Room.{principals-short, records-few}
 use Rattle.store.proofs.NameWeights.{weighs-all}
-use Rattle.delegations.proofs.Changes.{valid-known}
+use Rattle.assertion_changes.proofs.Changes.{valid-known}
 use Rattle.creation.specs.Creating.{withPrincipalText, New}
 use Rattle.creation.proofs.OtherPrincipals.{withOtherPrincipals, Same, with-principal-text}
 

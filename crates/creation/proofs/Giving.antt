@@ -21,8 +21,8 @@ use Rattle.session.specs.Sessions.{Slices, Running}
 use Rattle.session.proofs.Scoping.{store-valid, everyone}
 use Rattle.session.proofs.Room.{records-few}
 use Rattle.delegation_rules.specs.Numbered.{Numbered, Counted}
-use Rattle.delegations.specs.Entering.{Delegates}
-use Rattle.delegations.proofs.Lists.{entering-append, entering-grows}
+use Rattle.delegations.specs.Delegates.{Delegates}
+use Rattle.assertion_changes.proofs.Lists.{entering-append, entering-grows}
 use Rattle.creation.specs.Creating.{delegated, delegatedFirst, Gives}
 
 right-code : (i : ℕ) → i < 4 → i ≡ code (getD rights i delegate)

@@ -1,5 +1,5 @@
 // A principal is created: added last, and then given what the default delegator may delegate.
-use delegations::Entered;
+use assertion_changes::Entered;
 use session::Layout;
 ghost use Prim.Native.Nat.{_≤_, _<_};
 ghost use lib.ListN.{length, getD};
@@ -8,7 +8,7 @@ ghost use Rattle.language.specs.Syntax.{Name, delegate, rights};
 ghost use Rattle.language.specs.Values.{Session};
 ghost use Rattle.language.specs.Commands.{withStore, withPrincipal, enterAll, delegations};
 ghost use Rattle.session.specs.Sessions.{Slices, slices};
-ghost use Rattle.delegations.specs.Entering.{Ends};
+ghost use Rattle.assertion_changes.specs.Entering.{Ends};
 ghost use Rattle.creation.specs.Creating.{withPrincipalText, New, SomeNew, delegated, Gives, SomeGives};
 
 // Adds a principal that is not there. Its name weighs its length, since admin and anyone are there.

@@ -27,9 +27,10 @@ use Rattle.session.specs.declared.Layout.{Layout}
 use Rattle.session.specs.Sessions.{Slices, Running}
 use Rattle.session.proofs.Scoping.{store-valid, everyone}
 use Rattle.delegation_rules.specs.Numbered.{Numbered}
-use Rattle.delegations.specs.Entering.{Asserts, Delegates, entered, withdrawn, restood}
+use Rattle.assertion_changes.specs.Entering.{Asserts, entered, withdrawn, restood}
+use Rattle.delegations.specs.Delegates.{Delegates}
 use Rattle.store.proofs.NameWeights.{name-light}
-use Rattle.delegations.proofs.Lists.{assertionAt, on-next, on-split, entering-append, withdrawing-append, entering-grows-by}
+use Rattle.assertion_changes.proofs.Lists.{assertionAt, on-next, on-split, entering-append, withdrawing-append, entering-grows-by}
 
 -- the name in the row of a number
 principal-row : (ks : List Principal) (k : ℕ) → rowAt (map principalRow ks) k .name ≡ getD (map (λ m. m .name) ks) k []

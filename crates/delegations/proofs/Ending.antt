@@ -24,7 +24,8 @@ use Rattle.session.specs.Sessions.{Slices, Running}
 use Rattle.session.specs.Endings.{Succeeds}
 use Rattle.session.proofs.Steps.{is-failed, is-full, is-done, heavy-session}
 use Rattle.delegation_rules.specs.declared.Ask.{Ask}
-use Rattle.delegations.specs.Entering.{Delegates, entered, withdrawn}
+use Rattle.assertion_changes.specs.Entering.{entered, withdrawn}
+use Rattle.delegations.specs.Delegates.{Delegates}
 use Rattle.delegation_rules.specs.Asking.{Names}
 use Rattle.delegation_rules.proofs.Existing.{complete}
 

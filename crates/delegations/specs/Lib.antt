@@ -1,2 +1,2 @@
--- Delegations of a running program: entered and withdrawn, one by one and for all variables.
-pub mod Entering
+-- What is delegated, for each of some variables.
+pub mod Delegates

@@ -1,9 +1,9 @@
 // Delegations in a running session: assertions entered and withdrawn, and the two commands.
-mod entry; // one assertion
-mod weigh; // what an assertion weighs, and its number
-
-use command_readers::form::Right;
-use command_readers::form::Target;
+use assertion_changes::Entered;
+use assertion_changes::entry;
+use assertion_changes::weigh;
+use forms::Right;
+use forms::Target;
 use session::Layout;
 use session::Verdict;
 use text::Span;
@@ -17,14 +17,9 @@ ghost use Rattle.language.specs.Commands.{assertionsOn, step};
 ghost use Rattle.session.specs.Sessions.{slices, Running, SomeRunning};
 ghost use Rattle.session.specs.Endings.{Ended};
 ghost use Rattle.text.specs.Meaning.{part, Within};
-ghost use Rattle.command_readers.specs.Forms.{rightMeant, targetMeant, TargetWithin};
-ghost use Rattle.delegations.specs.Entering.{Ends, Delegates, SomeDelegates, entered, withdrawn};
-
-// The session after assertions were entered, or none where it would be too heavy.
-pub enum Entered {
-    Full,
-    Done(Layout),
-}
+ghost use Rattle.forms.specs.Forms.{rightMeant, targetMeant, TargetWithin};
+ghost use Rattle.assertion_changes.specs.Entering.{Ends, entered, withdrawn};
+ghost use Rattle.delegations.specs.Delegates.{Delegates, SomeDelegates};
 
 // Enters the assertions from q to p of a right on each of the first `count` targets.
 pub fn enter_all(

@@ -1,13 +1,11 @@
 // The program of document 01, "Desk sessions": it makes a server with the password `desk`, reads programs from standard input, each ended by its
 // `***` line, and prints their lines. It stops after EXITING or at the end of the input, where an unfinished program is dropped.
-mod reading; // programs, cut out of a stream of bytes
-
 use answers::Answer;
 use answers::Kind;
 use libc::SEEK_CUR;
 use libc::STDIN_FILENO;
 use libc::STDOUT_FILENO;
-use reading::Reading;
+use stream::Reading;
 
 // The reading after some of the input was taken, and whether to go on.
 struct Taken {
@@ -19,9 +17,7 @@ fn goes_on_after(kind: Kind) -> bool {
     match kind {
         Kind::Returned => true,
         Kind::Exited => false,
-        Kind::Denied => true,
-        Kind::Failed => true,
-        Kind::Full => true,
+        Kind::Refused(_) => true,
     }
 }
 
@@ -42,7 +38,7 @@ fn serve(
     program: &[u8],
     reading: Reading,
 ) -> bool {
-    let len = reading::kept(reading, program);
+    let len = stream::kept(reading, program);
     let answer = run::program(state, work, output, &program[0..len]);
     match answer {
         Answer::Wrong(_) => false,
@@ -65,15 +61,15 @@ fn take_byte(
     reading: Reading,
     b: u8,
 ) -> Taken {
-    if b == b'\n' && reading::is_last(reading) {
+    if b == b'\n' && stream::is_last(reading) {
         let goes_on = serve(state, work, output, program, reading);
         return Taken {
-            reading: reading::fresh(),
+            reading: stream::fresh(),
             goes_on,
         };
     }
     Taken {
-        reading: reading::with_byte(program, reading, b),
+        reading: stream::with_byte(program, reading, b),
         goes_on: true,
     }
 }
@@ -123,7 +119,7 @@ fn step(
     let got = libc::read(STDIN_FILENO, chunk);
     let n = io::count(got, chunk);
     if n == 0 {
-        if reading::is_last(reading) {
+        if stream::is_last(reading) {
             serve(state, work, output, program, reading);
         }
         return Taken {
@@ -142,7 +138,7 @@ fn session(
     program: &mut [u8],
     chunk: &mut [u8],
 ) {
-    let mut reading = reading::fresh();
+    let mut reading = stream::fresh();
     let mut turns = u64::MAX;
     while turns > 0 {
         turns -= 1;

@@ -18,11 +18,11 @@ use Rattle.language.specs.Encode.{tab, newline, variablesText}
 use Rattle.language.proofs.Logic.Tests.{both, and, all-append}
 use Rattle.store.specs.Held.{Principals, Variables, slot, slotsFrom}
 use Rattle.store.specs.Rows.{Row, Rows, rowText, principalRow, variableRow}
-use Rattle.edits.specs.Splices.{over}
+use Rattle.splice.specs.Splices.{over}
 use Rattle.edits.specs.Changes.{Outside}
 use Rattle.store.proofs.Records.{joined-append}
 use Rattle.store.proofs.Holders.{variables-rows, rows-variables, rows-principals, joined-variables}
-use Rattle.edits.proofs.Splicing.{take-over, drop-over, over-on, set-over, length-over}
+use Rattle.splice.proofs.Splicing.{take-over, drop-over, over-on, set-over, length-over}
 use Rattle.language.proofs.Logic.Lists.{map-append}
 
 -- a letter, a tab, a name and a tab, one after the other

@@ -1,6 +1,4 @@
 -- Laws that belong to no one function.
-pub mod Splicing
-pub mod Sliding
 pub mod Rewriting
 pub mod Putting
 pub mod Adding

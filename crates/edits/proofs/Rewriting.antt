@@ -17,11 +17,11 @@ use Rattle.language.proofs.Logic.Tests.{both, and}
 use Rattle.store.specs.Held.{slot, slotsFrom}
 use Rattle.text.specs.Parts.{part}
 use Rattle.store.specs.Rows.{Row, Rows, rowText, noRow, rowAt, startOf}
-use Rattle.edits.specs.Splices.{spliced, shifted}
+use Rattle.splice.specs.Splices.{spliced, shifted}
 use Rattle.edits.specs.Changes.{Respelled, SomeSpot, Outside}
 use Rattle.store.proofs.Hashes.{hash-small}
 use Rattle.store.proofs.Records.{joined-append, slot-there, start-in, start-next, name-valid}
-use Rattle.edits.proofs.Splicing.{part-take, length-part}
+use Rattle.splice.proofs.Splicing.{part-take, length-part}
 
 -- ---- the text
 

@@ -1,3 +1,2 @@
 -- What the changes ask and leave.
-pub mod Splices
 pub mod Changes

@@ -9,9 +9,9 @@ ghost use Rattle.language.specs.State.{Value, Principal, Variable};
 ghost use Rattle.language.specs.Identifiers.{isName};
 ghost use Rattle.language.specs.Encode.{valueText};
 ghost use Rattle.store.specs.Held.{Principals, Variables, slot};
-ghost use Rattle.edits.specs.Splices.{over};
+ghost use Rattle.splice.specs.Splices.{over};
 ghost use Rattle.edits.specs.Changes.{Outside};
-use super::splice::copy;
+use splice::copy;
 use store::index::hash;
 
 // A record's letter, a tab, its name and a tab; the place after them.

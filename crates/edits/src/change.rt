@@ -14,10 +14,10 @@ ghost use Rattle.store.specs.Held.{Principals, Variables};
 ghost use Rattle.store.specs.Rows.{Row, Rows, position};
 ghost use Rattle.edits.specs.Changes.{principalNames, variableNames, withPassword, Outside, SomeSpot, Respelled, SomeValue, SomeElements, SomeBare, SomeKept, SomePassword};
 ghost use Rattle.store.specs.Contents.{principalAt};
-use super::splice::shift;
-use super::splice::splice;
-use store::content::Password;
-use store::content::password_of;
+use contents::Password;
+use contents::password_of;
+use splice::shift;
+use splice::splice;
 use store::index::nth;
 
 // A record gets `src` in place of its bytes from `from` up to `to`, and the slots of later records move.

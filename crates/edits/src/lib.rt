@@ -3,4 +3,3 @@ ghost use mathlib.Core.Path.{_≡_};
 
 pub mod add; // records added
 pub mod change; // records changed
-pub mod splice; // bytes put in the place of others, and slots moved with them

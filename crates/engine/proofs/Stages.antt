@@ -1,5 +1,5 @@
 -- A program under way: some of its commands are done, and the others are not read yet.
-use mathlib.Core.Path.{_≡_, refl, sym, ap, subst, _∙_}
+use mathlib.Core.Path.{_≡_, refl, sym, ap, _∙_}
 use Prim.Native.Nat.{ℕ, _+_, _*_, _≤_}
 use native.Mathlib.Omega.{arith}
 use mathlib.Core.Bool.{Bool, true, false, not}
@@ -19,18 +19,17 @@ use Rattle.language.proofs.Parsing.ValidPrograms.{isEnding}
 use Rattle.language.proofs.Parsing.Parsing.{commandRoom}
 use Rattle.language.proofs.Parsing.Printing.{inner-short}
 use Rattle.language.proofs.Meaning.Printed.{count-append, few-lines as lines-short}
-use Rattle.command_readers.specs.declared.command.Command as Read
+use Rattle.command_readers.specs.declared.Command as Read
 use Rattle.parser.specs.declared.Rest.{Rest}
 use Rattle.parser.specs.declared.Rest.the-variants as Follows
 use Rattle.parser.specs.Bodies.{bodyFrom, restFrom, First}
-use Rattle.values.specs.Writing.{Written}
-use Rattle.values.proofs.Pieces.{_▸_, written-none}
+use Rattle.value_text.specs.Writing.{Written}
+use Rattle.value_text.proofs.Pieces.{_▸_, written-none}
 use Rattle.session.specs.declared.Layout.{Layout}
 use Rattle.session.specs.Sessions.{Slices, Running}
-use Rattle.engine.specs.declared.Performed.{Performed}
 use Rattle.command_readers.specs.Commands.{SomeCommand}
 use Rattle.engine.specs.Commands.{Advances}
-use Rattle.engine.specs.Ends.{RestWithin, unlessBroken, endOn, Completes, Ends}
+use Rattle.outcome.specs.Ends.{RestWithin, endOn, Completes}
 use Rattle.language.proofs.Meaning.LineCounts.{line-one}
 
 -- ---- lines in front of an end
@@ -131,12 +130,6 @@ some-command F = record { command = F .command; meant = F .meant; within = F .wi
 pub rest-within : {t : Text} {p : ℕ} {c : Read.Command} (rest : Rest) → First t p c rest → RestWithin t rest
 rest-within (Follows.At n) F = F .placed .1
 rest-within Follows.End F = tt
-
--- a refusal, where the rest of the text is that of a program
-pub refuses : (r : Refusal) (how : Performed) (c : Bool) (e : Option End) (b : Slices) (before after : Text) → Ends how (some (refusal r)) b before after
-    → e ≡ (if c then some (refusal r) else none) → Ends (unlessBroken c how) e b before after
-refuses r how true e b before after h q = subst (λ (o : Option End). Ends how o b before after) (sym q) h
-refuses r how false e b before after h q = q
 
 module _ {s : Session} {t : Text} {at : ℕ} {before : Text} {l : Layout} {b : Slices} {p n lines : ℕ} {output : Text} (S : Stage s t at before l b p n lines output)
     {c : Read.Command} {m : Layout} {d : Slices} {r : ℕ} {out : Text} where

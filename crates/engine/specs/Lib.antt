@@ -1,3 +1,2 @@
 -- Whole programs on a running session: document 01, "A run".
 pub mod Commands
-pub mod Ends

@@ -1,5 +1,6 @@
 // One command, and the line that it prints.
-use command_readers::command::Command;
+use command_readers::Command;
+use refusal::Refusal;
 use session::Layout;
 use status::Acted;
 use status::print;
@@ -18,21 +19,17 @@ ghost use Rattle.engine.specs.Commands.{Carried};
 
 // Refused, or done: the session after it, and where the output ends.
 pub enum Outcome {
-    Denied,
-    Failed,
-    Full,
+    Refused(Refusal),
     Done(Layout, usize),
 }
 
 // Prints the line of a command that was not refused.
-fn tell(a: Acted, value: &[u8], l: Layout, output: &mut [u8], at: usize) -> Outcome
+pub(crate) fn tell(a: Acted, value: &[u8], l: Layout, output: &mut [u8], at: usize) -> Outcome
     requires { ⌜ SomeActed a l (now value) × (at + 28707 ≤ length (now output)) ⌝ }
     ensures { λ r. ⌜ ((k : Step) (s : Session) (b : Slices) → Acts a k s l b (now (value .entry)) → Carried r k b (now (output .entry)) at (now (output .exit))) ⌝ }
 {
     match a {
-        Acted::Denied => Outcome::Denied,
-        Acted::Failed => Outcome::Failed,
-        Acted::Full => Outcome::Full,
+        Acted::Refused(how) => Outcome::Refused(how),
         Acted::Done(after, word) => {
             let n = print(word, output, at);
             Outcome::Done(after, n)
@@ -45,7 +42,7 @@ fn tell(a: Acted, value: &[u8], l: Layout, output: &mut [u8], at: usize) -> Outc
 }
 
 // Does the command that stands at the places c of the program's text, on the running session.
-fn act(
+pub(crate) fn act(
     principals: &mut [u8],
     principal_slots: &mut [u32],
     vars: &mut [u8],
@@ -98,44 +95,4 @@ fn act(
             )
         }
     }
-}
-
-// The command that stands at the places c of the program's text, on the running session. Its line is printed from `at` on.
-pub(crate) fn carry_out(
-    principals: &mut [u8],
-    principal_slots: &mut [u32],
-    vars: &mut [u8],
-    variable_slots: &mut [u32],
-    locals: &mut [u8],
-    local_slots: &mut [u32],
-    assertions: &mut [u64],
-    value: &mut [u8],
-    labels: &mut [u32],
-    l: Layout,
-    text: &[u8],
-    c: Command,
-    output: &mut [u8],
-    at: usize,
-) -> Outcome
-    requires { ⌜ SomeRunning l (slices (now principals) (now «principal_slots») (now vars) (now «variable_slots») (now locals) (now «local_slots») (now assertions)) ⌝ }
-    requires { ⌜ (length (now value) ≡ 45056) × (length (now labels) ≡ 4096) ⌝ }
-    requires { ⌜ SomeCommand (now text) c × (length (now text) ≤ longest) × (at + 28707 ≤ length (now output)) ⌝ }
-    ensures { λ r. ⌜ ((s : Session) (k : Syntax.Command) → Running s l (slices (now (principals .entry)) (now («principal_slots» .entry)) (now (vars .entry)) (now («variable_slots» .entry)) (now (locals .entry)) (now («local_slots» .entry)) (now (assertions .entry))) → commandMeant (now (text .entry)) c ≡ some k
-        → Carried r (step s k) (slices (now (principals .exit)) (now («principal_slots» .exit)) (now (vars .exit)) (now («variable_slots» .exit)) (now (locals .exit)) (now («local_slots» .exit)) (now (assertions .exit))) (now (output .entry)) at (now (output .exit))) ⌝ }
-{
-    let a = act(
-        principals,
-        principal_slots,
-        vars,
-        variable_slots,
-        locals,
-        local_slots,
-        assertions,
-        value,
-        labels,
-        l,
-        text,
-        c,
-    );
-    tell(a, value, l, output, at)
 }

@@ -2,42 +2,19 @@
 pub mod command; // one command, and the line that it prints
 
 use command::Outcome;
+use outcome::Performed;
+use outcome::refused;
 use parser::Read;
 use parser::Rest;
 use session::Layout;
 ghost use mathlib.Core.Path.{_≡_};
 ghost use Prim.Native.Nat.{_≤_};
 ghost use lib.ListN.{length};
-ghost use Rattle.language.specs.Text.{present};
 ghost use Rattle.language.specs.Programs.{longest};
 ghost use Rattle.language.specs.Values.{Session};
-ghost use Rattle.parser.specs.Bodies.{bodyFrom, restFrom};
+ghost use Rattle.parser.specs.Bodies.{bodyFrom};
 ghost use Rattle.session.specs.Sessions.{Running, SomeRunning, slices};
-ghost use Rattle.engine.specs.Ends.{RestWithin, endOn, unlessBroken, Ends};
-
-// How a program ends: its text turned out to be none; or it is refused, or completed with the session that it leaves, the bytes that it
-// prints and the number of their lines.
-pub enum Performed {
-    Broken,
-    Denied,
-    Failed,
-    Full,
-    Completed(Layout, usize, usize),
-}
-
-// A command before `rest` was refused. The program is, as `how` says, where the rest of its text is that of a program.
-fn refused(text: &[u8], rest: Rest, how: Performed) -> Performed
-    requires { ⌜ RestWithin (now text) rest ⌝ }
-    ensures { λ r. ⌜ r ≡ unlessBroken (present (restFrom (now (text .entry)) rest)) how ⌝ }
-{
-    let Rest::At(n) = rest else {
-        return how;
-    };
-    if parser::body_at(text, n) {
-        return how;
-    }
-    Performed::Broken
-}
+ghost use Rattle.outcome.specs.Ends.{endOn, Ends};
 
 // The commands of the lines from `at` on, each done as it is read, to the first that cannot be. The scratch buffers are room for values and
 // slots.
@@ -71,7 +48,7 @@ pub fn perform(
         let Read::Command(c, rest) = read else {
             return Performed::Broken;
         };
-        let done = command::carry_out(
+        let acted = command::act(
             principals,
             principal_slots,
             vars,
@@ -84,13 +61,10 @@ pub fn perform(
             l,
             text,
             c,
-            output,
-            n,
         );
+        let done = command::tell(acted, value, l, output, n);
         match done {
-            Outcome::Denied => return refused(text, rest, Performed::Denied),
-            Outcome::Failed => return refused(text, rest, Performed::Failed),
-            Outcome::Full => return refused(text, rest, Performed::Full),
+            Outcome::Refused(how) => return refused(text, rest, how),
             Outcome::Done(k, m) => {
                 lines += 1;
                 let Rest::At(next) = rest else {

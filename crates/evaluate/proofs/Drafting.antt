@@ -20,11 +20,11 @@ use Rattle.language.proofs.StateText.Clean.{name-length}
 use Rattle.store.specs.Held.{slot}
 use Rattle.text.specs.Parts.{part}
 use Rattle.store.specs.Rows.{Row, Rows, rowText, rowNames}
-use Rattle.edits.proofs.Splicing.{part-take}
-use Rattle.values.specs.Writing.{Written}
+use Rattle.splice.proofs.Splicing.{part-take}
+use Rattle.value_text.specs.Writing.{Written}
 use Rattle.values.specs.Answers.{textAt}
 use Rattle.values.specs.declared.Found.{Found}
-use Rattle.values.proofs.Pieces.{written-take, written-length}
+use Rattle.value_text.proofs.Pieces.{written-take, written-length}
 use Rattle.values.proofs.Texts.{record-field}
 use Rattle.values.proofs.Lines.{field-length}
 use Rattle.evaluate.specs.Drafts.{labels, spelling, Drafted, Extends}

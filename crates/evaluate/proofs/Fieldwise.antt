@@ -4,13 +4,13 @@ use mathlib.Core.Path.{_≡_, refl, sym, ap, subst, _∙_}
 use mathlib.Core.Logic.{inl, inr}
 use Prim.Native.Nat.{ℕ, _+_, _≤_, _<_}
 use native.Mathlib.Omega.{arith}
-use mathlib.Core.Bool.{Bool, true, false, not}
+use mathlib.Core.Bool.{Bool, false, not}
 use mathlib.Core.Option.{Option, none, some}
 use mathlib.Core.List.{List, [], _∷_, _++_, map, append-assoc, append-nil}
 use lib.Dec.{T, T-not, ltb, lt→ltb}
-use lib.ListN.{length, drop}
+use lib.ListN.{length}
 use Rattle.language.specs.Text.{Text, if_then_else_, _==_, _>>=_, all, each, member, distinct}
-use Rattle.language.specs.Tokens.{Token, lex}
+use Rattle.language.specs.Tokens.{Token}
 use Rattle.language.specs.Syntax as Syntax
 use Rattle.language.specs.Syntax.{Name, Binding}
 use Rattle.language.specs.State.{Field, fields, Value, single}
@@ -18,8 +18,7 @@ use Rattle.language.specs.Values.{Session, asString, operandValue, fieldValue, 
 use Rattle.language.specs.Valid.{validField}
 use Rattle.language.proofs.Logic.Tests.{both, and-three, one-of, any-right, left-of, ==-sym, true-of, false-of}
 use Rattle.language.proofs.Parsing.ValidPrograms.{validBinding}
-use Rattle.syntax.specs.Values.{recordAt, before, withField}
-use Rattle.syntax.proofs.Reading.{no-some}
+use Rattle.syntax.specs.Values.{recordAt}
 use Rattle.evaluate.specs.Results.{stringIn, Written, TooHeavy}
 use Rattle.evaluate.specs.Drafts.{labels, spelling, Drafted, Extends}
 use Rattle.evaluate.specs.declared.draft.Draft.{Draft}
@@ -157,34 +156,3 @@ pub record Going (s : Session) (t : Text) (at p : ℕ) (out : Text) (slots : Lis
   pub total : finish s [] (recordAt t at) ≡ finish s written (recordAt t p)
   pub room : spelling written + roomOf rest ≤ 16384
   pub are-valid : T (all validBinding rest)
-
--- the first of them, and those after it
-pub record Next (t : Text) (b : Binding) (more : Bool) (n : ℕ) (rest : List Binding) (others : List Token) : Type 0 where
-  pub after : List Binding
-  pub is-rest : rest ≡ b ∷ after
-  pub is-last : more ≡ false → after ≡ []
-  pub go-on : more ≡ true → recordAt t n ≡ some (after, others)
-
-pub next-field : (t : Text) (b : Binding) (more : Bool) (n : ℕ) (rest : List Binding) (others : List Token) → withField t b more n ≡ some (rest, others) → Next t b more n rest others
-next-field t b true n rest others e = go (recordAt t n) refl e
-  where
-    go : (o : Option (List Binding × List Token)) → recordAt t n ≡ o → before b o ≡ some (rest, others) → Next t b true n rest others
-    go none q e = no-some e
-    go (some r) q e =
-        let p : _≡_ {A = List Binding × List Token} (b ∷ r .0, r .1) (rest, others) = cc in
-        record {
-          after = r .0;
-          is-rest = sym (ap (λ (x : List Binding × List Token). x .0) p);
-          is-last = λ z. absurd (let y : _≡_ {A = ℕ} 0 1 = cc in omega arith);
-          go-on = λ z. q ∙ ap (λ (us : List Token). some (r .0, us)) (ap (λ (x : List Binding × List Token). x .1) p);
-        }
-next-field t b false n rest others e =
-    record {
-      after = [];
-      is-rest = sym (ap (λ (x : List Binding × List Token). x .0) p);
-      is-last = λ z. refl;
-      go-on = λ z. absurd (let y : _≡_ {A = ℕ} 0 1 = cc in omega arith);
-    }
-  where
-    p : _≡_ {A = List Binding × List Token} (b ∷ [], lex (drop n t)) (rest, others)
-    p = cc

@@ -18,9 +18,9 @@ use Rattle.language.specs.Valid.{validField, validValue, validVariable}
 use Rattle.language.specs.Values.{Session, lookup, asFields, asString, textOf, operandValue}
 use Rattle.language.proofs.Logic.Tests.{both}
 use Rattle.language.proofs.Logic.Outcomes.{Where, if-where, orElse-where}
-use Rattle.syntax.specs.declared.value.Operand as Read
+use Rattle.syntax.specs.declared.Operand as Read
 use Rattle.syntax.specs.Values.{operandMeant}
-use Rattle.store.specs.Contents.{valueBytes}
+use Rattle.contents.specs.Contents.{valueBytes}
 use Rattle.values.specs.Encoding.{Holds, ValueText}
 use Rattle.values.specs.Answers.{fieldOf}
 use Rattle.values.proofs.Texts.{some-bytes}

@@ -14,7 +14,7 @@ use Rattle.language.specs.State.{Field, Element, Value, Variable, valueIn}
 use Rattle.language.specs.Values.{Session, isDefined, lookup, asFields, asString, asElement, textOf, operandValue, fieldValue, value}
 use Rattle.language.specs.Commands.{withLocals, replaced}
 use Rattle.language.proofs.Logic.Tests.{==→≡, ==-refl, false-of}
-use Rattle.syntax.proofs.Reading.{no-some}
+use Rattle.tokens.proofs.Reading.{no-some}
 
 -- ---- the value of a name
 

@@ -7,7 +7,4 @@ pub mod Drafting
 pub mod Spelling
 pub mod Fieldwise
 pub mod Turning
-pub mod Expressions
 pub mod LastLocal
-pub mod Permission
-pub mod Readers

@@ -12,8 +12,8 @@ use Rattle.language.specs.State.{string, Value, single}
 use Rattle.language.specs.Weight.{valueWeight}
 use Rattle.language.specs.Encode.{elementText}
 use Rattle.values.specs.Encoding.{Holds}
-use Rattle.values.specs.Writing as Piece
-use Rattle.values.proofs.Pieces.{written-take, written-length}
+use Rattle.value_text.specs.Writing as Piece
+use Rattle.value_text.proofs.Pieces.{written-take, written-length}
 use Rattle.evaluate.specs.Results.{Written}
 
 -- the text p of the value v, from the start on

@@ -16,14 +16,15 @@ use Rattle.language.specs.Values.{Session, operandValue}
 use Rattle.language.proofs.Logic.Tests.{both}
 use Rattle.language.proofs.StateText.Clean.{identifier-name}
 use Rattle.language.proofs.Parsing.ValidPrograms.{validBinding, validOperand}
-use Rattle.syntax.specs.Values.{recordAt, withField}
-use Rattle.evaluate.specs.Results.{stringIn, SomeRecord}
+use Rattle.syntax.specs.Values.{recordAt, withField, SomeRecord}
+use Rattle.evaluate.specs.Results.{stringIn}
 use Rattle.evaluate.specs.Drafts.{spelling, Drafted, SomeDraft, Extends}
 use Rattle.evaluate.specs.declared.draft.Draft.{Draft}
 use Rattle.evaluate.specs.declared.draft.Added.the-variants as Is
 use Rattle.evaluate.proofs.Drafting.{sum-last}
 use Rattle.evaluate.proofs.Spelling.{roomOf, record-room}
-use Rattle.evaluate.proofs.Fieldwise.{finish, Going, Next, next-field, not-added, Further, was-added, all-read}
+use Rattle.evaluate.proofs.Fieldwise.{finish, Going, not-added, Further, was-added, all-read}
+use Rattle.syntax.proofs.Said.{Next, next-field}
 
 pub going-start : (s : Session) (t : Text) (at : ℕ) (out : Text) (slots : List ℕ) (d : Draft) → SomeRecord t at → length t ≤ 16384 → Drafted [] out slots d → Going s t at at out slots d
 going-start s t at out slots d R l D = record {

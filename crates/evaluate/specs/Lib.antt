@@ -2,4 +2,3 @@
 pub mod Scopes
 pub mod Results
 pub mod Drafts
-pub mod Permits

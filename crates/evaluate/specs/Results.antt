@@ -2,20 +2,15 @@
 use mathlib.Core.Path.{_≡_}
 use Prim.Native.Nat.{ℕ, _≤_, _<_}
 use mathlib.Core.Option.{Option, none, some}
-use mathlib.Core.List.{List}
 use lib.Dec.{T}
 use lib.ListN.{length, take}
 use Rattle.language.specs.Text.{Text, _>>=_}
-use Rattle.language.specs.Tokens.{Token}
-use Rattle.language.specs.Syntax.{Name, Binding, Expr, fields}
+use Rattle.language.specs.Syntax.{Name}
 use Rattle.language.specs.Identifiers.{isString}
 use Rattle.language.specs.Values.{asString}
 use Rattle.language.specs.State.{Value, single, string}
 use Rattle.language.specs.Weight.{limit, valueWeight}
 use Rattle.language.proofs.Logic.Outcomes.{Where}
-use Rattle.language.proofs.Parsing.ValidPrograms.{validExpr}
-use Rattle.syntax.specs.declared.value.Expr as Read
-use Rattle.syntax.specs.Values.{recordAt, exprMeant, ExprWithin}
 use Rattle.values.specs.Encoding.{Holds}
 use Rattle.values.specs.Answers.{fieldOf}
 use Rattle.evaluate.specs.declared.result.Evaluated.{Evaluated}
@@ -56,18 +51,3 @@ MaybeString o = Where (λ t. T (isString t)) o
 abbrev pub stringValue : Option Text → Option Value
 stringValue none = none
 stringValue (some t) = some (single (string t))
-
--- the program's text says a valid expression at these places
-pub record SomeExpr (t : Text) (e : Read.Expr) : Type 0 where
-  pub expression : Expr
-  pub meant : exprMeant t e ≡ some expression
-  pub within : ExprWithin t e
-  pub is-valid : T (validExpr expression)
-
--- the program's text says a valid record from place `at` on, past its brace
-pub record SomeRecord (t : Text) (at : ℕ) : Type 0 where
-  pub bindings : List Binding
-  pub others : List Token
-  pub here : recordAt t at ≡ some (bindings, others)
-  pub within : at ≤ length t
-  pub is-valid : T (validExpr (fields bindings))

@@ -14,7 +14,7 @@ ghost use Rattle.language.specs.State.{Field};
 ghost use Rattle.language.specs.Identifiers.{isString};
 ghost use Rattle.store.specs.Held.{slot};
 ghost use Rattle.store.specs.Rows.{Row, Rows, SomeRows, rowNames};
-ghost use Rattle.values.specs.Writing.{Written};
+ghost use Rattle.value_text.specs.Writing.{Written};
 ghost use Rattle.values.specs.Answers.{textAt, Placed};
 ghost use Rattle.evaluate.specs.Results.{MaybeString};
 ghost use Rattle.evaluate.specs.Drafts.{Drafted, SomeDraft, Lent, Extends, spelling};
@@ -36,7 +36,7 @@ pub fn start(out: &mut [u8], slots: &[u32]) -> Draft
     requires { ⌜ Lent (now out) (now slots) ⌝ }
     ensures { λ r. ⌜ Drafted [] (now (out .exit)) (now (slots .entry)) r ⌝ }
 {
-    let end = values::put_record(out, 0);
+    let end = value_text::put_record(out, 0);
     Draft {
         end,
         count: 0,
@@ -49,9 +49,9 @@ fn put_label(out: &mut [u8], at: usize, label: &[u8]) -> usize
     requires { ⌜ at + length (now label) + 3 ≤ length (now out) ⌝ }
     ensures { λ r. ⌜ Written (now (out .entry)) at (70 ∷ 9 ∷ (now (label .entry) ++ 10 ∷ [])) r (now (out .exit)) ⌝ }
 {
-    let a = values::copy_in(out, at, b"F\t");
-    let b = values::copy_in(out, a, label);
-    values::put_byte(out, b, b'\n')
+    let a = value_text::copy_in(out, at, b"F\t");
+    let b = value_text::copy_in(out, a, label);
+    value_text::put_byte(out, b, b'\n')
 }
 
 // Whether no row has that label.
@@ -100,7 +100,7 @@ pub fn add(out: &mut [u8], slots: &mut [u32], d: Draft, label: &[u8], text: &[u8
             weight,
         });
     }
-    let next = values::put_field(out, end, label, text);
+    let next = value_text::put_field(out, end, label, text);
     Added::Done(Draft {
         end: next,
         count: count + 1,

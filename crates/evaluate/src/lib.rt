@@ -1,12 +1,11 @@
 // The value of an expression of a program, over a session whose variables are texts.
 mod draft; // a record that is written field by field
 mod operand; // the value of x, of x.y or of a string
-pub mod permit; // what the sender may do, and may read
 mod record; // the value of a record
 pub mod result; // what evaluation answers
 
 use result::Evaluated;
-use syntax::value::Expr;
+use syntax::Expr;
 ghost use mathlib.Core.Path.{_≡_};
 ghost use mathlib.Core.Option.{some};
 ghost use mathlib.Core.List.{[]};
@@ -16,9 +15,9 @@ ghost use Rattle.language.specs.Syntax as Syntax;
 ghost use Rattle.language.specs.Programs.{longest};
 ghost use Rattle.language.specs.State.{list};
 ghost use Rattle.language.specs.Values as Values;
-ghost use Rattle.syntax.specs.Values.{exprMeant};
+ghost use Rattle.syntax.specs.Values.{exprMeant, SomeExpr};
 ghost use Rattle.evaluate.specs.Scopes.{Scope, SomeScope};
-ghost use Rattle.evaluate.specs.Results.{Valued, SomeExpr};
+ghost use Rattle.evaluate.specs.Results.{Valued};
 ghost use Rattle.evaluate.specs.Drafts.{Lent};
 
 // Writes the empty list.
@@ -26,7 +25,7 @@ fn put_empty(out: &mut [u8]) -> Evaluated
     requires { ⌜ 32768 ≤ length (now out) ⌝ }
     ensures { λ r. ⌜ Valued r (some (list [])) (now (out .exit)) ⌝ }
 {
-    let len = values::put_list(out, 0);
+    let len = value_text::put_list(out, 0);
     Evaluated::Value { len, weight: 0 }
 }
 

@@ -1,6 +1,6 @@
 // The value of an operand: a name, a field of a named record, or a string of the program.
 use crate::result::Evaluated;
-use syntax::value::Operand;
+use syntax::Operand;
 use values::Found;
 ghost use mathlib.Core.Path.{_≡_};
 ghost use mathlib.Core.Option.{Option, some};
@@ -52,7 +52,7 @@ fn put_value(value: &[u8], out: &mut [u8]) -> Evaluated
     if 8192 < weight {
         return Evaluated::Heavy;
     }
-    let len = values::copy_in(out, 0, value);
+    let len = value_text::copy_in(out, 0, value);
     Evaluated::Value { len, weight }
 }
 
@@ -65,7 +65,7 @@ fn put_text(text: &[u8], out: &mut [u8]) -> Evaluated
     if 8192 < weight {
         return Evaluated::Heavy;
     }
-    let len = values::put_string(out, 0, text);
+    let len = value_text::put_string(out, 0, text);
     Evaluated::Value { len, weight }
 }
 
@@ -106,29 +106,13 @@ pub fn put_operand<'a>(
         Operand::Name(x) => {
             let a = x.start;
             let b = x.end;
-            let value = store::content::read(
-                shared,
-                slots,
-                count,
-                locals,
-                lslots,
-                lcount,
-                &text[a..b],
-            );
+            let value = contents::read(shared, slots, count, locals, lslots, lcount, &text[a..b]);
             put_value(value, out)
         }
         Operand::Field(x, y) => {
             let a = x.start;
             let b = x.end;
-            let value = store::content::read(
-                shared,
-                slots,
-                count,
-                locals,
-                lslots,
-                lcount,
-                &text[a..b],
-            );
+            let value = contents::read(shared, slots, count, locals, lslots, lcount, &text[a..b]);
             let e = y.start;
             let f = y.end;
             let found = field_of(value, &text[e..f]);

@@ -3,8 +3,8 @@
 use crate::draft::Added;
 use crate::draft::Draft;
 use crate::result::Evaluated;
-use syntax::value::FieldRead;
-use syntax::value::Operand;
+use syntax::FieldRead;
+use syntax::Operand;
 use text::Span;
 ghost use mathlib.Core.Path.{_≡_};
 ghost use mathlib.Core.Option.{some};
@@ -21,9 +21,9 @@ ghost use Rattle.language.specs.State.{Field, single, fields};
 ghost use Rattle.language.specs.Values.{Session, operandValue, value};
 ghost use Rattle.language.proofs.Parsing.ValidPrograms.{validOperand};
 ghost use Rattle.text.specs.Meaning.{part, Within};
-ghost use Rattle.syntax.specs.Values.{operandMeant, OperandWithin, recordAt};
+ghost use Rattle.syntax.specs.Values.{operandMeant, OperandWithin, recordAt, SomeRecord};
 ghost use Rattle.evaluate.specs.Scopes.{Scope, SomeScope};
-ghost use Rattle.evaluate.specs.Results.{Valued, stringIn, SomeRecord};
+ghost use Rattle.evaluate.specs.Results.{Valued, stringIn};
 ghost use Rattle.evaluate.specs.Drafts.{Drafted, SomeDraft, Lent, Extends, spelling};
 
 // Adds the field of a program's label and operand.
@@ -54,30 +54,14 @@ fn add_field<'a>(
         Operand::Name(n) => {
             let e = n.start;
             let f = n.end;
-            let value = store::content::read(
-                shared,
-                slots,
-                count,
-                locals,
-                lslots,
-                lcount,
-                &text[e..f],
-            );
+            let value = contents::read(shared, slots, count, locals, lslots, lcount, &text[e..f]);
             let found = crate::operand::string_of(value);
             crate::draft::add_found(out, labels, d, &text[a..b], value, found)
         }
         Operand::Field(n, y) => {
             let e = n.start;
             let f = n.end;
-            let value = store::content::read(
-                shared,
-                slots,
-                count,
-                locals,
-                lslots,
-                lcount,
-                &text[e..f],
-            );
+            let value = contents::read(shared, slots, count, locals, lslots, lcount, &text[e..f]);
             let g = y.start;
             let h = y.end;
             let found = crate::operand::field_of(value, &text[g..h]);
@@ -124,7 +108,7 @@ pub fn put_fields<'a>(
     let mut d = crate::draft::start(out, labels);
     let mut p = at;
     loop {
-        let field = syntax::value::field_at(text, p);
+        let field = syntax::field_at(text, p);
         let FieldRead::Found(x, v, more, n) = field else {
             return Evaluated::Missing;
         };

@@ -15,9 +15,8 @@ use Rattle.language.specs.State.{Element}
 use Rattle.language.specs.Values.{Session}
 use Rattle.text.specs.declared.Span.{Span}
 use Rattle.text.specs.Meaning.{part, Within}
-use Rattle.syntax.specs.declared.value.Expr as Read
-use Rattle.syntax.specs.Values.{exprMeant}
-use Rattle.evaluate.specs.Results.{SomeExpr}
+use Rattle.syntax.specs.declared.Expr as Read
+use Rattle.syntax.specs.Values.{exprMeant, SomeExpr}
 use Rattle.evaluate.proofs.LastLocal.{undefined-local}
 use Rattle.session.specs.declared.Layout.{Layout}
 use Rattle.session.specs.Sessions.{Slices, slices, Running}

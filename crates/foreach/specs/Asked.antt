@@ -11,8 +11,8 @@ use Rattle.language.specs.Programs.{longest}
 use Rattle.language.proofs.Parsing.ValidPrograms.{validCommand}
 use Rattle.text.specs.declared.Span.{Span}
 use Rattle.text.specs.Meaning.{part, Within}
-use Rattle.syntax.specs.declared.value.Expr as Read
-use Rattle.evaluate.specs.Results.{SomeExpr}
+use Rattle.syntax.specs.declared.Expr as Read
+use Rattle.syntax.specs.Values.{SomeExpr}
 use Rattle.session.specs.declared.Layout.{Layout}
 use Rattle.session.specs.Sessions.{Slices, Running}
 use Rattle.foreach_source.specs.Sources.{source, Copied}

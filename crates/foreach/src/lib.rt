@@ -1,14 +1,13 @@
 // foreach: each element of a list is replaced by the value of an expression.
-mod list; // the list, element by element
 
+use assignment::Assigned;
 use foreach_element::Made;
 use foreach_source::Prepared;
 use foreach_source::prepare;
 use session::Layout;
 use session::Verdict;
-use syntax::value::Expr;
+use syntax::Expr;
 use text::Span;
-use variables::assignment::Assigned;
 ghost use mathlib.Core.Path.{_≡_};
 ghost use mathlib.Core.Bool.{false};
 ghost use mathlib.Core.Option.{some};
@@ -52,7 +51,7 @@ fn replace(
 {
     let mut new = [0u8; 32768];
     let vars_len = l.vars_len;
-    let made = list::replace_aside(
+    let made = foreach_list::replace_aside(
         &vars[..vars_len],
         variable_slots,
         l.vars,
@@ -78,7 +77,7 @@ fn replace(
     let len = d.len;
     let a = x.start;
     let b = x.end;
-    let put = variables::assignment::assign(
+    let put = assignment::assign(
         principals,
         principal_slots,
         vars,

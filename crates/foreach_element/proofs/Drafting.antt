@@ -8,7 +8,7 @@ use Rattle.language.specs.Text.{Text}
 use Rattle.language.specs.State.{Value}
 use Rattle.language.specs.Weight.{limit, valueWeight}
 use Rattle.values.specs.Encoding.{Holds}
-use Rattle.values.specs.Writing as Piece
+use Rattle.value_text.specs.Writing as Piece
 use Rattle.foreach_element.specs.Drafts.{Drafted}
 
 pub light-drafted : (v : Value) (out : Text) (n w : ℕ) → Holds v (take n out) → n ≤ length out → w ≡ valueWeight v → w ≤ limit → Drafted v out (record { len = n; weight = w })

@@ -19,7 +19,7 @@ use Rattle.language.specs.Commands.{replaced}
 use Rattle.language.proofs.Logic.Tests.{and, all-append}
 use Rattle.text.specs.declared.Span.{Span}
 use Rattle.text.specs.Meaning.{part}
-use Rattle.syntax.specs.declared.value.Expr as Read
+use Rattle.syntax.specs.declared.Expr as Read
 use Rattle.store.specs.Held.{Variables}
 use Rattle.edits.proofs.Adding.{variables-front}
 use Rattle.evaluate.specs.Scopes.{Scope}

@@ -15,12 +15,12 @@ use Rattle.language.specs.Values.{Session, asElement}
 use Rattle.language.specs.Commands.{sessionWeight}
 use Rattle.text.specs.declared.Span.{Span}
 use Rattle.text.specs.Meaning.{part, Within}
-use Rattle.syntax.specs.declared.value.Expr as Read
-use Rattle.syntax.specs.Values.{exprMeant}
+use Rattle.syntax.specs.declared.Expr as Read
+use Rattle.syntax.specs.Values.{exprMeant, SomeExpr}
 use Rattle.values.specs.Encoding.{Holds}
 use Rattle.evaluate.specs.declared.result.Evaluated.{Evaluated}
 use Rattle.evaluate.specs.Scopes.{Scope}
-use Rattle.evaluate.specs.Results.{SomeExpr, Valued}
+use Rattle.evaluate.specs.Results.{Valued}
 
 -- room for the locals of any session, and for one more, whose value is one element: 32,768 bytes, 258 for its name, and 24,579
 abbrev pub scopeSize : ℕ

@@ -1,6 +1,6 @@
 // What foreach puts in the place of one element.
 use evaluate::result::Evaluated;
-use syntax::value::Expr;
+use syntax::Expr;
 use text::Span;
 ghost use mathlib.Core.Path.{_≡_};
 ghost use mathlib.Core.Option.{Option};

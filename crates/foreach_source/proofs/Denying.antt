@@ -10,7 +10,7 @@ use Rattle.language.specs.State.{Element}
 use Rattle.language.specs.Chains.{has}
 use Rattle.language.specs.Values.{Session, isShared, isDefined, lookup, asList, names}
 use Rattle.language.specs.Commands.{Need, isFilled, iterates, reads, met, denied}
-use Rattle.evaluate.specs.Permits.{allowedOn, unread}
+use Rattle.permits.specs.Permits.{allowedOn, unread}
 use Rattle.foreach_source.specs.Sources.{source, forbidden}
 
 -- ---- the right to read and the right to write

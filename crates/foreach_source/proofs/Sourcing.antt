@@ -16,8 +16,8 @@ use Rattle.language.specs.Weight.{limit, valueWeight}
 use Rattle.language.specs.Values.{Session, isDefined, lookup, asList}
 use Rattle.language.specs.Commands.{sessionWeight, isFilled}
 use Rattle.language.proofs.Logic.Outcomes.{Where}
-use Rattle.values.specs.Writing as Piece
-use Rattle.values.proofs.Pieces.{written-take, written-length}
+use Rattle.value_text.specs.Writing as Piece
+use Rattle.value_text.proofs.Pieces.{written-take, written-length}
 use Rattle.values.proofs.Listing.{starts-with}
 use Rattle.evaluate.specs.Scopes.{ReadAs}
 use Rattle.evaluate.proofs.Bounds.{text-bound}

@@ -11,9 +11,9 @@ use Rattle.language.specs.State.{Element, list}
 use Rattle.language.specs.Weight.{limit}
 use Rattle.language.specs.Values.{Session, isDefined, lookup, asList}
 use Rattle.language.specs.Commands.{denied, sessionWeight}
-use Rattle.syntax.specs.declared.value.Expr as Read
+use Rattle.syntax.specs.declared.Expr as Read
 use Rattle.values.specs.Encoding.{Holds}
-use Rattle.evaluate.specs.Permits.{allowedOn}
+use Rattle.permits.specs.Permits.{allowedOn}
 use Rattle.session.specs.declared.Layout.{Layout}
 use Rattle.lookup.specs.Looks.{Scoped}
 use Rattle.foreach_source.specs.declared.Source.{Source}

@@ -2,7 +2,7 @@
 use assertion::READ;
 use assertion::WRITE;
 use session::Layout;
-use syntax::value::Expr;
+use syntax::Expr;
 use text::Span;
 ghost use mathlib.Core.Path.{_≡_};
 ghost use mathlib.Core.Bool.{not};
@@ -12,8 +12,7 @@ ghost use lib.ListN.{length};
 ghost use Rattle.language.specs.Syntax as Syntax;
 ghost use Rattle.language.specs.Values.{Session};
 ghost use Rattle.text.specs.Meaning.{part, Within};
-ghost use Rattle.syntax.specs.Values.{exprMeant};
-ghost use Rattle.evaluate.specs.Results.{SomeExpr};
+ghost use Rattle.syntax.specs.Values.{exprMeant, SomeExpr};
 ghost use Rattle.lookup.specs.Looks.{Scoped, Sending, SomeSending};
 ghost use Rattle.session.specs.Sessions.{slices, Running, SomeRunning};
 ghost use Rattle.foreach_source.specs.Sources.{source, forbidden, SomeLight, Sourced, Prepares};
@@ -77,7 +76,7 @@ fn copy_list<'a>(
     if !lookup::list_read(value) {
         return Source::No;
     }
-    let n = values::copy_in(out, 0, value);
+    let n = value_text::copy_in(out, 0, value);
     Source::List(n)
 }
 

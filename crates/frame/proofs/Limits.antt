@@ -18,8 +18,8 @@ use Rattle.language.specs.Decode.{number}
 use Rattle.lines.specs.Cuts.{Digits, isDigit}
 use Rattle.lines.proofs.Cuts.{unique}
 use Rattle.lines.proofs.Decimals.{decimal-digits}
-use Rattle.records.specs.Sections.{Reads, Fails, anyText}
-use Rattle.records.proofs.Opening.{twice, tail-of, byte-here, next-here}
+use Rattle.record_fields.specs.Sections.{Reads, Fails, anyText}
+use Rattle.record_fields.proofs.Opening.{twice, tail-of, byte-here, next-here}
 use Rattle.frame.specs.Edges.{Top, topText, fineTop, total}
 
 -- ---- zero bytes

@@ -5,7 +5,7 @@ use lib.Dec.{leb, eqb}
 use Rattle.language.specs.Text.{Text, sum}
 use Rattle.language.specs.State.{lastCount}
 use Rattle.language.specs.Encode.{headText}
-use Rattle.records.specs.Sections.{Reads, Fails, anyText}
+use Rattle.record_fields.specs.Sections.{Reads, Fails, anyText}
 use Rattle.frame.specs.declared.Head.{Head}
 use Rattle.frame.specs.declared.Head.the-variants.{At, No}
 

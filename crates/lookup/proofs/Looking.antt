@@ -21,7 +21,7 @@ use Rattle.values.specs.declared.Kind.{Kind}
 use Rattle.values.specs.declared.Kind.the-variants as Is
 use Rattle.values.proofs.Texts.{some-bytes}
 use Rattle.evaluate.specs.Scopes.{ReadAs}
-use Rattle.evaluate.specs.Permits.{allowedOn, unread}
+use Rattle.permits.specs.Permits.{allowedOn, unread}
 use Rattle.evaluate.proofs.Found.{something-read}
 use Rattle.session.specs.declared.Layout.{Layout}
 use Rattle.session.specs.Sessions.{Slices, Running}

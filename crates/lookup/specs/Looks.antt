@@ -7,10 +7,10 @@ use Rattle.language.specs.Text.{Text, _>>=_}
 use Rattle.language.specs.Programs.{longest}
 use Rattle.language.specs.State.{Element, Value}
 use Rattle.language.specs.Values.{Session, asList}
-use Rattle.syntax.specs.declared.value.Expr as Read
+use Rattle.syntax.specs.declared.Expr as Read
 use Rattle.evaluate.specs.Scopes.{Scope}
-use Rattle.evaluate.specs.Permits.{Sends}
-use Rattle.evaluate.specs.Results.{SomeExpr}
+use Rattle.permits.specs.Permits.{Sends}
+use Rattle.syntax.specs.Values.{SomeExpr}
 use Rattle.session.specs.declared.Layout.{Layout}
 
 -- the elements of a list, where there is one

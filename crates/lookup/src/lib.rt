@@ -1,12 +1,12 @@
 // What a running session says of a name and of an expression, by its buffers and its layout.
 use assertion::APPEND;
 use assertion::WRITE;
-use evaluate::permit::allowed;
-use evaluate::permit::readable;
+use contents::read;
 use evaluate::result::Evaluated;
+use permits::allowed;
+use permits::readable;
 use session::Layout;
-use store::content::read;
-use syntax::value::Expr;
+use syntax::Expr;
 use text::Span;
 use values::Kind;
 ghost use mathlib.Core.Path.{_≡_};
@@ -19,11 +19,11 @@ ghost use Rattle.language.specs.Values as Values;
 ghost use Rattle.language.specs.Values.{Session, lookup, isDefined, names};
 ghost use Rattle.language.specs.Commands.{denied};
 ghost use Rattle.named_rights.specs.Numbers.{code};
-ghost use Rattle.evaluate.specs.Permits.{allowedOn, unread};
+ghost use Rattle.permits.specs.Permits.{allowedOn, unread};
 ghost use Rattle.text.specs.Meaning.{part, Within};
-ghost use Rattle.syntax.specs.Values.{exprMeant};
+ghost use Rattle.syntax.specs.Values.{exprMeant, SomeExpr};
 ghost use Rattle.evaluate.specs.Scopes.{ReadAs, SomeRead};
-ghost use Rattle.evaluate.specs.Results.{SomeExpr, Valued};
+ghost use Rattle.evaluate.specs.Results.{Valued};
 ghost use Rattle.evaluate.specs.Drafts.{Lent};
 ghost use Rattle.lookup.specs.Looks.{elementsIn, Scoped, SomeScoped, Sending, SomeSending, Said};
 

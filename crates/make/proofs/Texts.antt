@@ -10,9 +10,9 @@ use Rattle.language.specs.Text.{Text, bytes, if_then_else_, all, front}
 use Rattle.language.specs.State.{fresh, anyone}
 use Rattle.language.specs.Encode.{headText, principalsText, delegatorText, bufferSize}
 use Rattle.language.specs.Calls.{made}
-use Rattle.values.specs.Writing.{Written}
-use Rattle.values.proofs.Pieces.{rewritten}
-use Rattle.render.proofs.Zeros.{state-padded}
+use Rattle.value_text.specs.Writing.{Written}
+use Rattle.value_text.proofs.Pieces.{rewritten}
+use Rattle.state_lines.proofs.Zeros.{state-padded}
 
 pub whole-run : (f : ℕ → Bool) (t : Text) → eqb (length (front f t)) (length t) ≡ all f t
 whole-run f [] = refl

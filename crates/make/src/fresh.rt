@@ -1,9 +1,9 @@
 // The state of a server just made.
-use render::state::put_delegator;
-use render::state::put_header;
-use render::state::zero_rest;
+use state_lines::put_delegator;
+use state_lines::put_header;
+use state_lines::zero_rest;
 use text::Alphabet;
-use values::copy_in;
+use value_text::copy_in;
 ghost use mathlib.Core.Path.{_≡_};
 ghost use Prim.Native.Nat.{_≤_};
 ghost use lib.ListN.{length};

@@ -17,8 +17,8 @@ use Rattle.language.proofs.Meaning.ValidRuns.{begin-ready}
 use Rattle.store.specs.Held.{Principals, Variables}
 use Rattle.text.specs.Parts.{part}
 use Rattle.store.specs.Rows.{position}
-use Rattle.values.specs.Writing.{Written}
-use Rattle.values.proofs.Pieces.{written-take, written-length}
+use Rattle.value_text.specs.Writing.{Written}
+use Rattle.value_text.proofs.Pieces.{written-take, written-length}
 use Rattle.named_rights.specs.Numbers.{principalsOf}
 use Rattle.named_rights.proofs.Few.{store-shape}
 use Rattle.validate.specs.Checked.{Represents}

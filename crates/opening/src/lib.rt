@@ -1,12 +1,12 @@
 // The start of a run: who sends the program, and the session that it works on, a copy of the state's texts.
+use contents::Password;
+use contents::password_of;
 use session::Layout;
-use store::content::Password;
-use store::content::password_of;
 use store::index::Found;
 use store::index::find;
 use text::same_bytes;
 use validate::Parts;
-use values::copy_in;
+use value_text::copy_in;
 ghost use mathlib.Core.Path.{_≡_};
 ghost use mathlib.Core.List.{List};
 ghost use Prim.Native.Nat.{ℕ, _<_};

@@ -13,7 +13,7 @@ use Rattle.language.specs.Syntax.{Command}
 use Rattle.language.specs.Grammar.{Opening, spent, whole, anyLogin, anyCommand, anyEnding}
 use Rattle.language.specs.Programs.{above, lexed, body, program, longest, parse}
 use Rattle.text.proofs.Words.{same-true}
-use Rattle.parser.specs.Lines.{lexedFrom, ahead}
+use Rattle.program_lines.specs.Lines.{lexedFrom, ahead}
 use Rattle.parser.specs.Bodies.{isEmpty, withBody}
 
 -- a line is not both a command and an ending

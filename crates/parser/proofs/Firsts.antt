@@ -18,13 +18,13 @@ use Rattle.language.proofs.Parsing.ValidPrograms.{isEnding}
 use Rattle.language.proofs.Parsing.Lexing.{room, tokens-valid, lex-room}
 use Rattle.language.proofs.Parsing.Reading.{leastRoom, Inner, Ending, command-reads, ending-reads, whole-reads}
 use Rattle.text.specs.Meaning.{isNot}
-use Rattle.command_readers.specs.declared.command.Command as Places
+use Rattle.command_readers.specs.declared.Command as Places
 use Rattle.command_readers.specs.Commands.{commandMeant, CommandWithin}
-use Rattle.parser.specs.Lines.{lexedFrom, ahead, lineLength}
+use Rattle.program_lines.specs.Lines.{lexedFrom, ahead, lineLength}
 use Rattle.parser.specs.declared.Rest.the-variants.{At, End}
 use Rattle.parser.specs.Bodies.{isEmpty, bodyFrom, First}
-use Rattle.parser.proofs.FirstLine.{lex-line}
-use Rattle.parser.proofs.Wholes.{command-meant}
+use Rattle.program_lines.proofs.FirstLine.{lex-line}
+use Rattle.line_readers.proofs.Wholes.{command-meant}
 use Rattle.parser.proofs.Bodies.{command-body, ending-body, neither-body, ending-more}
 use Rattle.language.proofs.Logic.Tests.{true-of}
 

@@ -14,7 +14,7 @@ use Rattle.language.specs.Programs.{body, longest}
 use Rattle.language.proofs.Parsing.ValidPrograms.{validCommand, isEnding}
 use Rattle.language.proofs.Parsing.Parsing.{commandRoom}
 use Rattle.text.specs.Meaning.{part, Within}
-use Rattle.command_readers.specs.declared.command.Command as Places
+use Rattle.command_readers.specs.declared.Command as Places
 use Rattle.command_readers.specs.Commands.{commandMeant, CommandWithin}
 use Rattle.parser.specs.declared.Head.{Head}
 use Rattle.parser.specs.declared.Head.the-variants.{Login, No}
@@ -22,7 +22,7 @@ use Rattle.parser.specs.declared.Rest.{Rest}
 use Rattle.parser.specs.declared.Rest.the-variants.{At, End}
 use Rattle.parser.specs.declared.Read.{Read}
 use Rattle.parser.specs.declared.Read.the-variants.{Command, Broken}
-use Rattle.parser.specs.Lines.{lexedFrom}
+use Rattle.program_lines.specs.Lines.{lexedFrom}
 
 -- nothing but `***` is left
 abbrev pub isEmpty : Option (List (List Token)) → Bool

@@ -1,3 +1,2 @@
 -- What the crate's types mean in the terms of the language.
-pub mod Lines
 pub mod Bodies

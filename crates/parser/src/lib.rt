@@ -1,17 +1,15 @@
 // Whole programs: the login of a text, its commands in turn, and whether they are those of a program to its end.
-pub mod line;
-
-use command_readers::command::Command;
-use line::LineRead;
-use line::LoginRead;
-use line::Step;
+use command_readers::Command;
+use line_readers::LineRead;
+use line_readers::LoginRead;
+use program_lines::Step;
 use text::Span;
 ghost use mathlib.Core.Path.{_≡_};
 ghost use Prim.Native.Nat.{_≤_};
 ghost use lib.ListN.{length};
 ghost use Rattle.language.specs.Text.{present};
 ghost use Rattle.language.specs.Programs.{parse};
-ghost use Rattle.parser.specs.Lines.{lexedFrom};
+ghost use Rattle.program_lines.specs.Lines.{lexedFrom};
 ghost use Rattle.parser.specs.Bodies.{isEmpty, bodyFrom, headMeant, HeadWithin, ReadFrom};
 
 // The login of a text: who sends it, the password, and where its commands start.
@@ -32,10 +30,10 @@ pub fn login(text: &[u8]) -> Head
     if text.len() > 16384 {
         return Head::No;
     }
-    let step = line::next_line(text, 0);
+    let step = program_lines::next_line(text, 0);
     match step {
         Step::Tokens(s, at) => {
-            let first = line::login_line(text, s);
+            let first = line_readers::login_line(text, s);
             let LoginRead::Found(sender, password) = first else {
                 return Head::No;
             };
@@ -67,7 +65,7 @@ fn stars_at(text: &[u8], at: usize) -> bool
     requires { ⌜ at ≤ length (now text) ⌝ }
     ensures { λ r. ⌜ r ≡ isEmpty (lexedFrom (now (text .entry)) at) ⌝ }
 {
-    let step = line::next_line(text, at);
+    let step = program_lines::next_line(text, at);
     match step {
         Step::Tokens(_, _) => false,
         Step::Stars => true,
@@ -80,14 +78,14 @@ pub fn read_at(text: &[u8], at: usize) -> Read
     requires { ⌜ at ≤ length (now text) ⌝ }
     ensures { λ r. ⌜ ReadFrom (now (text .entry)) at r ⌝ }
 {
-    let step = line::next_line(text, at);
+    let step = program_lines::next_line(text, at);
     match step {
         Step::Tokens(s, n) => {
-            let line = line::command_line(text, s);
+            let line = line_readers::command_line(text, s);
             if let LineRead::Found(c) = line {
                 return Read::Command(c, Rest::At(n));
             }
-            let ending = line::ending_line(text, s);
+            let ending = line_readers::ending_line(text, s);
             let LineRead::Found(c) = ending else {
                 return Read::Broken;
             };

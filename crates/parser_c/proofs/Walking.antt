@@ -16,13 +16,13 @@ use Rattle.language.specs.Syntax as Syntax
 use Rattle.parser.specs.declared.Rest.{Rest}
 use Rattle.parser.specs.declared.Rest.the-variants.{At, End}
 use Rattle.parser.specs.Bodies.{bodyFrom, withBody, restFrom, First}
-use Rattle.syntax.proofs.Reading.{no-some}
+use Rattle.tokens.proofs.Reading.{no-some}
 use Rattle.command_readers.specs.Commands.{commandMeant}
 use Rattle.syntax.specs.Values.{exprMeant}
-use Rattle.command_readers.specs.declared.command.Command.{Command}
-use Rattle.command_readers.specs.declared.command.Command.the-variants.{Administer, Variable}
-use Rattle.command_readers.specs.declared.command.Administration.the-variants.{CreatePrincipal, ChangePassword, SetDelegation, DeleteDelegation, DefaultDelegator, Exit}
-use Rattle.command_readers.specs.declared.command.VariableCommand.the-variants.{Set, Append, Local, Foreach, Return}
+use Rattle.command_readers.specs.declared.Command.{Command}
+use Rattle.command_readers.specs.declared.Command.the-variants.{Administer, Variable}
+use Rattle.command_readers.specs.declared.Administration.the-variants.{CreatePrincipal, ChangePassword, SetDelegation, DeleteDelegation, DefaultDelegator, Exit}
+use Rattle.command_readers.specs.declared.VariableCommand.the-variants.{Set, Append, Local, Foreach, Return}
 use Rattle.parser_c.specs.Kinds.{kindOf, code, SomeCommands, Listed, notParsed, Answers}
 
 the : {d c : Syntax.Command} → some d ≡ some c → d ≡ c

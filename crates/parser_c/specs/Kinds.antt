@@ -9,12 +9,12 @@ use Rattle.language.specs.Syntax as Syntax
 use Rattle.language.specs.Syntax.{create-principal, change-password, set, append-to, local, foreach, set-delegation, delete-delegation, default-delegator, exit, return}
 use Rattle.language.specs.Programs.{parse}
 use Rattle.parser.specs.Bodies.{bodyFrom}
-use Rattle.command_readers.specs.declared.command.Command.{Command}
-use Rattle.command_readers.specs.declared.command.Command.the-variants.{Administer, Variable}
-use Rattle.command_readers.specs.declared.command.Administration.{Administration}
-use Rattle.command_readers.specs.declared.command.Administration.the-variants.{CreatePrincipal, ChangePassword, SetDelegation, DeleteDelegation, DefaultDelegator, Exit}
-use Rattle.command_readers.specs.declared.command.VariableCommand.{VariableCommand}
-use Rattle.command_readers.specs.declared.command.VariableCommand.the-variants.{Set, Append, Local, Foreach, Return}
+use Rattle.command_readers.specs.declared.Command.{Command}
+use Rattle.command_readers.specs.declared.Command.the-variants.{Administer, Variable}
+use Rattle.command_readers.specs.declared.Administration.{Administration}
+use Rattle.command_readers.specs.declared.Administration.the-variants.{CreatePrincipal, ChangePassword, SetDelegation, DeleteDelegation, DefaultDelegator, Exit}
+use Rattle.command_readers.specs.declared.VariableCommand.{VariableCommand}
+use Rattle.command_readers.specs.declared.VariableCommand.the-variants.{Set, Append, Local, Foreach, Return}
 
 abbrev pub kindOf : Syntax.Command → ℕ
 kindOf (create-principal p t) = 1

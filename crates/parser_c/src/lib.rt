@@ -1,7 +1,7 @@
 // What a program's text says, for programs in other languages: whether it parses, how many commands it has, and of which kind each is.
-use command_readers::command::Administration;
-use command_readers::command::Command;
-use command_readers::command::VariableCommand;
+use command_readers::Administration;
+use command_readers::Command;
+use command_readers::VariableCommand;
 use parser::Head;
 use parser::Read;
 use parser::Rest;

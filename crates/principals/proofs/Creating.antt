@@ -25,10 +25,10 @@ use Rattle.session.specs.Sessions.{Slices, Running}
 use Rattle.session.specs.Endings.{Succeeds}
 use Rattle.session.proofs.Steps.{is-denied, is-failed, is-full, is-done}
 use Rattle.session.proofs.Scoping.{everyone}
-use Rattle.delegations.proofs.Lists.{entering-grows}
+use Rattle.assertion_changes.proofs.Lists.{entering-grows}
 use Rattle.creation.specs.Creating.{New, Gives}
-use Rattle.principals.proofs.Denials.{others-denied, admin-may}
-use Rattle.principals.proofs.Finding.{is-missing, is-there}
+use Rattle.session.proofs.Denials.{others-denied, admin-may}
+use Rattle.session.proofs.Finding.{is-missing, is-there}
 use Rattle.creation.proofs.Adding.{position-new}
 
 module _ (s : Session) (l : Layout) (b : Slices) (R : Running s l b) (p t : Text) where

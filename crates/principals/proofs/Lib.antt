@@ -1,6 +1,2 @@
--- Laws of the commands about principals.
-pub mod Denials
-pub mod Finding
-pub mod Naming
-pub mod Passwords
+-- Laws of a principal created.
 pub mod Creating

@@ -1,16 +1,14 @@
-// The commands about principals on a running session: their creation, passwords, the default delegator; and exit.
-mod number; // what passwords weigh
-
-use delegations::Entered;
+// Create principal on a running session.
+use assertion_changes::Entered;
+use contents::number_of;
 use session::Layout;
 use session::Verdict;
-use store::name::number_of;
 use text::Span;
 ghost use mathlib.Core.Path.{_≡_};
 ghost use Prim.Native.Nat.{_≤_};
 ghost use lib.Dec.{T};
 ghost use lib.ListN.{length};
-ghost use Rattle.language.specs.Syntax.{create-principal, default-delegator, change-password, exit};
+ghost use Rattle.language.specs.Syntax.{create-principal};
 ghost use Rattle.language.specs.Programs.{longest};
 ghost use Rattle.language.specs.Values.{Session};
 ghost use Rattle.language.specs.Commands.{step};
@@ -18,118 +16,6 @@ ghost use Rattle.language.proofs.Parsing.ValidPrograms.{validCommand};
 ghost use Rattle.text.specs.Meaning.{part, Within};
 ghost use Rattle.session.specs.Sessions.{slices, Running, SomeRunning};
 ghost use Rattle.session.specs.Endings.{Ended};
-
-// Exit, which admin alone may send, closes the server.
-pub fn exit(
-    principals: &[u8],
-    principal_slots: &[u32],
-    vars: &[u8],
-    variable_slots: &[u32],
-    locals: &[u8],
-    local_slots: &[u32],
-    assertions: &[u64],
-    l: Layout,
-) -> Verdict
-    ensures { λ r. ⌜ ((s : Session) → Running s l (slices (now (principals .entry)) (now («principal_slots» .entry)) (now (vars .entry)) (now («variable_slots» .entry)) (now (locals .entry)) (now («local_slots» .entry)) (now (assertions .entry)))
-        → Ended r (step s exit) (slices (now (principals .entry)) (now («principal_slots» .entry)) (now (vars .entry)) (now («variable_slots» .entry)) (now (locals .entry)) (now («local_slots» .entry)) (now (assertions .entry)))) ⌝ }
-{
-    let sender = l.sender;
-    if sender != 0 {
-        return Verdict::Denied;
-    }
-    let mut k = l;
-    k.is_open = false;
-    Verdict::Done(k)
-}
-
-// New principals get their rights from the default delegator, whom admin alone may name.
-pub fn default_delegator(
-    principals: &[u8],
-    principal_slots: &[u32],
-    vars: &[u8],
-    variable_slots: &[u32],
-    locals: &[u8],
-    local_slots: &[u32],
-    assertions: &[u64],
-    l: Layout,
-    text: &[u8],
-    p: Span,
-) -> Verdict
-    requires { ⌜ SomeRunning l (slices (now principals) (now «principal_slots») (now vars) (now «variable_slots») (now locals) (now «local_slots») (now assertions)) ⌝ }
-    requires { ⌜ Within (now text) p × T (validCommand (default-delegator (part (now text) p))) ⌝ }
-    ensures { λ r. ⌜ ((s : Session) → Running s l (slices (now (principals .entry)) (now («principal_slots» .entry)) (now (vars .entry)) (now («variable_slots» .entry)) (now (locals .entry)) (now («local_slots» .entry)) (now (assertions .entry)))
-        → Ended r (step s (default-delegator (part (now (text .entry)) p))) (slices (now (principals .entry)) (now («principal_slots» .entry)) (now (vars .entry)) (now («variable_slots» .entry)) (now (locals .entry)) (now («local_slots» .entry)) (now (assertions .entry)))) ⌝ }
-{
-    let sender = l.sender;
-    if sender != 0 {
-        return Verdict::Denied;
-    }
-    let a = p.start;
-    let b = p.end;
-    let len = l.principals_len;
-    let count = l.principals;
-    let n = number_of(principals, principal_slots, len, count, &text[a..b]);
-    if n == count {
-        return Verdict::Failed;
-    }
-    let mut k = l;
-    k.delegator = n;
-    Verdict::Done(k)
-}
-
-// Another password: admin may set anybody's, the others their own.
-pub fn change_password(
-    principals: &mut [u8],
-    principal_slots: &mut [u32],
-    vars: &[u8],
-    variable_slots: &[u32],
-    locals: &[u8],
-    local_slots: &[u32],
-    assertions: &[u64],
-    l: Layout,
-    text: &[u8],
-    p: Span,
-    password: Span,
-) -> Verdict
-    requires { ⌜ SomeRunning l (slices (now principals) (now «principal_slots») (now vars) (now «variable_slots») (now locals) (now «local_slots») (now assertions)) ⌝ }
-    requires { ⌜ Within (now text) p × Within (now text) password × T (validCommand (change-password (part (now text) p) (part (now text) password))) × (length (now text) ≤ longest) ⌝ }
-    ensures { λ r. ⌜ ((s : Session) → Running s l (slices (now (principals .entry)) (now («principal_slots» .entry)) (now (vars .entry)) (now («variable_slots» .entry)) (now (locals .entry)) (now («local_slots» .entry)) (now (assertions .entry)))
-        → Ended r (step s (change-password (part (now (text .entry)) p) (part (now (text .entry)) password))) (slices (now (principals .exit)) (now («principal_slots» .exit)) (now (vars .entry)) (now («variable_slots» .entry)) (now (locals .entry)) (now («local_slots» .entry)) (now (assertions .entry)))) ⌝ }
-{
-    let a = p.start;
-    let b = p.end;
-    let len = l.principals_len;
-    let count = l.principals;
-    let sender = l.sender;
-    let n = number_of(principals, principal_slots, len, count, &text[a..b]);
-    if sender != 0 {
-        if sender != n {
-            return Verdict::Denied;
-        }
-    }
-    if n == count {
-        return Verdict::Failed;
-    }
-    let old = number::password_weight(principals, len, principal_slots, count, n);
-    let from = password.start;
-    let to = password.end;
-    let weight = l.weight - old + (to - from);
-    if 8192 < weight {
-        return Verdict::Full;
-    }
-    let new = edits::change::set_password(
-        principals,
-        len,
-        principal_slots,
-        count,
-        n,
-        &text[from..to],
-    );
-    let mut k = l;
-    k.principals_len = new;
-    k.weight = weight;
-    Verdict::Done(k)
-}
 
 // A new principal, whom admin alone may create. The default delegator delegates to it what it may.
 pub fn create_principal(

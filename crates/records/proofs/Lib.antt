@@ -1,8 +1,3 @@
--- Laws of records read one after the other, and of each sort of record.
-pub mod Opening
-pub mod Follow
-pub mod Sorts
-pub mod Indexing
-pub mod Labels
+-- Laws of values and of variables.
 pub mod Values
 pub mod Variables

@@ -14,14 +14,15 @@ use Rattle.language.specs.Encode.{fieldText, elementText, valueText}
 use Rattle.language.specs.Identifiers.{isString}
 use Rattle.language.specs.Valid.{validField, validFields, validElement, validValue}
 use Rattle.language.proofs.Logic.Tests.{both, and, three, and-three, not-not}
-use Rattle.records.specs.declared.Item.{Item}
-use Rattle.records.specs.declared.Item.the-variants.{Good, Bad}
-use Rattle.records.specs.Sections.{Reads, Fails, One, Records, lightOne, lightAll, anyText, opens, offField, offElement, stringLine, StringMeant, ElementMeant, ElementsMeant, ValueMeant, fieldWeight, listedWeight, distinctLabels}
-use Rattle.records.proofs.Opening.{twice, tail-of, byte-here, next-here}
-use Rattle.records.proofs.Sorts.{inner-fails, inner-reads, any-weaker}
-use Rattle.records.proofs.Follow.{Run, start, step, stuck, finish}
-use Rattle.records.proofs.Labels.{opens-here, opens-not}
-use Rattle.records.proofs.Indexing.{ahead}
+use Rattle.record_fields.specs.declared.Item.{Item}
+use Rattle.record_fields.specs.declared.Item.the-variants.{Good, Bad}
+use Rattle.record_fields.specs.Sections.{Reads, Fails, One, Records, lightOne, lightAll, anyText, opens, offField, stringLine, StringMeant, fieldWeight, distinctLabels}
+use Rattle.records.specs.Values.{offElement, ElementMeant, ElementsMeant, ValueMeant, listedWeight}
+use Rattle.record_fields.proofs.Opening.{twice, tail-of, byte-here, next-here}
+use Rattle.record_fields.proofs.Sorts.{inner-fails, inner-reads, any-weaker}
+use Rattle.record_fields.proofs.Follow.{Run, start, step, stuck, finish}
+use Rattle.record_fields.proofs.Labels.{opens-here, opens-not}
+use Rattle.record_fields.proofs.Indexing.{ahead}
 
 -- another test that says the same
 pub reweigh : {A : Type 0} (text : A → Text) (f g : A → Bool) (clear : Text → Bool) (t : Text) (at : ℕ) (a : A) (e : ℕ)

@@ -17,9 +17,10 @@ use Rattle.lines.specs.Cuts.{Field}
 use Rattle.text.specs.Parts.{part}
 use Rattle.lines.proofs.Cuts.{name-only}
 use Rattle.store.proofs.Holders.{variable-text}
-use Rattle.records.specs.Sections.{Fails, lightOne, One, Entitled, offElement}
-use Rattle.records.proofs.Opening.{twice, tail-of, next-here, part-length}
-use Rattle.records.proofs.Sorts.{inner-fails, inner-reads}
+use Rattle.record_fields.specs.Sections.{Fails, lightOne, One, Entitled}
+use Rattle.records.specs.Values.{offElement}
+use Rattle.record_fields.proofs.Opening.{twice, tail-of, next-here, part-length}
+use Rattle.record_fields.proofs.Sorts.{inner-fails, inner-reads}
 
 abbrev pub textOf : Variable → Text
 textOf v = variableText (v .name) (v .value)

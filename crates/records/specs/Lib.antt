@@ -1,3 +1,2 @@
--- What the readers of the state text answer.
-pub mod Sections
-pub mod Entering
+-- What the readers of values and variables answer.
+pub mod Values

@@ -21,10 +21,10 @@ use Rattle.store.specs.declared.index.Found.the-variants as Found
 use Rattle.store.proofs.Answers.{answered}
 use Rattle.language.specs.Weight.{nameWeight}
 use Rattle.language.proofs.StateText.Clean.{name-length, name-word}
-use Rattle.records.proofs.Indexing.{is-there, is-new, member-place}
+use Rattle.record_fields.proofs.Indexing.{is-there, is-new, member-place}
 use Rattle.store.proofs.NameWeights.{name-light}
-use Rattle.records.specs.Sections.{Fails, anyText}
-use Rattle.records.proofs.Opening.{part-length, twice, tail-of, byte-here, next-here}
+use Rattle.record_fields.specs.Sections.{Fails, anyText}
+use Rattle.record_fields.proofs.Opening.{part-length, twice, tail-of, byte-here, next-here}
 use Rattle.references.specs.Known.{Member, Delegating}
 
 names-all : (rows : List Row) → T (all (λ r. isName (r .name)) rows) → T (all isName (rowNames rows))

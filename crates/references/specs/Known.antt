@@ -9,7 +9,7 @@ use Rattle.language.specs.Text.{Text, member}
 use Rattle.language.specs.Syntax.{Name}
 use Rattle.language.specs.Bytes.{wordByte}
 use Rattle.language.specs.Encode.{delegatorText}
-use Rattle.records.specs.Sections.{Reads, Fails, anyText}
+use Rattle.record_fields.specs.Sections.{Reads, Fails, anyText}
 use Rattle.lines.specs.Cuts.{Field}
 use Rattle.text.specs.Parts.{part}
 use Rattle.store.specs.Rows.{SomeRows, position}

@@ -16,13 +16,13 @@ use Rattle.language.proofs.StateText.Lines.{Free}
 use Rattle.text.specs.Meaning.{isNot}
 use Rattle.values.specs.Encoding.{Holds}
 use Rattle.values.specs.Places.{Here, FieldsAt, ElementAt, Elements}
-use Rattle.values.specs.Writing.{Written}
+use Rattle.value_text.specs.Writing.{Written}
 use Rattle.values.proofs.Texts.{firstByte, first-is}
 use Rattle.values.proofs.Standing.{stops, past, part-is, again, free-newline, fields-valid}
 use Rattle.language.proofs.StateText.Clean.{string-clean}
 use Rattle.values.proofs.Lines.{byte-here}
 use Rattle.values.proofs.Listing.{elements-head, elements-tail, starts-with}
-use Rattle.values.proofs.Pieces.{_▸_, rewritten}
+use Rattle.value_text.proofs.Pieces.{_▸_, rewritten}
 use Rattle.render.specs.Json.{linked, Renders}
 use Rattle.render.specs.declared.output.Moved.{Moved}
 use Rattle.render.proofs.Linking.{Linking, linking-start, linking-step, linking-done, linking-room, record-json, list-json}

@@ -8,8 +8,8 @@ use lib.ListN.{length, length-append}
 use Rattle.language.specs.Text.{Text, bytes}
 use Rattle.language.specs.State.{Field, Element, fields, list}
 use Rattle.language.specs.Output.{quote, commas, fieldJson, elementJson, valueJson}
-use Rattle.values.specs.Writing.{Written}
-use Rattle.values.proofs.Pieces.{_▸_, rewritten, written-none, written-length}
+use Rattle.value_text.specs.Writing.{Written}
+use Rattle.value_text.proofs.Pieces.{_▸_, rewritten, written-none, written-length}
 use Rattle.render.specs.Json.{linked}
 use Rattle.language.proofs.Parsing.Printing.{quote-length}
 

@@ -11,10 +11,10 @@ use Rattle.language.specs.Encode.{fieldText}
 use Rattle.language.specs.Output.{quote, fieldJson}
 use Rattle.values.specs.Places.{Here, FieldAt, FieldsAt}
 use Rattle.values.specs.Answers.{EndsOf}
-use Rattle.values.specs.Writing.{Written}
+use Rattle.value_text.specs.Writing.{Written}
 use Rattle.values.specs.declared.Ends.{Ends}
 use Rattle.values.proofs.Lines.{fields-head, fields-tail, byte-here, no-line, field-length}
-use Rattle.values.proofs.Pieces.{rewritten}
+use Rattle.value_text.proofs.Pieces.{rewritten}
 use Rattle.render.specs.Json.{linked, Renders}
 use Rattle.render.specs.declared.output.Moved.{Moved}
 use Rattle.render.proofs.Linking.{Linking, linking-start, linking-step, linking-done, linking-room, field-json}

@@ -8,7 +8,7 @@ use Rattle.language.specs.State.{Field, Element, Value}
 use Rattle.language.specs.Output.{fieldJson, elementJson, valueJson}
 use Rattle.values.specs.Encoding.{Holds}
 use Rattle.values.specs.Places.{FieldAt, FieldsAt, ElementAt, Elements}
-use Rattle.values.specs.Writing.{Written}
+use Rattle.value_text.specs.Writing.{Written}
 use Rattle.render.specs.declared.output.Moved.{Moved}
 
 -- each with a byte before it: b before the first, a comma before the others

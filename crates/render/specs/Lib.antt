@@ -1,3 +1,3 @@
--- What is written: JSON from a value's text, output lines, and the lines of a state text.
+-- What is written: JSON from a value's text, and status lines.
 pub mod Json
 pub mod Lines

@@ -1,3 +1,2 @@
-// Text written from values and from the parts of a state.
+// Text written from values: the lines that a program prints.
 pub mod output;
-pub mod state;

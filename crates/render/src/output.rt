@@ -1,8 +1,8 @@
 // The lines that a program prints: JSON from a value's text, and statuses.
 use text::until;
-use values::copy_in;
+use value_text::copy_in;
+use value_text::put_byte;
 use values::field_ends;
-use values::put_byte;
 ghost use mathlib.Core.List.{List};
 ghost use Prim.Native.Nat.{_+_, _≤_};
 ghost use lib.ListN.{length};
@@ -14,7 +14,7 @@ ghost use Rattle.language.specs.Output as O;
 ghost use Rattle.language.specs.Output.{quote, fieldJson, elementJson, valueJson};
 ghost use Rattle.values.specs.Encoding.{Holds};
 ghost use Rattle.values.specs.Places.{FieldAt, FieldsAt, ElementAt, Elements};
-ghost use Rattle.values.specs.Writing.{Written};
+ghost use Rattle.value_text.specs.Writing.{Written};
 ghost use Rattle.render.specs.Json.{linked, Renders, FieldRoom, FieldsRoom, ElementRoom, ElementsRoom, JsonRoom};
 ghost use Rattle.render.specs.Lines.{statusLine};
 

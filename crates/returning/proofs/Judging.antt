@@ -18,7 +18,7 @@ use Rattle.language.specs.Commands.{Effect, heavy, sessionWeight, step, refused
 use Rattle.evaluate.specs.declared.result.Evaluated.{Evaluated}
 use Rattle.evaluate.specs.declared.result.Evaluated.the-variants.{Value as Is-value, Missing, Heavy}
 use Rattle.evaluate.specs.Results.{Valued}
-use Rattle.evaluate.specs.Permits.{unread}
+use Rattle.permits.specs.Permits.{unread}
 use Rattle.session.proofs.Steps.{is-denied, is-failed, is-full, is-done}
 use Rattle.returning.specs.Returns.{Given, answerTo}
 

@@ -1,7 +1,7 @@
 // The ending `return e`: the value that the program prints.
 use evaluate::result::Evaluated;
 use session::Layout;
-use syntax::value::Expr;
+use syntax::Expr;
 ghost use mathlib.Core.Path.{_≡_};
 ghost use mathlib.Core.Option.{some};
 ghost use Prim.Native.Nat.{_≤_};
@@ -10,8 +10,7 @@ ghost use Rattle.language.specs.Syntax as Syntax;
 ghost use Rattle.language.specs.Programs.{longest};
 ghost use Rattle.language.specs.Values.{Session};
 ghost use Rattle.language.specs.Commands.{step};
-ghost use Rattle.syntax.specs.Values.{exprMeant};
-ghost use Rattle.evaluate.specs.Results.{SomeExpr};
+ghost use Rattle.syntax.specs.Values.{exprMeant, SomeExpr};
 ghost use Rattle.evaluate.specs.Drafts.{Lent};
 ghost use Rattle.session.specs.Sessions.{slices, Running, SomeRunning};
 ghost use Rattle.returning.specs.Returns.{Given, answerTo};
@@ -59,7 +58,7 @@ pub fn value<'a>(
 {
     let vars_len = l.vars_len;
     let locals_len = l.locals_len;
-    let may = evaluate::permit::readable(
+    let may = permits::readable(
         &vars[..vars_len],
         variable_slots,
         l.vars,

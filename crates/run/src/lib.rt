@@ -30,7 +30,7 @@ pub fn program(state: &mut [u8], work: &mut [u8], output: &mut [u8], program: &[
             if !parts.open {
                 return Answer::Wrong(5);
             }
-            transaction::program::start(
+            transaction::start(
                 state,
                 work,
                 output,

@@ -14,10 +14,10 @@ use Rattle.language.specs.Encode.{letter, assertionText, assertionsText}
 use Rattle.language.specs.Valid.{validAssertion}
 use Rattle.store.proofs.Records.{joined-split, joined-suc, all-at}
 use Rattle.store.proofs.Answers.{map-at}
-use Rattle.values.specs.Writing.{Written}
-use Rattle.values.proofs.Pieces.{_▸_, rewritten, written-none}
-use Rattle.render.specs.Lines.{assertionLine}
-use Rattle.render.proofs.Lines.{assertion-line}
+use Rattle.value_text.specs.Writing.{Written}
+use Rattle.value_text.proofs.Pieces.{_▸_, rewritten, written-none}
+use Rattle.state_lines.specs.Lines.{assertionLine}
+use Rattle.state_lines.proofs.Lines.{assertion-line}
 use Rattle.named_rights.specs.Numbers.{principalsOf, variables, numbered, Standing}
 use Rattle.named_rights.proofs.Few.{store-shape}
 use Rattle.session.specs.declared.Layout.{Layout}

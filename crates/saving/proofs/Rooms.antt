@@ -14,9 +14,9 @@ use Rattle.language.specs.Values.{Session}
 use Rattle.language.proofs.Logic.Tests.{and}
 use Rattle.language.proofs.StateText.Names.{named-is}
 use Rattle.language.proofs.StateText.Bound.{state-bound}
-use Rattle.values.specs.Writing.{Written}
-use Rattle.values.proofs.Pieces.{_▸_, rewritten}
-use Rattle.render.proofs.Zeros.{state-padded}
+use Rattle.value_text.specs.Writing.{Written}
+use Rattle.value_text.proofs.Pieces.{_▸_, rewritten}
+use Rattle.state_lines.proofs.Zeros.{state-padded}
 use Rattle.session.specs.declared.Layout.{Layout}
 use Rattle.session.specs.Sessions.{Slices, Running}
 use Rattle.session.proofs.Scoping.{store-valid}

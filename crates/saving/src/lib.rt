@@ -2,11 +2,11 @@
 mod packed; // the assertions' lines
 mod number; // what a number stands for: a record's name, a right's letter
 
-use render::state::put_delegator;
-use render::state::put_header;
-use render::state::zero_rest;
 use session::Layout;
-use values::copy_in;
+use state_lines::put_delegator;
+use state_lines::put_header;
+use state_lines::zero_rest;
+use value_text::copy_in;
 ghost use mathlib.Core.Path.{_≡_};
 ghost use Prim.Native.Nat.{_-_, _≤_};
 ghost use lib.ListN.{length, drop, replicate};
@@ -14,7 +14,7 @@ ghost use Rattle.language.specs.State.{Store, lastCount};
 ghost use Rattle.language.specs.Encode.{stateText, padded};
 ghost use Rattle.language.specs.Values.{Session};
 ghost use Rattle.language.specs.Run as Run;
-ghost use Rattle.values.specs.Writing.{Written};
+ghost use Rattle.value_text.specs.Writing.{Written};
 ghost use Rattle.session.specs.Sessions.{slices, Running, SomeRunning};
 ghost use Rattle.saving.specs.Stores.{recordsText, Recorded, SomeRecords};
 

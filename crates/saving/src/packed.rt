@@ -1,12 +1,12 @@
 // The assertions' lines, from their numbers.
 use crate::number::letter_of;
 use crate::number::name_of;
-use render::state::put_assertion;
 use session::Layout;
+use state_lines::put_assertion;
 ghost use lib.ListN.{length};
 ghost use Rattle.language.specs.State.{Assertion, Store};
 ghost use Rattle.language.specs.Encode.{assertionText, assertionsText};
-ghost use Rattle.values.specs.Writing.{Written};
+ghost use Rattle.value_text.specs.Writing.{Written};
 ghost use Rattle.named_rights.specs.Numbers.{Standing};
 ghost use Rattle.saving.specs.Stores.{Named, Assertions, SomeAssertion, SomeAssertions};
 

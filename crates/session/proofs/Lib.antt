@@ -4,5 +4,7 @@ pub mod Scoping
 pub mod PrincipalsText
 pub mod Room
 pub mod Admin
+pub mod Denials
+pub mod Finding
 pub mod Changes
 pub mod OneValue

@@ -3,11 +3,12 @@ use mathlib.Core.Path.{_≡_}
 use Prim.Native.Nat.{ℕ}
 use Rattle.language.specs.Text.{Text, bytes}
 use Rattle.language.specs.Values.{Session}
-use Rattle.language.specs.Commands.{Effect, Step, refused, went, DENIED, FAILED, FULL}
+use Rattle.language.specs.Commands.{Effect, Step, refused, went}
 use Rattle.session.specs.declared.Layout.{Layout}
 use Rattle.session.specs.Sessions.{Slices, Running}
 use Rattle.session.specs.Endings.{Succeeds}
 use Rattle.render.specs.Lines.{statusLine}
+use Rattle.refusal.specs.Refusals.{refusalMeant}
 use Rattle.returning.specs.Returns.{Returns}
 use Rattle.status.specs.declared.Status.{Status}
 use Rattle.status.specs.declared.Status.the-variants as Word
@@ -41,9 +42,7 @@ pub record Hands (k : Step) (s : Session) (l : Layout) (b : Slices) (value : Tex
   pub returned : Returns k s value n
 
 abbrev pub Acts : Acted → Step → Session → Layout → Slices → Text → Type 0
-Acts Act.Denied k s l b value = k ≡ refused DENIED
-Acts Act.Failed k s l b value = k ≡ refused FAILED
-Acts Act.Full k s l b value = k ≡ refused FULL
+Acts (Act.Refused f) k s l b value = k ≡ refused (refusalMeant f)
 Acts (Act.Done after word) k s l b value = Speaks k after b (wordOf word)
 Acts (Act.Value n) k s l b value = Hands k s l b value n
 

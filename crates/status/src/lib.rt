@@ -1,4 +1,5 @@
 // What one command did, and the status that it prints.
+use refusal::Refusal;
 use returning::Returned;
 use session::Layout;
 use session::Verdict;
@@ -7,7 +8,7 @@ ghost use lib.ListN.{length};
 ghost use Rattle.language.specs.Text.{Text};
 ghost use Rattle.language.specs.Values.{Session};
 ghost use Rattle.language.specs.Commands.{Step};
-ghost use Rattle.values.specs.Writing.{Written};
+ghost use Rattle.value_text.specs.Writing.{Written};
 ghost use Rattle.render.specs.Lines.{statusLine};
 ghost use Rattle.session.specs.Sessions.{Slices, Running};
 ghost use Rattle.session.specs.Endings.{Ended};
@@ -31,9 +32,7 @@ pub enum Status {
 // Refused; or done, with the session after it and the status to print; or a value that the program returns, in the first bytes of the
 // buffer that is lent for it.
 pub enum Acted {
-    Denied,
-    Failed,
-    Full,
+    Refused(Refusal),
     Done(Layout, Status),
     Value(usize),
 }
@@ -62,9 +61,9 @@ pub fn done(v: Verdict, word: Status) -> Acted
     ensures { λ r. ⌜ ((k : Step) (b : Slices) (s : Session) (l : Layout) (value : Text) → Ended v k b → Says k (wordOf word) → Acts r k s l b value) ⌝ }
 {
     match v {
-        Verdict::Denied => Acted::Denied,
-        Verdict::Failed => Acted::Failed,
-        Verdict::Full => Acted::Full,
+        Verdict::Denied => Acted::Refused(Refusal::Denied),
+        Verdict::Failed => Acted::Refused(Refusal::Failed),
+        Verdict::Full => Acted::Refused(Refusal::Full),
         Verdict::Done(l) => Acted::Done(l, word),
     }
 }
@@ -74,9 +73,9 @@ pub fn given(v: Returned) -> Acted
     ensures { λ r. ⌜ ((k : Step) (b : Slices) (s : Session) (l : Layout) (value : Text) → Running s l b → Given v k s value → Acts r k s l b value) ⌝ }
 {
     match v {
-        Returned::Denied => Acted::Denied,
-        Returned::Failed => Acted::Failed,
-        Returned::Full => Acted::Full,
+        Returned::Denied => Acted::Refused(Refusal::Denied),
+        Returned::Failed => Acted::Refused(Refusal::Failed),
+        Returned::Full => Acted::Refused(Refusal::Full),
         Returned::Value(n) => Acted::Value(n),
     }
 }

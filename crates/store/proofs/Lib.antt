@@ -4,7 +4,7 @@ pub mod Positions
 pub mod Lookups
 pub mod Holders
 pub mod Answers
-pub mod Passwords
+pub mod Places
 pub mod Scanning
 pub mod Hashes
 pub mod NameWeights

@@ -12,9 +12,9 @@ use Rattle.language.specs.Syntax.{Operand, Binding, single, nothing, fields}
 use Rattle.language.specs.Grammar.{then-read, give, fieldOrVariable, anyExpression}
 use Rattle.text.proofs.Words.{same-true}
 use Rattle.syntax.specs.Values.{skipped, ExprPlaced}
-use Rattle.syntax.specs.declared.value.ExprRead.{ExprRead}
-use Rattle.syntax.specs.declared.value.ExprRead.the-variants as ExprIs
-use Rattle.syntax.proofs.Reading.{no-some, orElse-none}
+use Rattle.syntax.specs.declared.ExprRead.{ExprRead}
+use Rattle.syntax.specs.declared.ExprRead.the-variants as ExprIs
+use Rattle.tokens.proofs.Reading.{no-some, orElse-none}
 use Rattle.syntax.proofs.Fuel.{allFields}
 
 pub fields-there : (o : Option (List Binding × List Token)) {us : List Token} → skipped o ≡ some (tt, us) → present o ≡ true

@@ -8,7 +8,7 @@ use Rattle.language.specs.Tokens.{Token}
 use Rattle.language.specs.Syntax.{Operand, Binding}
 use Rattle.language.specs.Grammar.{then-read, give, the, anyName, anyOperand}
 use Rattle.syntax.specs.Values.{skipped, before}
-use Rattle.syntax.proofs.Reading.{the-is}
+use Rattle.tokens.proofs.Reading.{the-is}
 use Rattle.syntax.proofs.Fuel.{oneField, allFields}
 
 pub skip-before : (b : Binding) (r : Option (List Binding × List Token)) → skipped (before b r) ≡ skipped r

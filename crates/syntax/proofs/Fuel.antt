@@ -12,7 +12,7 @@ use Rattle.language.specs.Text.{Text, if_then_else_, bytes, _==_, _orElse_}
 use Rattle.language.specs.Tokens.{Token, sign, ident, text, wrong}
 use Rattle.language.specs.Syntax.{Binding, name, dot, quoted}
 use Rattle.language.specs.Grammar.{Reader, then-read, _>>=_, _>>_, _∣_, give, theSign, the, anyName, anyString, anyOperand, fieldOrVariable, anyFields}
-use Rattle.syntax.proofs.Reading.{no-some}
+use Rattle.tokens.proofs.Reading.{no-some}
 
 -- a reader takes a token, or none
 abbrev Shorter : {A : Type 0} → Reader A → Type 0

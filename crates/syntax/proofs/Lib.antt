@@ -1,6 +1,5 @@
--- Laws of the scanner and of the readers.
-pub mod Lexing
-pub mod Reading
+-- Laws of the readers of values and expressions, and of what a text says.
 pub mod Fuel
 pub mod Fields
 pub mod Expressions
+pub mod Said

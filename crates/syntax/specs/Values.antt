@@ -3,23 +3,25 @@ use Prim.Native.Nat.{ℕ, _≤_, _<_}
 use mathlib.Core.Bool.{Bool, true, false}
 use mathlib.Core.Option.{Option, none, some}
 use mathlib.Core.List.{List, [], _∷_}
+use lib.Dec.{T}
 use lib.ListN.{length, drop}
 use mathlib.Core.Path.{_≡_}
 use Rattle.language.specs.Text.{Text, _>>=_, present}
 use Rattle.language.specs.Tokens.{Token, lex}
 use Rattle.language.specs.Syntax as Syntax
 use Rattle.language.specs.Grammar.{anyFields}
+use Rattle.language.proofs.Parsing.ValidPrograms.{validExpr}
 use Rattle.text.specs.Meaning.{part, Within}
-use Rattle.syntax.specs.declared.value.Operand.{Operand}
-use Rattle.syntax.specs.declared.value.Operand.the-variants.{Name, Field, Quoted}
-use Rattle.syntax.specs.declared.value.OperandRead.{OperandRead}
-use Rattle.syntax.specs.declared.value.OperandRead.the-variants as OperandIs
-use Rattle.syntax.specs.declared.value.FieldRead.{FieldRead}
-use Rattle.syntax.specs.declared.value.FieldRead.the-variants as FieldIs
-use Rattle.syntax.specs.declared.value.Expr.{Expr}
-use Rattle.syntax.specs.declared.value.Expr.the-variants.{Single, Empty, Record}
-use Rattle.syntax.specs.declared.value.ExprRead.{ExprRead}
-use Rattle.syntax.specs.declared.value.ExprRead.the-variants as ExprIs
+use Rattle.syntax.specs.declared.Operand.{Operand}
+use Rattle.syntax.specs.declared.Operand.the-variants.{Name, Field, Quoted}
+use Rattle.syntax.specs.declared.OperandRead.{OperandRead}
+use Rattle.syntax.specs.declared.OperandRead.the-variants as OperandIs
+use Rattle.syntax.specs.declared.FieldRead.{FieldRead}
+use Rattle.syntax.specs.declared.FieldRead.the-variants as FieldIs
+use Rattle.syntax.specs.declared.Expr.{Expr}
+use Rattle.syntax.specs.declared.Expr.the-variants.{Single, Empty, Record}
+use Rattle.syntax.specs.declared.ExprRead.{ExprRead}
+use Rattle.syntax.specs.declared.ExprRead.the-variants as ExprIs
 
 -- ---- values
 abbrev pub operandMeant : Text → Operand → Syntax.Operand
@@ -86,3 +88,19 @@ exprReadMeant t ExprIs.No = none
 abbrev pub ExprPlaced : Text → ℕ → ExprRead → Type 0
 ExprPlaced t at (ExprIs.Found e n) = ExprWithin t e × (at < n) × (n ≤ length t)
 ExprPlaced t at ExprIs.No = Unit
+
+-- ---- what a text says
+-- the program's text says a valid expression at these places
+pub record SomeExpr (t : Text) (e : Expr) : Type 0 where
+  pub expression : Syntax.Expr
+  pub meant : exprMeant t e ≡ some expression
+  pub within : ExprWithin t e
+  pub is-valid : T (validExpr expression)
+
+-- the program's text says a valid record from place `at` on, past its brace
+pub record SomeRecord (t : Text) (at : ℕ) : Type 0 where
+  pub bindings : List Syntax.Binding
+  pub others : List Token
+  pub here : recordAt t at ≡ some (bindings, others)
+  pub within : at ≤ length t
+  pub is-valid : T (validExpr (Syntax.fields bindings))

@@ -1,3 +1,3 @@
--- Laws that belong to no one function: the end of a run, and what a program that parses has.
-pub mod Closings
+-- Laws that belong to no one function: what a program that parses has, and the reply.
 pub mod Programs
+pub mod Replies

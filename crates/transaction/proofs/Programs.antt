@@ -1,59 +1,30 @@
--- The end of a text that is sent, by its login and its commands.
+-- The end of a program whose login is right, by its commands; and the count of a checked state.
 -- Assumes nothing.
-use mathlib.Core.Path.{_≡_, refl, ap}
+use mathlib.Core.Path.{_≡_, refl}
 use Prim.Native.Nat.{ℕ, _≤_}
 use native.Mathlib.Omega.{arith}
-use mathlib.Core.Bool.{true, false}
 use mathlib.Core.Option.{Option, none, some}
-use mathlib.Core.List.{List, []}
+use mathlib.Core.List.{List}
 use lib.Dec.{leb, leb→le}
-use Rattle.language.specs.Text.{Text, present}
-use Rattle.language.specs.Syntax.{Command, Program}
+use Rattle.language.specs.Text.{Text}
+use Rattle.language.specs.Syntax.{Command}
 use Rattle.language.specs.State.{Store, lastCount, named}
 use Rattle.language.specs.Valid.{validStore}
 use Rattle.language.specs.Grammar.{Opening}
-use Rattle.language.specs.Values.{Session}
-use Rattle.language.specs.Commands.{DENIED, FAILED}
-use Rattle.language.specs.Run.{refusal, Login, unknown, mistaken, right, loginAs, begin, runAs, run}
+use Rattle.language.specs.Run.{right, loginAs, run}
 use Rattle.language.proofs.Logic.Tests.{both}
 use Rattle.parser.specs.Bodies.{withBody}
 use Rattle.validate.specs.Checked.{Understood}
 use Rattle.validate.specs.declared.Parts.{Parts}
 use Rattle.opening.proofs.Checks.{checked-valid}
-use Rattle.engine.specs.Ends.{endOn}
-use Rattle.transaction.specs.Endings.{endOr}
+use Rattle.outcome.specs.Ends.{endOn}
+use Rattle.ending.specs.Endings.{endOr}
+use Rattle.admission.proofs.Programs.{opened, by-login}
 
-pub not-parsed : (s : Store) (o : Option Program) → o ≡ none → run s o ≡ refusal FAILED
-not-parsed s o e = ap (run s) e
-
--- a program of this login; which commands it has changes neither the login nor the session that it begins with
-abbrev pub sent : Opening → List Command → Program
-sent p cs = record { sender = p .sender; password = p .password; commands = cs }
-
-abbrev pub opened : Store → Opening → Session
-opened s p = begin s (sent p [])
-
-module _ (s : Store) (p : Opening) where
-  by-login : (cs : List Command) (l : Login) → loginAs (p .password) (named (s .principals) (p .sender)) ≡ l → run s (some (sent p cs)) ≡ runAs l (opened s p) cs
-  by-login cs l h = ap (λ (k : Login). runAs k (opened s p) cs) h
-
-  pub sender-unknown : (o : Option (List Command)) → loginAs (p .password) (named (s .principals) (p .sender)) ≡ unknown → run s (withBody p o) ≡ refusal FAILED
-  sender-unknown none h = refl
-  sender-unknown (some cs) h = by-login cs unknown h
-
-  pub sender-mistaken : (o : Option (List Command)) → present o ≡ true → loginAs (p .password) (named (s .principals) (p .sender)) ≡ mistaken
-      → run s (withBody p o) ≡ refusal DENIED
-  sender-mistaken none e h = absurd (let z : _≡_ {A = ℕ} 0 1 = cc in omega arith)
-  sender-mistaken (some cs) e h = by-login cs mistaken h
-
-  pub no-body : (o : Option (List Command)) → present o ≡ false → run s (withBody p o) ≡ refusal FAILED
-  no-body none e = refl
-  no-body (some cs) e = absurd (let z : _≡_ {A = ℕ} 0 1 = cc in omega arith)
-
-  pub commands-performed : (o : Option (List Command)) → loginAs (p .password) (named (s .principals) (p .sender)) ≡ right
-      → run s (withBody p o) ≡ endOr (endOn (opened s p) o)
-  commands-performed none h = refl
-  commands-performed (some cs) h = by-login cs right h
+pub commands-performed : (s : Store) (p : Opening) (o : Option (List Command)) → loginAs (p .password) (named (s .principals) (p .sender)) ≡ right
+    → run s (withBody p o) ≡ endOr (endOn (opened s p) o)
+commands-performed s p none h = refl
+commands-performed s p (some cs) h = by-login s p cs right h
 
 -- the programs that were completed before
 pub few-programs : (t : Text) (slots-p slots-v assertions : List ℕ) (m : Parts) → Understood t slots-p slots-v assertions m → m .count ≤ lastCount

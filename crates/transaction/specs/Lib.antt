@@ -1,2 +1,2 @@
--- How a run ends, and what is known of a program whose login is right.
-pub mod Endings
+-- What is known of a program whose login is right.
+pub mod Admitted

@@ -1,6 +1,4 @@
 -- Laws of the parts of a state text.
-pub mod Principals
-pub mod Ranks
 pub mod Vars
 pub mod Whole
 pub mod Verdicts

@@ -19,14 +19,15 @@ use Rattle.language.proofs.StateText.Clean.{name-length}
 use Rattle.text.specs.Parts.{part}
 use Rattle.store.specs.Rows.{Row, Rows, rowText, variableRow}
 use Rattle.store.proofs.Holders.{variable-text}
-use Rattle.records.specs.Sections.{Fails, lightOne, lightAll, Entitled, offElement, opens}
-use Rattle.records.specs.Entering.{Entering, Entered}
-use Rattle.records.proofs.Opening.{byte-here}
-use Rattle.records.proofs.Follow.{stuck, finish}
+use Rattle.record_fields.specs.Sections.{Fails, lightOne, lightAll, Entitled, opens}
+use Rattle.records.specs.Values.{offElement}
+use Rattle.record_fields.specs.Entering.{Entering, Entered}
+use Rattle.record_fields.proofs.Opening.{byte-here}
+use Rattle.record_fields.proofs.Follow.{stuck, finish}
 use Rattle.records.proofs.Variables.{textOf}
-use Rattle.records.proofs.Indexing.{Going, going-start, going-held, going-rows, entering, go-on, again, light, weight-low, ahead}
+use Rattle.record_fields.proofs.Indexing.{Going, going-start, going-held, going-rows, entering, go-on, again, light, weight-low, ahead}
 use Rattle.validate.specs.Shared.{offVariable, goodVariables}
-use Rattle.validate.specs.Listed.{Listed}
+use Rattle.principal_lines.specs.Listed.{Listed}
 
 -- ---- the letter
 

@@ -23,11 +23,11 @@ use Rattle.store.specs.Rows as Store
 use Rattle.store.proofs.Holders.{principals-rows, variables-rows}
 use Rattle.store.proofs.Answers.{principal-names, variable-names}
 use Rattle.named_rights.specs.Numbers.{principalsOf}
-use Rattle.records.specs.Sections.{Reads, Fails, lightAll, anyText}
+use Rattle.record_fields.specs.Sections.{Reads, Fails, lightAll, anyText}
 use Rattle.records.proofs.Variables.{textOf}
-use Rattle.validate.specs.Principals.{principalLine, offPrincipal, goodPrincipals}
+use Rattle.principal_lines.specs.Principals.{principalLine, offPrincipal, goodPrincipals}
 use Rattle.validate.specs.Shared.{offVariable, goodVariables}
-use Rattle.validate.specs.Listed.{Listed}
+use Rattle.principal_lines.specs.Listed.{Listed}
 use Rattle.frame.specs.Edges.{Top, topText, fineTop, total}
 use Rattle.references.specs.Known.{Delegating}
 use Rattle.assertion_lines.specs.Assertions.{knownNames, offAssertion, goodAssertions, Granted}

@@ -16,9 +16,9 @@ use Rattle.language.specs.Decode.{Holds}
 use Rattle.language.proofs.Logic.Tests.{both, and, three, and-three, all-map}
 use Rattle.language.proofs.StateText.Shape.{Shape, shape, formed}
 use Rattle.language.proofs.StateText.Names.{principalNames, variableNames, is-named, named-is, is-valued, valued-is}
-use Rattle.records.specs.Sections.{Reads, Fails, lightAll, anyText}
+use Rattle.record_fields.specs.Sections.{Reads, Fails, lightAll, anyText}
 use Rattle.records.proofs.Variables.{textOf}
-use Rattle.validate.specs.Principals.{principalLine, offPrincipal, goodPrincipals}
+use Rattle.principal_lines.specs.Principals.{principalLine, offPrincipal, goodPrincipals}
 use Rattle.validate.specs.Shared.{offVariable, goodVariables}
 use Rattle.frame.specs.Edges.{Top, topText, fineTop, total}
 use Rattle.assertion_lines.specs.Assertions.{knownNames, offAssertion, goodAssertions}

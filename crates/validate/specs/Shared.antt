@@ -7,9 +7,10 @@ use Rattle.language.specs.State.{Variable}
 use Rattle.language.specs.Weight.{variableWeight}
 use Rattle.language.specs.Encode.{variableText}
 use Rattle.language.specs.Valid.{validVariable}
-use Rattle.records.specs.Sections.{offElement, opens}
-use Rattle.records.specs.declared.Section.{Section}
-use Rattle.validate.specs.Listed.{ListedMeant}
+use Rattle.record_fields.specs.Sections.{opens}
+use Rattle.record_fields.specs.declared.Section.{Section}
+use Rattle.records.specs.Values.{offElement}
+use Rattle.principal_lines.specs.Listed.{ListedMeant}
 
 -- neither a variable (V) nor what may follow one
 abbrev pub offVariable : Text → Bool

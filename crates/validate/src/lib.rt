@@ -1,10 +1,9 @@
 // Whether a buffer is the text of a valid state, where its parts stand, and the tables that a run needs. Document 01, "State text".
-mod principal_lines; // the principals
 mod shared; // the variables
 
 use assertion_lines::Roll;
 use frame::Head;
-use records::Section;
+use record_fields::Section;
 use references::Known;
 ghost use mathlib.Core.Path.{_≡_};
 ghost use lib.ListN.{length};

@@ -1,6 +1,6 @@
 // The shared variables of a state text.
-use records::Entry;
-use records::Section;
+use record_fields::Entry;
+use record_fields::Section;
 ghost use mathlib.Core.Path.{_≡_};
 ghost use mathlib.Core.Bool.{not};
 ghost use Prim.Native.Nat.{_≤_};
@@ -40,7 +40,7 @@ pub fn variables(text: &[u8], at: usize, w: usize, slots: &mut [u32]) -> Section
         let Entry::Good(m, e, after) = line else {
             return Section::Bad;
         };
-        if !records::enter(text, at, i, m, slots, n) {
+        if !record_fields::enter(text, at, i, m, slots, n) {
             return Section::Bad;
         }
         n += 1;

@@ -1,4 +1,2 @@
 -- Laws that belong to no one function.
-pub mod Saying
-pub mod Lookups
 pub mod Reporting

@@ -18,8 +18,9 @@ use Rattle.store.proofs.Holders.{principals-rows, variables-rows}
 use Rattle.named_rights.specs.Numbers.{principalsOf, variables, numbered}
 use Rattle.validate.specs.Checked.{Represents}
 use Rattle.validate.specs.declared.Parts.{Parts}
-use Rattle.validate_c.specs.Reported.{Look, figures, flag, Says, Answers, Reported, bad, refused}
-use Rattle.validate_c.specs.Tallies.{tally}
+use Rattle.validate_c.specs.Reported.{figures, Answers, Reported, bad, refused}
+use Rattle.state_figures.specs.Tallies.{flag, tally}
+use Rattle.state_lookups.specs.Looks.{Look, Says}
 
 module _ (room : ℕ) (look : State → Look) (t : Text) (old : List ℕ) where
   pub no-size : (length t ≡ 65536 → ⊥) → Reported room look t old old refused

@@ -1,2 +1,2 @@
+-- What the exported functions answer and leave.
 pub mod Reported
-pub mod Tallies

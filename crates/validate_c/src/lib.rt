@@ -1,12 +1,10 @@
 // The check of a state's buffer and the look-ups in it, for programs in other languages. They ask nothing of their caller but what the
 // types say: a buffer of another size than 65,536 bytes, and a room that is too small, are refused with a number.
-mod answer; // answers written for the caller
-mod look; // look-ups among the records of a text
-
 use validate::Checked;
 ghost use Rattle.language.specs.State.{State};
 ghost use Rattle.named_rights.specs.Numbers.{principalsOf, variables};
-ghost use Rattle.validate_c.specs.Reported.{Reported, found, figures, nameOf, principalOf, variableOf};
+ghost use Rattle.state_lookups.specs.Looks.{found, nameOf, principalOf, variableOf};
+ghost use Rattle.validate_c.specs.Reported.{Reported, figures};
 
 const BAD: u64 = 4294967296;
 
@@ -28,7 +26,7 @@ pub extern "C" fn state_check(state: &[u8], out: &mut [u64]) -> u64
     let mut assertions = [0u64; 2048];
     let checked = validate::check(state, &mut principals, &mut vars, &mut assertions);
     match checked {
-        Checked::Good(parts) => answer::figures(parts, &assertions, out),
+        Checked::Good(parts) => state_figures::figures(parts, &assertions, out),
         Checked::Bad => BAD,
     }
 }
@@ -52,7 +50,7 @@ pub extern "C" fn state_principal(state: &[u8], name: &[u8], out: &mut [u8]) -> 
         Checked::Good(parts) => {
             let from = parts.principals_from;
             let to = parts.principals_to;
-            look::principal(&state[from..to], &principals, parts.principals, name, out)
+            state_lookups::principal(&state[from..to], &principals, parts.principals, name, out)
         }
         Checked::Bad => BAD,
     }
@@ -77,7 +75,7 @@ pub extern "C" fn state_variable(state: &[u8], name: &[u8], out: &mut [u8]) -> u
         Checked::Good(parts) => {
             let from = parts.vars_from;
             let to = parts.vars_to;
-            look::variable(&state[from..to], &vars, parts.vars, name, out)
+            state_lookups::variable(&state[from..to], &vars, parts.vars, name, out)
         }
         Checked::Bad => BAD,
     }
@@ -102,7 +100,7 @@ pub extern "C" fn state_principal_name(state: &[u8], number: usize, out: &mut [u
         Checked::Good(parts) => {
             let from = parts.principals_from;
             let to = parts.principals_to;
-            look::nth_name(&state[from..to], &principals, parts.principals, number, out)
+            state_lookups::nth_name(&state[from..to], &principals, parts.principals, number, out)
         }
         Checked::Bad => BAD,
     }
@@ -127,7 +125,7 @@ pub extern "C" fn state_variable_name(state: &[u8], number: usize, out: &mut [u8
         Checked::Good(parts) => {
             let from = parts.vars_from;
             let to = parts.vars_to;
-            look::nth_name(&state[from..to], &vars, parts.vars, number, out)
+            state_lookups::nth_name(&state[from..to], &vars, parts.vars, number, out)
         }
         Checked::Bad => BAD,
     }

@@ -1,4 +1,4 @@
--- Laws of a value's text, of the places in it, of its weight, and of writing.
+-- Laws of a value's text, of the places in it, and of its weight.
 pub mod Texts
 pub mod Standing
 pub mod Lines
@@ -6,4 +6,3 @@ pub mod FirstByte
 pub mod Searching
 pub mod Listing
 pub mod Weighing
-pub mod Pieces

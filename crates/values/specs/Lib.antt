@@ -1,6 +1,5 @@
--- A value's text, what stands at a place of it, what the functions answer, and what they write.
+-- A value's text, what stands at a place of it, and what the functions answer.
 pub mod Encoding
 pub mod Places
 pub mod Answers
 pub mod Breaks
-pub mod Writing

@@ -1,18 +1,17 @@
-// A value kept as text: its kind, its weight, what it holds and where, and the writing of one.
+// A value kept as text: its kind, its weight, what it holds and where.
 ghost use mathlib.Core.Path.{_≡_};
-ghost use mathlib.Core.List.{List, [], _∷_};
-ghost use Prim.Native.Nat.{_+_, _≤_, _<_};
+ghost use mathlib.Core.List.{List};
+ghost use Prim.Native.Nat.{_+_, _≤_};
 ghost use lib.ListN.{length};
-ghost use Rattle.language.specs.Text.{Text, bytes, joined};
-ghost use Rattle.language.specs.State.{Field, Element, Value, string, list};
+ghost use Rattle.language.specs.Text.{Text, joined};
+ghost use Rattle.language.specs.State.{Field, Element, Value, list};
 ghost use Rattle.language.specs.Values.{asString};
 ghost use Rattle.language.specs.Weight.{valueWeight};
-ghost use Rattle.language.specs.Encode.{lineOf, fieldText, elementText};
+ghost use Rattle.language.specs.Encode.{fieldText, elementText};
 ghost use Rattle.values.specs.Encoding.{Holds, ValueText, ListText};
 ghost use Rattle.values.specs.Breaks.{breakOf};
 ghost use Rattle.values.specs.Places.{FieldAt, FieldsAt, ElementAt, Elements, SomeField, SomeFields, SomeElement, SomeElements};
 ghost use Rattle.values.specs.Answers.{kindOf, textAt, Placed, fieldOf, Nexts, EndsOf};
-ghost use Rattle.values.specs.Writing.{Written, fieldLine};
 use text::Span;
 use text::same_bytes;
 use text::until;
@@ -175,63 +174,4 @@ pub fn next_element(text: &[u8], at: usize) -> Next
         return Next::Element(Span { start: at, end });
     }
     Next::End
-}
-
-// Copies src to out, from `at` on. Where it ends.
-pub fn copy_in(out: &mut [u8], at: usize, src: &[u8]) -> usize
-    requires { ⌜ at + length (now src) ≤ length (now out) ⌝ }
-    ensures { λ r. ⌜ Written (now (out .entry)) at (now (src .entry)) r (now (out .exit)) ⌝ }
-{
-    let mut i: usize = 0;
-    while i < src.len() {
-        out[at + i] = src[i];
-        i += 1;
-    }
-    at + i
-}
-
-pub fn put_byte(out: &mut [u8], at: usize, b: u8) -> usize
-    requires { ⌜ at < length (now out) ⌝ }
-    ensures { λ r. ⌜ Written (now (out .entry)) at (b ∷ []) r (now (out .exit)) ⌝ }
-{
-    out[at] = b;
-    at + 1
-}
-
-// The text of a string, as a value or as an element of a list.
-pub fn put_string(out: &mut [u8], at: usize, text: &[u8]) -> usize
-    requires { ⌜ at + length (now text) + 3 ≤ length (now out) ⌝ }
-    ensures { λ r. ⌜ Written (now (out .entry)) at (elementText (string (now (text .entry)))) r (now (out .exit)) ⌝ }
-{
-    let a = copy_in(out, at, b"S\t");
-    let b = copy_in(out, a, text);
-    put_byte(out, b, b'\n')
-}
-
-// The first line of a record; its fields follow.
-pub fn put_record(out: &mut [u8], at: usize) -> usize
-    requires { ⌜ at + 2 ≤ length (now out) ⌝ }
-    ensures { λ r. ⌜ Written (now (out .entry)) at (lineOf (bytes "R" ∷ [])) r (now (out .exit)) ⌝ }
-{
-    copy_in(out, at, b"R\n")
-}
-
-// The line of a field.
-pub fn put_field(out: &mut [u8], at: usize, label: &[u8], text: &[u8]) -> usize
-    requires { ⌜ at + length (now label) + length (now text) + 4 ≤ length (now out) ⌝ }
-    ensures { λ r. ⌜ Written (now (out .entry)) at (fieldLine (now (label .entry)) (now (text .entry))) r (now (out .exit)) ⌝ }
-{
-    let a = copy_in(out, at, b"F\t");
-    let b = copy_in(out, a, label);
-    let c = put_byte(out, b, b'\t');
-    let d = copy_in(out, c, text);
-    put_byte(out, d, b'\n')
-}
-
-// The first line of a list; its elements follow.
-pub fn put_list(out: &mut [u8], at: usize) -> usize
-    requires { ⌜ at + 2 ≤ length (now out) ⌝ }
-    ensures { λ r. ⌜ Written (now (out .entry)) at (lineOf (bytes "L" ∷ [])) r (now (out .exit)) ⌝ }
-{
-    copy_in(out, at, b"L\n")
 }

@@ -14,10 +14,9 @@ use Rattle.language.proofs.Logic.Tests.{both}
 use Rattle.language.proofs.Parsing.ValidPrograms.{validExpr, validCommand}
 use Rattle.text.specs.declared.Span.{Span}
 use Rattle.text.specs.Meaning.{part, Within}
-use Rattle.syntax.specs.declared.value.Expr as Read
-use Rattle.syntax.specs.Values.{exprMeant, ExprWithin}
-use Rattle.syntax.proofs.Reading.{no-some}
-use Rattle.evaluate.specs.Results.{SomeExpr}
+use Rattle.syntax.specs.declared.Expr as Read
+use Rattle.syntax.specs.Values.{exprMeant, ExprWithin, SomeExpr}
+use Rattle.tokens.proofs.Reading.{no-some}
 use Rattle.variables.specs.Commands.{Names}
 
 -- k is the command f of the expression that o is

@@ -1,5 +1,5 @@
 // The commands about variables, and return: each is done by its function, and has its status or its value.
-use command_readers::command::VariableCommand;
+use command_readers::VariableCommand;
 use session::Layout;
 use status::Acted;
 use status::Status;
@@ -13,15 +13,16 @@ ghost use Rattle.language.specs.Programs.{longest};
 ghost use Rattle.language.specs.Syntax as Syntax;
 ghost use Rattle.language.specs.Values.{Session};
 ghost use Rattle.language.specs.Commands.{step};
-ghost use Rattle.command_readers.specs.declared.command.Command.the-variants.{Variable};
+ghost use Rattle.command_readers.specs.declared.Command.the-variants.{Variable};
 ghost use Rattle.command_readers.specs.Commands.{variableMeant, SomeCommand};
 ghost use Rattle.session.specs.Sessions.{Running, SomeRunning, slices};
 ghost use Rattle.status.specs.Acts.{Acts};
 
-// Does the command that stands at the places c of the program's text, on the running session. A value that it returns is left in `value`.
+// Does the command that stands at the places c of the program's text, on the running session. A value that it returns is left in `value`. Principals stay as
+// they are.
 pub fn act(
-    principals: &mut [u8],
-    principal_slots: &mut [u32],
+    principals: &[u8],
+    principal_slots: &[u32],
     vars: &mut [u8],
     variable_slots: &mut [u32],
     locals: &mut [u8],
@@ -37,7 +38,7 @@ pub fn act(
     requires { ⌜ (length (now value) ≡ 45056) × (length (now labels) ≡ 4096) ⌝ }
     requires { ⌜ SomeCommand (now text) (Variable c) × (length (now text) ≤ longest) ⌝ }
     ensures { λ r. ⌜ ((s : Session) (k : Syntax.Command) → Running s l (slices (now (principals .entry)) (now («principal_slots» .entry)) (now (vars .entry)) (now («variable_slots» .entry)) (now (locals .entry)) (now («local_slots» .entry)) (now (assertions .entry))) → variableMeant (now (text .entry)) c ≡ some k
-        → Acts r (step s k) s l (slices (now (principals .exit)) (now («principal_slots» .exit)) (now (vars .exit)) (now («variable_slots» .exit)) (now (locals .exit)) (now («local_slots» .exit)) (now (assertions .exit))) (now (value .exit))) ⌝ }
+        → Acts r (step s k) s l (slices (now (principals .entry)) (now («principal_slots» .entry)) (now (vars .exit)) (now («variable_slots» .exit)) (now (locals .exit)) (now («local_slots» .exit)) (now (assertions .exit))) (now (value .exit))) ⌝ }
 {
     match c {
         VariableCommand::Set(x, e) => {

@@ -22,10 +22,11 @@ use Rattle.session.specs.declared.Verdict.{Verdict}
 use Rattle.session.specs.Sessions.{Slices}
 use Rattle.session.specs.Endings.{Ended}
 use Rattle.session.proofs.OneValue.{session-full, session-done}
-use Rattle.variables.specs.declared.assignment.Assigned.{Assigned}
-use Rattle.variables.specs.declared.assignment.Assigned.the-variants.{Full, Done}
-use Rattle.variables.specs.Assignments.{Assigns, verdictOf}
-use Rattle.variables.specs.Puts.{Weighs}
+use Rattle.assignment.specs.declared.Assigned.{Assigned}
+use Rattle.assignment.specs.declared.Assigned.the-variants.{Full, Done}
+use Rattle.assignment.specs.Assignments.{Assigns}
+use Rattle.variables.specs.Commands.{verdictOf}
+use Rattle.variable_text.specs.Puts.{Weighs}
 use Rattle.lookup.specs.Looks.{elementsIn}
 
 -- ---- room to evaluate in

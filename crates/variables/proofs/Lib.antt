@@ -1,6 +1,2 @@
--- Laws of the changes of a session's variables.
-pub mod Weighing
-pub mod Granting
-pub mod Assigning
-pub mod Extending
+-- Laws of the commands set, append and local.
 pub mod Ending

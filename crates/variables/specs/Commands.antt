@@ -8,8 +8,12 @@ use Rattle.language.specs.Text.{Text}
 use Rattle.language.specs.Identifiers.{isIdentifier}
 use Rattle.text.specs.declared.Span.{Span}
 use Rattle.text.specs.Meaning.{part, Within}
-use Rattle.syntax.specs.declared.value.Expr as Read
+use Rattle.syntax.specs.declared.Expr as Read
+use Rattle.session.specs.declared.Verdict.{Verdict}
+use Rattle.session.specs.declared.Verdict.the-variants as Ends
 use Rattle.lookup.specs.Looks.{Said}
+use Rattle.assignment.specs.declared.Assigned.{Assigned}
+use Rattle.assignment.specs.declared.Assigned.the-variants.{Full, Done}
 
 -- the program's text names a variable, and says an expression
 pub record Names (t : Text) (x : Span) (e : Read.Expr) : Type 0 where
@@ -21,3 +25,8 @@ pub record Names (t : Text) (x : Span) (e : Read.Expr) : Type 0 where
 pub record Scratch (value : Text) (labels : List ℕ) : Type 0 where
   pub value-size : length value ≡ 45056
   pub labels-size : length labels ≡ 4096
+
+-- how a command ends that does the assignment
+abbrev pub verdictOf : Assigned → Verdict
+verdictOf Full = Ends.Full
+verdictOf (Done l) = Ends.Done l

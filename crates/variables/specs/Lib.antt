@@ -1,6 +1,2 @@
--- What the changes of a session's variables ask and leave.
-pub mod Puts
-pub mod Grants
-pub mod Assignments
-pub mod Extensions
+-- What the commands set, append and local ask, and how they end.
 pub mod Commands

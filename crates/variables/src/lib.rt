@@ -1,20 +1,13 @@
 // The commands set, append and local on a running session.
-pub mod assignment; // a variable holds a value, whichever variable it is
-mod extension; // a list gets more elements
-mod grants; // what the maker of a variable is granted
-mod put; // one text of variables changed, where the session stays light enough
-
 use assertion::WRITE;
 use assignment::Assigned;
 use assignment::assign;
-use assignment::with_locals;
+use assignment::declare;
 use evaluate::result::Evaluated;
 use extension::join;
-use put::Put;
-use put::add;
 use session::Layout;
 use session::Verdict;
-use syntax::value::Expr;
+use syntax::Expr;
 use text::Span;
 ghost use mathlib.Core.Path.{_≡_};
 ghost use mathlib.Core.Option.{some};
@@ -33,9 +26,7 @@ ghost use Rattle.text.specs.Meaning.{part};
 ghost use Rattle.syntax.specs.Values.{exprMeant};
 ghost use Rattle.session.specs.Sessions.{slices, Running, SomeRunning};
 ghost use Rattle.session.specs.Endings.{Ended};
-ghost use Rattle.variables.specs.Puts.{SomeLying, Weighs, SomeWeighed};
-ghost use Rattle.variables.specs.Assignments.{Assigns, verdictOf};
-ghost use Rattle.variables.specs.Commands.{Names, Scratch};
+ghost use Rattle.variables.specs.Commands.{Names, Scratch, verdictOf};
 
 fn verdict(a: Assigned) -> Verdict
     ensures { λ r. ⌜ r ≡ verdictOf a ⌝ }
@@ -171,38 +162,6 @@ pub fn append(
         Evaluated::Missing => Verdict::Failed,
         Evaluated::Heavy => Verdict::Full,
     }
-}
-
-// A new local.
-fn declare(
-    locals: &mut [u8],
-    local_slots: &mut [u32],
-    l: Layout,
-    name: &[u8],
-    value: &[u8],
-    weight: usize,
-) -> Assigned
-    requires { ⌜ SomeLying (now locals) (l .«locals_len») (l .locals) (now «local_slots») (l .weight) × T (isName (now name)) × SomeWeighed (now value) weight × (l .weight ≤ 8192) ⌝ }
-    ensures { λ r. ⌜ ((s : Session) (pe : Text) (pm : List ℕ) (sv : Text) (sm st : List ℕ) (v : Value)
-        → Running s l (slices pe pm sv sm (now (locals .entry)) (now («local_slots» .entry)) st)
-        → isDefined s (now (name .entry)) ≡ false → Weighs v (now (value .entry)) weight
-        → Assigns r (withLocals s (put (now (name .entry)) v (s .locals))) (slices pe pm sv sm (now (locals .exit)) (now («local_slots» .exit)) st)) ⌝ }
-{
-    let count = l.locals;
-    let put = add(
-        locals,
-        l.locals_len,
-        local_slots,
-        count,
-        name,
-        value,
-        weight,
-        l.weight,
-    );
-    let Put::Done { len, weight: w } = put else {
-        return Assigned::Full;
-    };
-    Assigned::Done(with_locals(l, len, count + 1, w))
 }
 
 // local x = e

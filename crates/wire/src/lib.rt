@@ -1,6 +1,7 @@
 // An answer to the host as one number, for programs in other languages (specs/Wire.antt).
 use answers::Answer;
 use answers::Kind;
+use refusal::Refusal;
 ghost use mathlib.Core.Path.{_≡_};
 ghost use Prim.Native.Nat.{_<_};
 ghost use Rattle.answers.specs.Answers.{kindMeant, answerMeant};
@@ -20,9 +21,11 @@ fn end_code(kind: Kind) -> u64
     match kind {
         Kind::Returned => 16,
         Kind::Exited => 17,
-        Kind::Denied => 18,
-        Kind::Failed => 19,
-        Kind::Full => 20,
+        Kind::Refused(how) => match how {
+            Refusal::Denied => 18,
+            Refusal::Failed => 19,
+            Refusal::Full => 20,
+        },
     }
 }
 

@@ -11,7 +11,7 @@ use Rattle.language.specs.Bytes.{wordByte}
 use Rattle.text.specs.Parts.{part}
 use Rattle.assertion.specs.Packed.{pack}
 use Rattle.store.specs.Rows.{Row, Rows, rowNames}
-use Rattle.records.proofs.Opening.{inside}
+use Rattle.record_fields.proofs.Opening.{inside}
 use Rattle.references.specs.Known.{KnownMeant, Member}
 use Rattle.assertion_lines.specs.Assertions.{codeOf}
 use Rattle.references.proofs.Members.{member-word, member-light, member-number}

@@ -7,7 +7,7 @@ use Rattle.language.specs.Syntax.{Name, delegate, rights}
 use Rattle.language.specs.Values.{Session}
 use Rattle.language.specs.Commands.{delegable}
 use Rattle.session.specs.Sessions.{slices}
-use Rattle.delegations.specs.Entering.{Delegates}
+use Rattle.delegations.specs.Delegates.{Delegates}
 use Rattle.creation.specs.Creating.{Gives}
 use Rattle.creation.proofs.Giving.{counted, few, delegates}
 use borrow.Author.Needs.{needs}

@@ -8,8 +8,8 @@ use lib.ListN.{length}
 use Rattle.language.specs.Syntax.{Name}
 use Rattle.language.specs.Values.{Session}
 use Rattle.session.specs.Sessions.{slices, Running}
-use Rattle.delegations.specs.declared.Entered.{Entered}
-use Rattle.delegations.specs.Entering.{Ends}
+use Rattle.assertion_changes.specs.declared.Entered.{Entered}
+use Rattle.assertion_changes.specs.Entering.{Ends}
 use Rattle.creation.specs.Creating.{Gives}
 use Rattle.creation.proofs.Giving.{firstGiven, gives-next, too-heavy, given-on, given-last}
 use Rattle.creation.proofs.delegate_rights.Statement.{statement}

@@ -1,8 +1,8 @@
 use mathlib.Core.Path.{sym, ap, subst, _∙_}
 use native.Mathlib.Omega.{arith}
 use Rattle.text.specs.Meaning.{Within}
-use Rattle.command_readers.specs.declared.form.Target.{Target}
-use Rattle.command_readers.specs.Forms.{targetMeant, TargetWithin}
+use Rattle.forms.specs.declared.Target.{Target}
+use Rattle.forms.specs.Forms.{targetMeant, TargetWithin}
 use Rattle.store.specs.Rows.{rowNames}
 use Rattle.delegation_rules.specs.declared.Aim.the-variants.{One}
 use Rattle.delegation_rules.specs.Asking.{aimOf}

@@ -1,7 +1,7 @@
 use mathlib.Core.Path.{ap, _∙_}
 use mathlib.Core.List.{List, map}
 use Rattle.language.specs.Syntax.{Name}
-use Rattle.command_readers.specs.Forms.{targetMeant}
+use Rattle.forms.specs.Forms.{targetMeant}
 use Rattle.store.specs.Rows.{position, principalRow, variableRow}
 use Rattle.store.proofs.Answers.{principal-names, variable-names}
 use Rattle.store.proofs.Holders.{principals-rows, variables-rows}

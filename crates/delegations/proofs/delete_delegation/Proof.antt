@@ -8,11 +8,11 @@ use Rattle.language.specs.Syntax.{Name, Right, Target, Command, delete-delegati
 use Rattle.language.specs.Values.{Session}
 use Rattle.language.specs.Commands.{targets, denied}
 use Rattle.text.specs.Meaning.{part}
-use Rattle.command_readers.specs.Forms.{rightMeant, targetMeant}
+use Rattle.forms.specs.Forms.{rightMeant, targetMeant}
 use Rattle.store.proofs.Holders.{some-principals, some-variables}
 use Rattle.session.specs.Sessions.{Slices, slices, Running}
 use Rattle.session.proofs.Steps.{is-denied}
-use Rattle.delegations.specs.Entering.{Delegates}
+use Rattle.delegations.specs.Delegates.{Delegates}
 use Rattle.delegation_rules.specs.Asking.{Names}
 use Rattle.delegation_rules.proofs.Existing.{complete}
 use Rattle.delegations.proofs.Ending.{ends-done, delete-fails, deleting, delete-goes, giver-there, delegates}

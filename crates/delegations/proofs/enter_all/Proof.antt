@@ -10,9 +10,10 @@ use Rattle.language.specs.Commands.{assertionsOn, entering}
 use Rattle.store.specs.Rows.{principalRow, variableRow}
 use Rattle.store.proofs.Holders.{principals-rows, variables-rows, some-principals, some-variables}
 use Rattle.session.specs.Sessions.{slices, Running}
-use Rattle.delegations.specs.declared.Entered.{Entered}
-use Rattle.delegations.specs.Entering.{Asserts, Delegates, Ends, entered}
-use Rattle.delegations.proofs.Lists.{assertionAt}
+use Rattle.assertion_changes.specs.declared.Entered.{Entered}
+use Rattle.assertion_changes.specs.Entering.{Asserts, Ends, entered}
+use Rattle.delegations.specs.Delegates.{Delegates}
+use Rattle.assertion_changes.proofs.Lists.{assertionAt}
 use Rattle.delegations.proofs.Delegating.{principal-below, principal-few, right-few, pair-short, target-short, target-below, target-few, asserts-at, entered-next, entered-over, entered-last}
 use Rattle.delegations.proofs.enter_all.Statement.{statement}
 use Rattle.delegations.proofs.enter_all.Tie as tie

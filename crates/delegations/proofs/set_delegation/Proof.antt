@@ -8,12 +8,13 @@ use Rattle.language.specs.Syntax.{Name, Right, Target, Command, set-delegation}
 use Rattle.language.specs.Values.{Session}
 use Rattle.language.specs.Commands.{targets, assertionsOn, denied}
 use Rattle.text.specs.Meaning.{part}
-use Rattle.command_readers.specs.Forms.{rightMeant, targetMeant}
+use Rattle.forms.specs.Forms.{rightMeant, targetMeant}
 use Rattle.store.proofs.Holders.{some-principals, some-variables}
 use Rattle.session.specs.Sessions.{Slices, slices, Running}
 use Rattle.session.proofs.Steps.{is-denied}
-use Rattle.delegations.specs.declared.Entered.{Entered}
-use Rattle.delegations.specs.Entering.{Ends, Delegates, entered}
+use Rattle.assertion_changes.specs.declared.Entered.{Entered}
+use Rattle.assertion_changes.specs.Entering.{Ends, entered}
+use Rattle.delegations.specs.Delegates.{Delegates}
 use Rattle.delegation_rules.specs.Asking.{Names}
 use Rattle.delegation_rules.proofs.Existing.{complete}
 use Rattle.delegations.proofs.Ending.{ends-full, ends-done, set-fails, setting, set-goes, giver-there, delegates}

@@ -9,8 +9,9 @@ use Rattle.language.specs.Commands.{assertionsOn, withdrawing}
 use Rattle.store.specs.Rows.{principalRow, variableRow}
 use Rattle.store.proofs.Holders.{principals-rows, variables-rows, some-principals, some-variables}
 use Rattle.session.specs.Sessions.{slices, Running}
-use Rattle.delegations.specs.Entering.{Asserts, Delegates, withdrawn}
-use Rattle.delegations.proofs.Lists.{assertionAt}
+use Rattle.assertion_changes.specs.Entering.{Asserts, withdrawn}
+use Rattle.delegations.specs.Delegates.{Delegates}
+use Rattle.assertion_changes.proofs.Lists.{assertionAt}
 use Rattle.delegations.proofs.Delegating.{principal-below, principal-few, right-few, pair-short, target-short, target-below, target-few, asserts-at, withdrawn-next, withdrawn-last}
 use Rattle.delegations.proofs.withdraw_all.Statement.{statement}
 use Rattle.delegations.proofs.withdraw_all.Tie as tie

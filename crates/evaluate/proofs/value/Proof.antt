@@ -1,9 +1,19 @@
 -- `evaluate::value` meets its contract. One arm for each expression.
 -- Assumes nothing.
-use Rattle.evaluate.proofs.Expressions.{single-meant, empty-meant, record-meant, single-safe, record-safe, valued-at}
+use mathlib.Core.Path.{_≡_, sym, subst}
+use Rattle.language.specs.Text.{Text}
+use Rattle.language.specs.Syntax.{Expr}
+use Rattle.language.specs.Values as Values
+use Rattle.syntax.proofs.Said.{single-meant, empty-meant, record-meant, single-safe, record-safe}
+use Rattle.evaluate.specs.Results.{Valued}
+use Rattle.evaluate.specs.declared.result.Evaluated.{Evaluated}
 use borrow.Author.Needs.{needs}
 use Rattle.evaluate.proofs.value.Statement.{statement}
 use Rattle.evaluate.proofs.value.Tie as tie
+
+-- the same expression, by another name
+valued-at : (r : Evaluated) (s : Values.Session) (out : Text) {x y : Expr} → x ≡ y → Valued r (Values.value s y) out → Valued r (Values.value s x) out
+valued-at r s out e h = subst (λ (z : Expr). Valued r (Values.value s z) out) (sym e) h
 
 enum-known-e : tie.Need-enum-known-e
 enum-known-e c = search needs

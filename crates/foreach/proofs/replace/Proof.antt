@@ -20,9 +20,9 @@ use Rattle.language.proofs.StateText.Clean.{identifier-name}
 use Rattle.text.specs.Meaning.{part}
 use Rattle.syntax.specs.Values.{exprMeant}
 use Rattle.session.specs.Sessions.{Slices, slices, Running}
-use Rattle.variables.specs.declared.assignment.Assigned.{Assigned}
-use Rattle.variables.specs.Puts.{Weighs}
-use Rattle.variables.specs.Assignments.{Assigns}
+use Rattle.assignment.specs.declared.Assigned.{Assigned}
+use Rattle.variable_text.specs.Puts.{Weighs}
+use Rattle.assignment.specs.Assignments.{Assigns}
 use Rattle.foreach_element.specs.declared.Made.{Made}
 use Rattle.foreach_element.specs.Drafts.{Gives, MadeOf}
 use Rattle.foreach_source.specs.Sources.{source, Copied}

@@ -3,7 +3,7 @@ use native.Mathlib.Omega.{arith}
 use denote.Ref.{now}
 use lib.ListN.{getD}
 use Rattle.lines.specs.Cuts.{NumberMeant, Digits}
-use Rattle.records.proofs.Opening.{inside}
+use Rattle.record_fields.proofs.Opening.{inside}
 use Rattle.frame.proofs.Limits.{top-tab, top-letter, top-number, top-open, top-closed}
 use borrow.Author.Needs.{needs}
 use Rattle.frame.proofs.head_at.Statement.{statement}

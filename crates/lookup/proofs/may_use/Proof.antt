@@ -2,7 +2,7 @@
 -- Assumes nothing.
 use Rattle.text.specs.Meaning.{part}
 use Rattle.language.specs.Values.{names}
-use Rattle.evaluate.specs.Permits.{allowedOn, unread}
+use Rattle.permits.specs.Permits.{allowedOn, unread}
 use Rattle.lookup.proofs.Looking.{not-used, used}
 use borrow.Author.Needs.{needs}
 use Rattle.lookup.proofs.may_use.Statement.{statement}

@@ -6,8 +6,8 @@ use native.Mathlib.Omega.{arith}
 use Rattle.language.specs.State.{Principal}
 use Rattle.language.specs.Run as Run
 use Rattle.store.specs.Held.{Principals}
-use Rattle.store.specs.Contents.{PasswordIn, PasswordAt}
-use Rattle.store.specs.declared.content.Password.the-variants.{Kept, Absent}
+use Rattle.contents.specs.Contents.{PasswordIn, PasswordAt}
+use Rattle.contents.specs.declared.Password.the-variants.{Kept, Absent}
 use Rattle.store.proofs.Holders.{some-principals}
 use borrow.Author.Needs.{needs}
 use Rattle.opening.proofs.opens.Statement.{statement}

@@ -6,7 +6,7 @@ use borrow.Author.Needs.{needs}
 use denote.Ref.{now}
 use lib.ListN.{length}
 use Rattle.language.specs.Text.{present}
-use Rattle.syntax.proofs.Reading.{known}
+use Rattle.tokens.proofs.Reading.{known}
 use Rattle.parser.specs.Bodies.{bodyFrom, restFrom, First, ReadFrom}
 use Rattle.parser.specs.declared.Rest.{Rest}
 use Rattle.parser.proofs.Bodies.{bound}

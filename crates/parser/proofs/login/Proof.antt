@@ -8,10 +8,11 @@ use lib.ListN.{drop}
 use Rattle.language.specs.Text.{_>>=_}
 use Rattle.language.specs.Tokens.{Token, lex}
 use Rattle.language.specs.Programs.{program, parse}
-use Rattle.syntax.proofs.Reading.{told, known}
-use Rattle.parser.specs.declared.line.Step.{Step}
-use Rattle.parser.specs.declared.line.Step.the-variants as StepIs
-use Rattle.parser.specs.Lines.{loginMeant, LoginWithin, lexedFrom, stepMeant, StepPlaced}
+use Rattle.tokens.proofs.Reading.{told, known}
+use Rattle.program_lines.specs.declared.Step.{Step}
+use Rattle.program_lines.specs.declared.Step.the-variants as StepIs
+use Rattle.program_lines.specs.Lines.{lexedFrom, stepMeant, StepPlaced}
+use Rattle.line_readers.specs.WholeLines.{loginMeant, LoginWithin}
 use Rattle.parser.proofs.Bodies.{parse-long, parse-is, no-login, with-login}
 use Rattle.parser.proofs.login.Statement.{statement}
 use Rattle.parser.proofs.login.Tie as tie

@@ -10,10 +10,11 @@ use Rattle.language.specs.Text.{_>>=_}
 use Rattle.language.specs.Tokens.{Token, lex}
 use Rattle.language.specs.Grammar.{whole, anyCommand}
 use Rattle.language.specs.Programs.{body}
-use Rattle.syntax.proofs.Reading.{told, known}
-use Rattle.parser.specs.declared.line.Step.{Step}
-use Rattle.parser.specs.declared.line.Step.the-variants as StepIs
-use Rattle.parser.specs.Lines.{lineReadMeant, LineWithin, lexedFrom, stepMeant, StepPlaced}
+use Rattle.tokens.proofs.Reading.{told, known}
+use Rattle.program_lines.specs.declared.Step.{Step}
+use Rattle.program_lines.specs.declared.Step.the-variants as StepIs
+use Rattle.program_lines.specs.Lines.{lexedFrom, stepMeant, StepPlaced}
+use Rattle.line_readers.specs.WholeLines.{lineReadMeant, LineWithin}
 use Rattle.parser.proofs.Firsts.{first-command, first-ending, no-stars, neither}
 use Rattle.parser.proofs.read_at.Statement.{statement}
 use Rattle.parser.proofs.read_at.Tie as tie

@@ -3,7 +3,7 @@ use borrow.Author.Needs.{needs}
 use denote.Ref.{now}
 use lib.ListN.{drop}
 use Rattle.language.specs.Tokens.{lex}
-use Rattle.parser.specs.Lines.{lexedFrom, stepMeant}
+use Rattle.program_lines.specs.Lines.{lexedFrom, stepMeant}
 use Rattle.parser.specs.Bodies.{isEmpty}
 use Rattle.parser.proofs.Bodies.{ahead-more}
 use Rattle.parser.proofs.stars_at.Statement.{statement}

@@ -2,7 +2,7 @@ use mathlib.Core.Path.{_≡_, refl, sym, ap, subst, _∙_}
 use Prim.Native.Nat.{ℕ, _+_, _-_}
 use lib.ListN.{length, set as put, length-set}
 use Rattle.language.specs.Syntax as Syntax
-use Rattle.syntax.proofs.Reading.{known}
+use Rattle.tokens.proofs.Reading.{known}
 use Rattle.parser.specs.declared.Rest.{Rest}
 use Rattle.parser.specs.Bodies.{First, ReadFrom}
 use borrow.Author.Needs.{needs}

@@ -3,7 +3,7 @@ use native.Mathlib.Omega.{arith}
 use Rattle.language.specs.Grammar.{Opening}
 use Rattle.language.specs.Programs.{parse}
 use Rattle.text.specs.Meaning.{part}
-use Rattle.syntax.proofs.Reading.{known}
+use Rattle.tokens.proofs.Reading.{known}
 use Rattle.parser.specs.Bodies.{bodyFrom, withBody, headMeant, HeadWithin}
 use Rattle.parser.specs.declared.Head.the-variants.{Login}
 use Rattle.parser_c.specs.Kinds.{SomeCommands}

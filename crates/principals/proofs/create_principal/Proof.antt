@@ -9,11 +9,11 @@ use Rattle.store.specs.Rows.{position}
 use Rattle.named_rights.specs.Numbers.{principalsOf}
 use Rattle.session.specs.declared.Layout.{Layout}
 use Rattle.session.specs.Sessions.{slices, Running}
-use Rattle.delegations.specs.declared.Entered.{Entered}
-use Rattle.delegations.specs.Entering.{Ends}
+use Rattle.assertion_changes.specs.declared.Entered.{Entered}
+use Rattle.assertion_changes.specs.Entering.{Ends}
 use Rattle.creation.specs.Creating.{New, Gives}
 use Rattle.store.proofs.Holders.{some-principals}
-use Rattle.principals.proofs.Finding.{row-number, number-below, part-length}
+use Rattle.session.proofs.Finding.{row-number, number-below, part-length}
 use Rattle.principals.proofs.Creating.{create-denied, create-failed, create-new, create-full, create-over, create-done, create-gives}
 use borrow.Author.Needs.{needs}
 use Rattle.principals.proofs.create_principal.Statement.{statement}

@@ -5,8 +5,8 @@ use denote.Ref.{now}
 use lib.ListN.{getD}
 use Rattle.language.specs.Encode.{fieldText}
 use Rattle.language.specs.Valid.{validField}
-use Rattle.records.specs.Sections.{FieldsMeant, Records, distinctLabels, fieldWeight, offField}
-use Rattle.records.proofs.Opening.{inside}
+use Rattle.record_fields.specs.Sections.{FieldsMeant, Records, distinctLabels, fieldWeight, offField}
+use Rattle.record_fields.proofs.Opening.{inside}
 use Rattle.records.proofs.Values.{element-none, string-tab, string-element, record-newline, record-fails, record-empty, record-element}
 use borrow.Author.Needs.{needs}
 use Rattle.records.proofs.element_at.Statement.{statement}
@@ -14,8 +14,8 @@ use Rattle.records.proofs.element_at.Tie as tie
 use Rattle.records.proofs.element_at.Reads as reads
 use Rattle.records.proofs.element_at.Lts as lts
 use Rattle.lines.proofs.byte_at.Reads as byte-at-reads
-use Rattle.records.proofs.fields.Reads as fields-reads
-use Rattle.records.proofs.string_at.Reads as string-at-reads
+use Rattle.record_fields.proofs.fields.Reads as fields-reads
+use Rattle.record_fields.proofs.string_at.Reads as string-at-reads
 
 -- the function's start, as these places see it
 abbrev start-then1 : tie.Then1 → tie.Start

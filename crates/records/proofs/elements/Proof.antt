@@ -10,7 +10,8 @@ use lib.ListN.{length, drop}
 use Rattle.language.specs.Encode.{elementText}
 use Rattle.language.specs.Weight.{elementWeight}
 use Rattle.language.specs.Valid.{validElement}
-use Rattle.records.specs.Sections.{ElementMeant, One, offElement, offField}
+use Rattle.record_fields.specs.Sections.{One, offField}
+use Rattle.records.specs.Values.{ElementMeant, offElement}
 use Rattle.records.proofs.Values.{Listing, listing-start, listing-low, listing-high, elements-good, elements-stuck, elements-next, element-ahead, element-light}
 use Rattle.records.proofs.elements.Statement.{statement}
 use Rattle.records.proofs.elements.Tie as tie

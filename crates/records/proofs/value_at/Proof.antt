@@ -3,7 +3,7 @@ use Prim.Native.Nat.{_+_}
 use native.Mathlib.Omega.{arith}
 use denote.Ref.{now}
 use lib.ListN.{getD}
-use Rattle.records.proofs.Opening.{inside}
+use Rattle.record_fields.proofs.Opening.{inside}
 use Rattle.records.proofs.Values.{element-value, list-newline, list-value}
 use borrow.Author.Needs.{needs}
 use Rattle.records.proofs.value_at.Statement.{statement}

@@ -5,8 +5,8 @@ use denote.Ref.{now}
 use lib.ListN.{length, getD}
 use Rattle.language.specs.Identifiers.{isName}
 use Rattle.lines.specs.Cuts.{CutMeant, Field}
-use Rattle.records.specs.Sections.{ValueMeant}
-use Rattle.records.proofs.Opening.{inside, name-fits}
+use Rattle.records.specs.Values.{ValueMeant}
+use Rattle.record_fields.proofs.Opening.{inside, name-fits}
 use Rattle.records.proofs.Variables.{variable-tab, variable-unnamed, variable-heavy, variable-valueless, variable-good}
 use borrow.Author.Needs.{needs}
 use Rattle.records.proofs.variable_at.Statement.{statement}

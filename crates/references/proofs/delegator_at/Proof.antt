@@ -6,7 +6,7 @@ use denote.Ref.{now}
 use lib.ListN.{length, getD}
 use Rattle.text.specs.Parts.{part}
 use Rattle.store.specs.Rows.{Row, Rows, rowNames}
-use Rattle.records.proofs.Opening.{inside}
+use Rattle.record_fields.proofs.Opening.{inside}
 use Rattle.references.specs.Known.{KnownMeant, Member}
 use Rattle.references.proofs.Members.{member-word, delegator-letter, delegator-tab, delegator-unknown, delegator-good}
 use borrow.Author.Needs.{needs}

@@ -5,7 +5,7 @@ use native.Mathlib.Omega.{arith}
 use lib.ListN.{length}
 use Rattle.language.specs.State.{Store}
 use Rattle.store.proofs.Holders.{some-principals}
-use Rattle.values.proofs.Pieces.{_▸_, rewritten, written-length}
+use Rattle.value_text.proofs.Pieces.{_▸_, rewritten, written-length}
 use Rattle.saving.specs.Stores.{Recorded}
 use Rattle.saving.proofs.Meant.{principal-below, principal-name}
 use Rattle.saving.proofs.Rooms.{delegator-size, records-text, records-size}

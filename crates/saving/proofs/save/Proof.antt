@@ -9,8 +9,8 @@ use lib.Seq.{length-take-le}
 use Rattle.language.specs.Text.{Text}
 use Rattle.language.specs.Encode.{assertionsText, stateText, padded}
 use Rattle.language.specs.Values.{Session}
-use Rattle.values.specs.Writing.{Written}
-use Rattle.values.proofs.Pieces.{_▸_, written-drop, written-length}
+use Rattle.value_text.specs.Writing.{Written}
+use Rattle.value_text.proofs.Pieces.{_▸_, written-drop, written-length}
 use Rattle.session.specs.Sessions.{Slices, slices, Running}
 use Rattle.saving.specs.Stores.{recordsText}
 use Rattle.saving.proofs.Behind.{longer, shorter}

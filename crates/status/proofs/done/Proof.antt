@@ -3,7 +3,7 @@
 use borrow.Author.Needs.{needs}
 use Rattle.session.specs.declared.Verdict.{Verdict}
 use Rattle.session.specs.Endings.{Ended}
-use Rattle.syntax.proofs.Reading.{known}
+use Rattle.tokens.proofs.Reading.{known}
 use Rattle.status.proofs.done.Statement.{statement}
 use Rattle.status.proofs.done.Tie as tie
 

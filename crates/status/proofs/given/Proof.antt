@@ -1,7 +1,7 @@
 -- `status::given` meets its contract. A refusal is passed on.
 -- Assumes nothing.
 use borrow.Author.Needs.{needs}
-use Rattle.syntax.proofs.Reading.{known}
+use Rattle.tokens.proofs.Reading.{known}
 use Rattle.returning.specs.declared.Returned.{Returned}
 use Rattle.returning.specs.Returns.{Given}
 use Rattle.status.proofs.given.Statement.{statement}

@@ -3,7 +3,7 @@
 use mathlib.Core.Path.{sym, ap}
 use borrow.Author.Needs.{needs}
 use Rattle.render.specs.Lines.{statusLine}
-use Rattle.values.proofs.Pieces.{rewritten}
+use Rattle.value_text.proofs.Pieces.{rewritten}
 use Rattle.status.specs.declared.Status.{Status}
 use Rattle.status.specs.Acts.{wordOf}
 use Rattle.status.proofs.print.Statement.{statement}

@@ -8,9 +8,9 @@ use denote.Ref.{now}
 use lib.ListN.{length, drop}
 use Rattle.store.specs.Rows.{Row, rowNames, principalRow, variableRow}
 use Rattle.store.proofs.Records.{slots-long}
-use Rattle.records.specs.Sections.{Reads, anyText}
+use Rattle.record_fields.specs.Sections.{Reads, anyText}
 use Rattle.frame.specs.Edges.{Top, topText, fineTop, HeadMeant, total}
-use Rattle.validate.specs.Principals.{PrincipalsMeant}
+use Rattle.principal_lines.specs.Principals.{PrincipalsMeant}
 use Rattle.references.specs.Known.{Delegating, DelegatorMeant}
 use Rattle.validate.specs.Shared.{VariablesMeant}
 use Rattle.assertion_lines.specs.Assertions.{Granted, AssertionsMeant}
@@ -23,7 +23,7 @@ use Rattle.assertion_lines.proofs.assertions.Reads as assertions-reads
 use Rattle.frame.proofs.head_at.Reads as head-at-reads
 use Rattle.frame.proofs.zeros_from.Reads as zeros-from-reads
 use Rattle.references.proofs.delegator_at.Reads as delegator-at-reads
-use Rattle.validate.proofs.principal_lines.principals.Reads as principals-reads
+use Rattle.principal_lines.proofs.principals.Reads as principals-reads
 use Rattle.validate.proofs.shared.variables.Reads as variables-reads
 
 abbrev text : (c : tie.Start) → List ℕ

@@ -5,7 +5,8 @@ use native.Mathlib.Omega.{arith}
 use lib.ListN.{length}
 use Rattle.language.specs.State.{State}
 use Rattle.validate.specs.Checked.{Understood, CheckedMeant}
-use Rattle.validate_c.specs.Reported.{Look, found, figures, Says}
+use Rattle.validate_c.specs.Reported.{figures}
+use Rattle.state_lookups.specs.Looks.{Look, found, Says}
 use Rattle.validate_c.proofs.Reporting.{no-size, no-room, formed, not-formed, figures-are}
 use borrow.Author.Needs.{needs}
 use Rattle.validate_c.proofs.state_check.Statement.{statement}

@@ -3,7 +3,7 @@ use native.Mathlib.Omega.{arith}
 use lib.ListN.{length}
 use Rattle.language.specs.State.{State}
 use Rattle.validate.specs.Checked.{Understood, CheckedMeant}
-use Rattle.validate_c.specs.Reported.{Look, principalOf}
+use Rattle.state_lookups.specs.Looks.{Look, principalOf}
 use Rattle.validate_c.proofs.Reporting.{no-size, no-room, formed, not-formed, few-principals}
 use borrow.Author.Needs.{needs}
 use Rattle.validate_c.proofs.state_principal.Statement.{statement}

@@ -3,7 +3,7 @@ use native.Mathlib.Omega.{arith}
 use lib.ListN.{length}
 use Rattle.language.specs.State.{State}
 use Rattle.validate.specs.Checked.{Understood, CheckedMeant}
-use Rattle.validate_c.specs.Reported.{Look, variableOf}
+use Rattle.state_lookups.specs.Looks.{Look, variableOf}
 use Rattle.validate_c.proofs.Reporting.{no-size, no-room, formed, not-formed, few-variables}
 use borrow.Author.Needs.{needs}
 use Rattle.validate_c.proofs.state_variable.Statement.{statement}

@@ -17,7 +17,7 @@ use Rattle.session.proofs.Steps.{is-denied, is-failed}
 use Rattle.session.proofs.OneValue.{value-full}
 use Rattle.lookup.specs.Looks.{Scoped, Sending}
 use Rattle.lookup.proofs.Looking.{scoped, sending, denied-local}
-use Rattle.variables.proofs.Assigning.{locals-lie}
+use Rattle.assignment.proofs.Assigning.{locals-lie}
 use Rattle.variables.proofs.Ending.{lent, written, not-written, too-heavy, weighed, localEffect, local-effect, local-none, local-defined, ends}
 use borrow.Author.Needs.{needs}
 use Rattle.variables.proofs.local.Statement.{statement}

@@ -1,7 +1,7 @@
 -- `variables::verdict` meets its contract. By cases.
 -- Assumes nothing.
 use mathlib.Core.Path.{sym, ap}
-use Rattle.variables.specs.Assignments.{verdictOf}
+use Rattle.variables.specs.Commands.{verdictOf}
 use borrow.Author.Needs.{needs}
 use Rattle.variables.proofs.verdict.Statement.{statement}
 use Rattle.variables.proofs.verdict.Tie as tie

@@ -6,7 +6,7 @@ use native.Mathlib.Omega.{arith}
 use lib.ListN.{length, set, take, length-append, length-set}
 use Rattle.language.specs.Text.{Text}
 use Rattle.store.specs.Rows.{principalRow}
-use Rattle.edits.specs.Splices.{over}
+use Rattle.splice.specs.Splices.{over}
 use Rattle.store.proofs.Holders.{principals-rows}
 use Rattle.edits.proofs.Adding.{added, added-outside, principal-written, principal-added, written-on, stored-on, head-length}
 use borrow.Author.Needs.{needs}

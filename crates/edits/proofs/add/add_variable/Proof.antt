@@ -5,7 +5,7 @@ use native.Mathlib.Omega.{arith}
 use lib.ListN.{length, take, length-append}
 use Rattle.language.specs.Text.{Text}
 use Rattle.store.specs.Rows.{variableRow}
-use Rattle.edits.specs.Splices.{over}
+use Rattle.splice.specs.Splices.{over}
 use Rattle.store.proofs.Holders.{variables-rows}
 use Rattle.edits.proofs.Adding.{added, added-outside, variable-written, variable-added, written-on, head-length}
 use borrow.Author.Needs.{needs}

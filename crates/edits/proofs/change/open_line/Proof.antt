@@ -12,7 +12,7 @@ use Rattle.store.specs.Held.{Principals}
 use Rattle.store.specs.Rows.{principalRow, Placed}
 use Rattle.store.specs.Contents.{principalAt}
 use Rattle.store.proofs.Holders.{principals-rows, some-principals}
-use Rattle.store.proofs.Passwords.{lies}
+use Rattle.store.proofs.Places.{lies}
 use Rattle.edits.proofs.Rewriting.{respelled-spot}
 use Rattle.edits.proofs.PasswordChanges.{bare-respelled, opened, store-outside}
 use Rattle.edits.proofs.change.open_line.Statement.{statement}

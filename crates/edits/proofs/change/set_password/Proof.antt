@@ -15,7 +15,8 @@ use Rattle.language.specs.Commands.{changed}
 use Rattle.store.specs.Held.{Principals}
 use Rattle.text.specs.Parts.{part}
 use Rattle.store.specs.Rows.{position}
-use Rattle.store.specs.Contents.{principalAt, passwordMeant}
+use Rattle.store.specs.Contents.{principalAt}
+use Rattle.contents.specs.Contents.{passwordMeant}
 use Rattle.edits.specs.Changes.{principalNames, withPassword}
 use Rattle.store.proofs.Holders.{some-principals}
 use Rattle.edits.proofs.PasswordChanges.{changed-at, with-twice, with-kept, bare-size, outside-on, held-size, below-principals}

@@ -12,7 +12,7 @@ use Rattle.store.specs.Held.{Variables}
 use Rattle.store.specs.Rows.{variableRow, position}
 use Rattle.edits.specs.Changes.{variableNames, Respelled}
 use Rattle.store.proofs.Holders.{variables-rows, some-variables}
-use Rattle.store.proofs.Passwords.{lies}
+use Rattle.store.proofs.Places.{lies}
 use Rattle.edits.proofs.Rewriting.{respelled-spot}
 use Rattle.edits.proofs.Putting.{with-value, value-respelled, put-size, put-held}
 use Rattle.edits.proofs.change.set_value.Statement.{statement}

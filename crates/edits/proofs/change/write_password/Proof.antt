@@ -11,7 +11,7 @@ use Rattle.store.specs.Held.{Principals}
 use Rattle.store.specs.Rows.{principalRow, Placed}
 use Rattle.store.specs.Contents.{principalAt}
 use Rattle.store.proofs.Holders.{principals-rows, some-principals}
-use Rattle.store.proofs.Passwords.{Lies, lies}
+use Rattle.store.proofs.Places.{Lies, lies}
 use Rattle.edits.proofs.Rewriting.{respelled-spot}
 use Rattle.edits.proofs.PasswordChanges.{kept-respelled, kept-size, with-held}
 use Rattle.edits.proofs.change.write_password.Statement.{statement}

@@ -1,13 +1,17 @@
 -- `engine::command::act` meets its contract. Each group of commands has its function, whose contract is the same for its group.
 -- Assumes nothing.
 use mathlib.Core.Path.{_≡_, sym, ap, _∙_}
-use Rattle.command_readers.specs.declared.command.Command as Read
-use Rattle.command_readers.specs.declared.command.Command.the-variants as Is
+use Rattle.command_readers.specs.declared.Command as Read
+use Rattle.command_readers.specs.declared.Command.the-variants as Is
 use Rattle.command_readers.specs.Commands.{commandMeant, SomeCommand}
-use Rattle.syntax.proofs.Reading.{known}
+use Rattle.tokens.proofs.Reading.{known}
 use borrow.Author.Needs.{needs}
 use Rattle.engine.proofs.command.act.Statement.{statement}
 use Rattle.engine.proofs.command.act.Tie as tie
+use Rattle.engine.proofs.command.act.Reads as reads
+use Rattle.engine.proofs.command.act.Lts as lts
+use Rattle.administration.proofs.act.Reads as act-reads
+use Rattle.variable_commands.proofs.act.Reads as act-reads′
 
 spoken : (c : tie.Start) (k : Read.Command) → c .args .c ≡ k → SomeCommand (c .args .text .now) k
 spoken c k e = known (λ (d : Read.Command). SomeCommand (c .args .text .now) d) (c .pre .1 .1 .0) e
@@ -58,10 +62,10 @@ same-length-8 c = search needs
 
 returns : tie.Need-returns
 returns c s k R m =
-    let back-16 = c .before .before .before .before .before .before .before .before .before .before .before .before .before .before .before .before in
-    let back-26 = back-16 .before .before .before .before .before .before .before .before .before .before in
-    let start = back-26 .before .before .before .before .before .before .before .before .before .before .before .before in
-    back-16 .act .ensures s k (start .args .value .now) R (sym (ap (commandMeant (start .args .text .now)) (back-26 .c .given .1)) ∙ m)
+    let back-8 = c .before .before .before .before .before .before .before .before in
+    let back-18 = back-8 .before .before .before .before .before .before .before .before .before .before in
+    let start = back-18 .before .before .before .before .before .before .before .before .before .before .before .before in
+    back-8 .act .ensures s k (start .args .value .now) R (sym (ap (commandMeant (start .args .text .now)) (back-18 .c .given .1)) ∙ m)
 
 same-length-9 : tie.Need-same-length-9
 same-length-9 c = search needs
@@ -92,10 +96,10 @@ same-length-17 c = search needs
 
 returns-2 : tie.Need-returns-2
 returns-2 c s k R m =
-    let back-18 = c .before .before .before .before .before .before .before .before .before .before .before .before .before .before .before .before .before .before in
-    let back-29 = back-18 .before .before .before .before .before .before .before .before .before .before .before in
-    let start = back-29 .before .before .before .before .before .before .before .before .before .before .before .before in
-    back-18 .act2 .ensures s k R (sym (ap (commandMeant (start .args .text .now)) (back-29 .c2 .given .1)) ∙ m)
+    let back-14 = c .before .before .before .before .before .before .before .before .before .before .before .before .before .before in
+    let back-25 = back-14 .before .before .before .before .before .before .before .before .before .before .before in
+    let start = back-25 .before .before .before .before .before .before .before .before .before .before .before .before in
+    back-14 .act2 .ensures s k R (sym (ap (commandMeant (start .args .text .now)) (back-25 .c2 .given .1)) ∙ m)
 
 pub act-spec : {M : Type 1} → statement M
 act-spec =

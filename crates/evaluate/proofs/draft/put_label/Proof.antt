@@ -1,6 +1,6 @@
 -- `evaluate::draft::put_label` meets its contract. Three pieces in a row.
 -- Assumes nothing.
-use Rattle.values.proofs.Pieces.{_▸_}
+use Rattle.value_text.proofs.Pieces.{_▸_}
 use borrow.Author.Needs.{needs}
 use Rattle.evaluate.proofs.draft.put_label.Statement.{statement}
 use Rattle.evaluate.proofs.draft.put_label.Tie as tie

@@ -8,7 +8,7 @@ use Rattle.language.specs.State.{Value}
 use Rattle.language.specs.Values.{Session, lookup}
 use Rattle.language.proofs.Parsing.ValidPrograms.{validOperand}
 use Rattle.text.specs.Meaning.{Within, part}
-use Rattle.syntax.specs.declared.value.Operand.{Operand}
+use Rattle.syntax.specs.declared.Operand.{Operand}
 use Rattle.syntax.specs.Values.{operandMeant, OperandWithin}
 use Rattle.store.proofs.Holders.{some-variables}
 use Rattle.evaluate.specs.Scopes.{Scope, ReadAs}

@@ -12,9 +12,9 @@ use Rattle.language.specs.Syntax.{Binding}
 use Rattle.language.specs.State.{Value}
 use Rattle.language.specs.Values.{Session, operandValue}
 use Rattle.text.specs.Meaning.{part}
-use Rattle.syntax.specs.declared.value.FieldRead.the-variants as FieldIs
+use Rattle.syntax.specs.declared.FieldRead.the-variants as FieldIs
 use Rattle.syntax.specs.Values.{operandMeant, recordAt, withField, fieldMeant, FieldPlaced}
-use Rattle.syntax.proofs.Reading.{no-some}
+use Rattle.tokens.proofs.Reading.{no-some}
 use Rattle.evaluate.specs.Scopes.{Scope}
 use Rattle.evaluate.specs.Results.{Valued, stringIn}
 use Rattle.evaluate.specs.Drafts.{Lent, Extends}

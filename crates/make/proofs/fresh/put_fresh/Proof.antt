@@ -1,7 +1,7 @@
 -- `make::fresh::put_fresh` meets its contract. Five pieces in a row are the lines of a fresh state.
 -- Assumes nothing.
 use mathlib.Core.Path.{_∙_}
-use Rattle.values.proofs.Pieces.{_▸_}
+use Rattle.value_text.proofs.Pieces.{_▸_}
 use Rattle.make.proofs.Texts.{fresh-padded}
 use borrow.Author.Needs.{needs}
 use Rattle.make.proofs.fresh.put_fresh.Statement.{statement}

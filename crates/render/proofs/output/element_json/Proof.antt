@@ -3,7 +3,7 @@
 use native.Mathlib.Omega.{arith}
 use Prim.Native.Nat.{_+_, _≤_}
 use lib.ListN.{length}
-use Rattle.values.proofs.Pieces.{written-length}
+use Rattle.value_text.proofs.Pieces.{written-length}
 use Rattle.render.proofs.Elements.{StringAt, string-at, string-within, string-room, string-renders, RecordAt, record-at, record-room, record-renders, element-within}
 use borrow.Author.Needs.{needs}
 use Rattle.render.proofs.output.element_json.Statement.{statement}

@@ -8,7 +8,7 @@ use mathlib.Core.List.{List}
 use lib.ListN.{length}
 use Rattle.language.specs.State.{Element}
 use Rattle.values.specs.Places.{Elements}
-use Rattle.values.proofs.Pieces.{written-length}
+use Rattle.value_text.proofs.Pieces.{written-length}
 use Rattle.render.proofs.Elements.{ElementsGoing, elements-begin, elements-finish, NextElement, next-one, one-at, one-room, one-within, one-going}
 use Rattle.render.proofs.output.elements_json.Statement.{statement}
 use Rattle.render.proofs.output.elements_json.Tie as tie

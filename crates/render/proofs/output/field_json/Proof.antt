@@ -4,7 +4,7 @@ use native.Mathlib.Omega.{arith}
 use lib.ListN.{length, take, drop}
 use Prim.Native.Nat.{_+_, _-_, _≤_}
 use Rattle.values.specs.Answers.{EndsOf}
-use Rattle.values.proofs.Pieces.{_▸_}
+use Rattle.value_text.proofs.Pieces.{_▸_}
 use mathlib.Core.Path.{_≡_}
 use Rattle.render.proofs.Linking.{quoted-ends}
 use Rattle.render.proofs.Rendering.{field-room, field-renders}

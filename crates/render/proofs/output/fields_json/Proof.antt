@@ -9,7 +9,7 @@ use lib.ListN.{length}
 use Rattle.language.specs.Text.{Text}
 use Rattle.language.specs.State.{Field}
 use Rattle.values.specs.Places.{FieldsAt}
-use Rattle.values.proofs.Pieces.{written-length}
+use Rattle.value_text.proofs.Pieces.{written-length}
 use Rattle.render.proofs.Rendering.{FieldsGoing, fields-begin, fields-finish, NextField, next-field, next-at, next-room, next-within, next-going}
 use Rattle.render.proofs.output.fields_json.Statement.{statement}
 use Rattle.render.proofs.output.fields_json.Tie as tie

@@ -6,7 +6,7 @@ use mathlib.Core.List.{[]}
 use lib.ListN.{length}
 use Rattle.language.specs.Output.{valueJson}
 use Rattle.values.proofs.Texts.{some-bytes}
-use Rattle.values.proofs.Pieces.{_▸_, rewritten, written-length}
+use Rattle.value_text.proofs.Pieces.{_▸_, rewritten, written-length}
 use Rattle.render.proofs.Elements.{SingleAt, single-at, ListAt, list-at, list-none, list-some, list-room}
 use borrow.Author.Needs.{needs}
 use Rattle.render.proofs.output.json.Statement.{statement}

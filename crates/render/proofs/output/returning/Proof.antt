@@ -1,7 +1,7 @@
 -- `render::output::returning` meets its contract. Three pieces in a row.
 -- Assumes nothing.
 use native.Mathlib.Omega.{arith}
-use Rattle.values.proofs.Pieces.{_▸_, written-length}
+use Rattle.value_text.proofs.Pieces.{_▸_, written-length}
 use borrow.Author.Needs.{needs}
 use Rattle.render.proofs.output.returning.Statement.{statement}
 use Rattle.render.proofs.output.returning.Tie as tie

@@ -3,7 +3,7 @@
 use mathlib.Core.Path.{refl}
 use Prim.Native.Nat.{_+_}
 use native.Mathlib.Omega.{arith}
-use Rattle.store.proofs.Passwords.{Lies, lies}
+use Rattle.store.proofs.Places.{Lies, lies}
 use Rattle.store.proofs.NameWeights.{name-is}
 use borrow.Author.Needs.{needs}
 use Rattle.saving.proofs.number.name_of.Statement.{statement}

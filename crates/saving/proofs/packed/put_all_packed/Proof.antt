@@ -7,8 +7,8 @@ use Rattle.language.specs.Text.{joined}
 use Rattle.language.specs.State.{Store}
 use Rattle.language.specs.Encode.{assertionText}
 use Rattle.named_rights.specs.Numbers.{Standing}
-use Rattle.values.specs.Writing.{Written}
-use Rattle.values.proofs.Pieces.{written-length}
+use Rattle.value_text.specs.Writing.{Written}
+use Rattle.value_text.proofs.Pieces.{written-length}
 use Rattle.saving.specs.Stores.{Named}
 use Rattle.saving.proofs.Lines.{assertionAt, assertion-at, assertion-room, assertion-written, assertions-written, none-written}
 use Rattle.saving.proofs.packed.put_all_packed.Statement.{statement}

@@ -3,7 +3,7 @@
 use mathlib.Core.Path.{_≡_}
 use Rattle.language.specs.State.{Assertion, Store}
 use Rattle.store.proofs.Holders.{some-principals, some-variables}
-use Rattle.values.proofs.Pieces.{rewritten}
+use Rattle.value_text.proofs.Pieces.{rewritten}
 use Rattle.saving.specs.Stores.{Named, Assertions}
 use Rattle.saving.proofs.Meant.{Apart, apart, principal-below, principal-name, variable-below, variable-name}
 use Rattle.saving.proofs.Lines.{line-of, line-room}

@@ -13,8 +13,9 @@ use Rattle.language.specs.Weight.{variableWeight}
 use Rattle.language.specs.Valid.{validVariable}
 use Rattle.text.specs.Parts.{part}
 use Rattle.store.specs.Rows.{Row, Rows}
-use Rattle.records.specs.Sections.{Entitled, VariableMeant, offElement}
-use Rattle.records.specs.Entering.{Entered}
+use Rattle.record_fields.specs.Sections.{Entitled}
+use Rattle.records.specs.Values.{VariableMeant, offElement}
+use Rattle.record_fields.specs.Entering.{Entered}
 use Rattle.records.proofs.Variables.{textOf}
 use Rattle.validate.specs.Shared.{offVariable}
 use Rattle.validate.proofs.Vars.{Sharing, sharing-start, sharing-low, reindexed, variables-good, variables-stuck, variables-stray, variable-ahead, variable-light, variable-entering, variable-again, variable-next, lent, lent-front, lent-length, free-length}
@@ -23,7 +24,7 @@ use Rattle.validate.proofs.shared.variables.Tie as tie
 use Rattle.validate.proofs.shared.variables.Reads as reads
 use Rattle.validate.proofs.shared.variables.Lts as lts
 use Rattle.lines.proofs.byte_at.Reads as byte-at-reads
-use Rattle.records.proofs.enter.Reads as enter-reads
+use Rattle.record_fields.proofs.enter.Reads as enter-reads
 use Rattle.records.proofs.variable_at.Reads as variable-at-reads
 use Rattle.validate.proofs.shared.goes_on.Reads as goes-on-reads
 

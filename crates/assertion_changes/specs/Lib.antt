@@ -1,0 +1,2 @@
+-- One assertion, entered or withdrawn.
+pub mod Entering

@@ -1,0 +1,3 @@
+-- Laws of assignments on a running session.
+pub mod Granting
+pub mod Assigning

@@ -1,0 +1,3 @@
+-- What an assignment asks, answers and grants.
+pub mod Grants
+pub mod Assignments

@@ -1,0 +1,2 @@
+-- Laws of what stands in a record.
+pub mod Passwords

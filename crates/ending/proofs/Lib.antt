@@ -1,0 +1,2 @@
+-- Laws that belong to no one function: the end of a run.
+pub mod Closings

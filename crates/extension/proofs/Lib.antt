@@ -1,0 +1,2 @@
+-- Laws of lists that get more elements.
+pub mod Extending

@@ -1,0 +1,2 @@
+-- What a list is extended with.
+pub mod Extensions

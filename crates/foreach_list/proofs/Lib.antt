@@ -1,0 +1,4 @@
+-- Laws of the list that foreach makes.
+pub mod Growing
+pub mod Looping
+pub mod Aside

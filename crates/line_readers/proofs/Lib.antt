@@ -1,0 +1,2 @@
+-- Laws of whole lines.
+pub mod Wholes

@@ -1,0 +1,66 @@
+-- Laws of whole lines: nothing but the line's end may follow, and what was read means something.
+-- Assumes nothing.
+use mathlib.Core.Path.{_≡_, refl}
+use mathlib.Core.Bool.{true, false}
+use mathlib.Core.Option.{Option, none, some}
+use mathlib.Core.List.{List, [], _∷_}
+use Rattle.language.specs.Text.{Text, _>>=_, present}
+use Rattle.language.specs.Tokens.{Token}
+use Rattle.language.specs.Syntax as Syntax
+use Rattle.language.specs.Grammar.{spent, the, anyName, anyString, anyLogin}
+use Rattle.syntax.specs.Values.{exprMeant, ExprWithin, recordAt}
+use Rattle.command_readers.specs.Commands.{commandMeant, CommandWithin}
+use Rattle.syntax.specs.declared.Expr.{Expr}
+use Rattle.syntax.specs.declared.Expr.the-variants.{Single, Empty, Record}
+use Rattle.command_readers.specs.declared.Command.{Command}
+use Rattle.command_readers.specs.declared.Command.the-variants.{Administer, Variable}
+use Rattle.command_readers.specs.declared.Administration.the-variants.{CreatePrincipal, ChangePassword, SetDelegation, DeleteDelegation, DefaultDelegator, Exit}
+use Rattle.command_readers.specs.declared.VariableCommand.the-variants.{Set, Append, Local, Foreach, Return}
+use Rattle.line_readers.specs.WholeLines.{isNil}
+
+-- ---- the line's end after what was read
+module _ {A : Type 0} where
+  pub not-spent : (o : Option A) (us : List Token) → isNil us ≡ false → spent (o >>= λ k. some (k, us)) ≡ none
+  not-spent none us e = refl
+  not-spent (some a) [] e = cc
+  not-spent (some a) (u ∷ us) e = refl
+
+  pub all-spent : (o : Option A) (us : List Token) → isNil us ≡ true → spent (o >>= λ k. some (k, us)) ≡ o
+  all-spent none us e = refl
+  all-spent (some a) [] e = refl
+  all-spent (some a) (u ∷ us) e = cc
+
+-- ---- the first line
+pub login-is :
+    (ts : List Token) {us vs ws xs ys zs : List Token} {p : Syntax.Name} {s : Text}
+    → the "as" ts ≡ some (tt, us)
+    → the "principal" us ≡ some (tt, vs)
+    → anyName vs ≡ some (p, ws)
+    → the "password" ws ≡ some (tt, xs)
+    → anyString xs ≡ some (s, ys)
+    → the "do" ys ≡ some (tt, zs)
+    → anyLogin ts ≡ some (record { sender = p; password = s }, zs)
+login-is ts a b c d e f = rw (a, b, c, d, e, f)
+
+-- ---- what was read means something
+bound : {A B : Type 0} (o : Option A) (k : A → B) → present o ≡ true → present (o >>= λ v. some (k v)) ≡ true
+bound none k e = e
+bound (some a) k e = refl
+
+expr-meant : (t : Text) (e : Expr) → ExprWithin t e → present (exprMeant t e) ≡ true
+expr-meant t (Single v) h = refl
+expr-meant t Empty h = refl
+expr-meant t (Record p) h = bound (recordAt t p) (λ r. Syntax.fields (r .0)) (h .1)
+
+pub command-meant : (t : Text) (c : Command) → CommandWithin t c → present (commandMeant t c) ≡ true
+command-meant t (Administer (CreatePrincipal p s)) h = refl
+command-meant t (Administer (ChangePassword p s)) h = refl
+command-meant t (Variable (Set x e)) h = bound (exprMeant t e) (λ v. Syntax.set _ v) (expr-meant t e (h .1))
+command-meant t (Variable (Append x e)) h = bound (exprMeant t e) (λ v. Syntax.append-to _ v) (expr-meant t e (h .1))
+command-meant t (Variable (Local x e)) h = bound (exprMeant t e) (λ v. Syntax.local _ v) (expr-meant t e (h .1))
+command-meant t (Variable (Foreach y x e)) h = bound (exprMeant t e) (λ v. Syntax.foreach _ _ v) (expr-meant t e (h .2))
+command-meant t (Administer (SetDelegation x q r p)) h = refl
+command-meant t (Administer (DeleteDelegation x q r p)) h = refl
+command-meant t (Administer (DefaultDelegator p)) h = refl
+command-meant t (Administer Exit) h = refl
+command-meant t (Variable (Return e)) h = bound (exprMeant t e) (λ v. Syntax.return v) (expr-meant t e h)

@@ -1,0 +1,66 @@
+use mathlib.Core.Path.{sym, ap, _∙_}
+use native.Mathlib.Omega.{arith}
+use borrow.Author.Needs.{needs}
+use denote.Ref.{now}
+use lib.ListN.{drop}
+use Rattle.language.specs.Tokens.{lex}
+use Rattle.tokens.proofs.Reading.{told, known}
+use borrow.Author.Tests.{not-true, not-false}
+use Rattle.language.specs.Grammar.{spent}
+use Rattle.command_readers.specs.Commands.{commandMeant, commandReadMeant, CommandPlaced}
+use Rattle.line_readers.proofs.Wholes.{not-spent, all-spent}
+use Rattle.line_readers.proofs.ending_line.Statement.{statement}
+use Rattle.line_readers.proofs.ending_line.Tie as tie
+
+ending-at-requires : tie.Need-ending-at-requires
+ending-at-requires c κs = search needs
+
+enum-known-ending : tie.Need-enum-known-ending
+enum-known-ending c = search needs
+
+enum-told : tie.Need-enum-told
+enum-told c = search needs
+
+returns : tie.Need-returns
+returns c =
+    let a = c .before .before .before .before .args in
+    let t = now (a .text) in
+    let e1 = told (commandReadMeant t) (c .before .before .ending-at .ensures .0) (c .enum-told .given .1) in
+    (sym (ap spent e1), tt)
+
+ends-at-requires : tie.Need-ends-at-requires
+ends-at-requires c κs =
+    let a = c .before .before .before .before .before .args in
+    let t = now (a .text) in
+    let p1 = known (CommandPlaced t (a .at)) (c .before .before .before .ending-at .ensures .1) (c .before .ending .given .1) in
+    omega arith
+
+returns-2 : tie.Need-returns-2
+returns-2 c =
+    let start = c .before .before .before .before .before .before .before in
+    let a = start .args in
+    let t = now (a .text) in
+    let e1 = told (commandReadMeant t) (c .before .before .before .before .before .ending-at .ensures .0) (c .before .before .before .ending .given .1) in
+    (sym (ap spent e1 ∙ not-spent (commandMeant t (c .before .before .before .ending .given .0 .0)) (lex (drop (c .before .before .before .ending .given .0 .1 .0) t)) (sym (c .before .ends-at .ensures) ∙ not-true (c .before .ends-at .result) (c .if1 .taken))), tt)
+
+returns-3 : tie.Need-returns-3
+returns-3 c =
+    let back-5 = c .before .before .before .before .before in
+    let start = back-5 .before .before in
+    let a = start .args in
+    let t = now (a .text) in
+    let e1 = told (commandReadMeant t) (back-5 .ending-at .ensures .0) (c .before .before .before .ending .given .1) in
+    let p1 = known (CommandPlaced t (a .at)) (back-5 .ending-at .ensures .1) (c .before .before .before .ending .given .1) in
+    (sym (ap spent e1 ∙ all-spent (commandMeant t (c .before .before .before .ending .given .0 .0)) (lex (drop (c .before .before .before .ending .given .0 .1 .0) t)) (sym (c .before .ends-at .ensures) ∙ not-false (c .before .ends-at .result) (c .if1 .left))), p1 .0)
+
+pub ending-line-spec : {M : Type 1} → statement M
+ending-line-spec =
+    tie.close
+    (tie.spec
+    ending-at-requires
+    enum-known-ending
+    enum-told
+    returns
+    ends-at-requires
+    returns-2
+    returns-3)

@@ -1,0 +1,2 @@
+-- How a program's commands end.
+pub mod Ends

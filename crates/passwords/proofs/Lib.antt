@@ -1,0 +1,3 @@
+-- Laws of a changed password.
+pub mod Weighing
+pub mod Passwords

@@ -1,0 +1,2 @@
+-- What the change of a password asks.
+pub mod Known

@@ -1,0 +1,3 @@
+-- Laws of the principals of a state text.
+pub mod OneLine
+pub mod Ranks

@@ -1,2 +1,0 @@
--- The commands about principals.
-pub mod Known

@@ -1,0 +1,3 @@
+-- What the readers of the state text answer.
+pub mod Sections
+pub mod Entering

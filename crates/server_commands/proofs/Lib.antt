@@ -1,0 +1,2 @@
+-- Laws of exit and of the default delegator.
+pub mod Naming

@@ -1,0 +1,3 @@
+-- Laws of the scanner and of the readers of one token.
+pub mod Lexing
+pub mod Reading

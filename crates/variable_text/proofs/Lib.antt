@@ -1,0 +1,2 @@
+-- Laws of one text of variables, changed.
+pub mod Weighing
