@@ -14,7 +14,7 @@ extern "C" {
     fn state_variable_name(state: *const u8, size: usize, number: usize, out: *mut u8, room: usize) -> u64;
 }
 
-/// What the number for an answer says (crates/validate_c/specs/Reported.antt).
+/// What the number for an answer says (crates/validate_c/specs/Reported.antt, crates/state_lookups/specs/Looks.antt).
 #[derive(Clone, PartialEq, Eq, Debug)]
 pub enum Answer<T> {
     /// The buffer or the room has a wrong size.
