@@ -1,66 +1,50 @@
 -- How set delegation and delete delegation end, once nobody denies them.
 -- Assumes nothing.
-use mathlib.Core.Path.{_≡_, sym, ap, subst, _∙_}
+use mathlib.Core.Path.{_≡_, sym, ap, subst}
 use mathlib.Core.Bool.{Bool, true, false}
-use mathlib.Core.Option.{some}
-use mathlib.Core.List.{List, [], map}
-use Prim.Native.Nat.{ℕ, _≤_, _<_}
-use native.Mathlib.Omega.{arith}
-use borrow.Author.Tests.{lt-ltb, le-ltb}
+use mathlib.Core.List.{List, map}
+use Prim.Native.Nat.{ℕ, _≤_}
 use lib.Dec.{T}
 use lib.ListN.{length, take}
-use Rattle.language.specs.Text.{given, _>>_, all}
-use Rattle.language.specs.Syntax.{Name, Right, Target, Command, set-delegation, delete-delegation}
-use Rattle.language.specs.Weight.{limit}
+use Rattle.language.specs.Text.{all}
+use Rattle.language.specs.Outcomes.{gives, provided, _>>_}
+use Rattle.language.specs.Syntax.{Name, Right, Target, set-delegation, delete-delegation}
 use Rattle.language.specs.Output.{status}
 use Rattle.language.specs.Values.{Session, isShared, isPrincipal}
-use Rattle.language.specs.Commands.{Effect, effect, done, denied, sessionWeight, step, refused, FAILED, FULL, targets, assertionsOn}
+use Rattle.language.specs.Commands.{Effect, effect, done, denied, step, refused, FAILED, targets, assertionsOn}
 use Rattle.language.proofs.Logic.Tests.{three}
 use Rattle.language.proofs.StateText.Names.{named-is}
 use Rattle.store.specs.Rows.{position}
 use Rattle.named_rights.specs.Numbers.{code, variables}
 use Rattle.session.specs.declared.Layout.{Layout}
 use Rattle.session.specs.Sessions.{Slices, Running}
-use Rattle.session.specs.Endings.{Succeeds}
-use Rattle.session.proofs.Steps.{is-failed, is-full, is-done, heavy-session}
+use Rattle.session.proofs.Steps.{is-failed}
 use Rattle.delegation_rules.specs.declared.Ask.{Ask}
 use Rattle.assertion_changes.specs.Entering.{entered, withdrawn}
 use Rattle.delegations.specs.Delegates.{Delegates}
 use Rattle.delegation_rules.specs.Asking.{Names}
 use Rattle.delegation_rules.proofs.Existing.{complete}
 
--- an effect that changes the session, and has no values
-module _ (s : Session) (c : Command) (f : Effect) (v : f .values ≡ []) (d : denied s c ≡ false) (e : effect s c ≡ some f) where
-  pub ends-full : limit < sessionWeight (f .after) → step s c ≡ refused FULL
-  ends-full h = is-full s c f d e (heavy-session f v ∙ lt-ltb limit (sessionWeight (f .after)) h)
-
-  pub ends-done : (k : Layout) (b : Slices) → Running (f .after) k b → Succeeds (step s c) k b
-  ends-done k b R = record {
-    effect = f;
-    is-step = is-done s c f d e (heavy-session f v ∙ le-ltb limit (sessionWeight (f .after)) (omega (arith, R .weighed, R .light)));
-    running = R;
-  }
-
 module _ (s : Session) (t : Target) (q : Name) (r : Right) (p : Name) where
   pub set-fails : denied s (set-delegation t q r p) ≡ false → complete s t q p ≡ false → step s (set-delegation t q r p) ≡ refused FAILED
   set-fails d e = is-failed s (set-delegation t q r p) d
-      (ap (λ (b : Bool). given b >> done "SET_DELEGATION" [] (entered s (assertionsOn (targets (s .store) t q) q r p))) e)
+      (ap (λ (b : Bool). provided b >> done "SET_DELEGATION" (entered s (assertionsOn (targets (s .store) t q) q r p))) e)
 
   abbrev pub setting : Effect
-  setting = record { after = entered s (assertionsOn (targets (s .store) t q) q r p); values = []; line = status "SET_DELEGATION" }
+  setting = record { after = entered s (assertionsOn (targets (s .store) t q) q r p); line = status "SET_DELEGATION" }
 
-  pub set-goes : complete s t q p ≡ true → effect s (set-delegation t q r p) ≡ some setting
-  set-goes e = ap (λ (b : Bool). given b >> done "SET_DELEGATION" [] (entered s (assertionsOn (targets (s .store) t q) q r p))) e
+  pub set-goes : complete s t q p ≡ true → effect s (set-delegation t q r p) ≡ gives setting
+  set-goes e = ap (λ (b : Bool). provided b >> done "SET_DELEGATION" (entered s (assertionsOn (targets (s .store) t q) q r p))) e
 
   pub delete-fails : denied s (delete-delegation t q r p) ≡ false → complete s t q p ≡ false → step s (delete-delegation t q r p) ≡ refused FAILED
   delete-fails d e = is-failed s (delete-delegation t q r p) d
-      (ap (λ (b : Bool). given b >> done "DELETE_DELEGATION" [] (withdrawn s (assertionsOn (targets (s .store) t q) q r p))) e)
+      (ap (λ (b : Bool). provided b >> done "DELETE_DELEGATION" (withdrawn s (assertionsOn (targets (s .store) t q) q r p))) e)
 
   abbrev pub deleting : Effect
-  deleting = record { after = withdrawn s (assertionsOn (targets (s .store) t q) q r p); values = []; line = status "DELETE_DELEGATION" }
+  deleting = record { after = withdrawn s (assertionsOn (targets (s .store) t q) q r p); line = status "DELETE_DELEGATION" }
 
-  pub delete-goes : complete s t q p ≡ true → effect s (delete-delegation t q r p) ≡ some deleting
-  delete-goes e = ap (λ (b : Bool). given b >> done "DELETE_DELEGATION" [] (withdrawn s (assertionsOn (targets (s .store) t q) q r p))) e
+  pub delete-goes : complete s t q p ≡ true → effect s (delete-delegation t q r p) ≡ gives deleting
+  delete-goes e = ap (λ (b : Bool). provided b >> done "DELETE_DELEGATION" (withdrawn s (assertionsOn (targets (s .store) t q) q r p))) e
 
   all-there : complete s t q p ≡ true → T (isPrincipal s p) × T (isPrincipal s q) × T (all (isShared s) (targets (s .store) t q))
   all-there e = three (isPrincipal s p) (isPrincipal s q) (all (isShared s) (targets (s .store) t q)) (subst T (sym e) tt)

@@ -7,7 +7,7 @@ use Rattle.language.specs.Text.{Text}
 use Rattle.language.specs.State.{Value}
 use Rattle.language.specs.Weight.{limit, valueWeight}
 use Rattle.language.specs.Output.{valueJson}
-use Rattle.language.specs.Values.{value}
+use Rattle.language.specs.Expressions.{value}
 use Rattle.language.proofs.Parsing.Printing.{value-json}
 use Rattle.values.specs.Encoding.{Holds}
 use Rattle.render.specs.Json.{JsonRoom}

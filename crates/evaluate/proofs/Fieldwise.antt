@@ -14,15 +14,18 @@ use Rattle.language.specs.Tokens.{Token}
 use Rattle.language.specs.Syntax as Syntax
 use Rattle.language.specs.Syntax.{Name, Binding}
 use Rattle.language.specs.State.{Field, fields, Value, single}
-use Rattle.language.specs.Values.{Session, asString, operandValue, fieldValue, value}
+use Rattle.language.specs.Values.{Session, asString, operandValue, fieldValue, recordValue}
 use Rattle.language.specs.Valid.{validField}
 use Rattle.language.proofs.Logic.Tests.{both, and-three, one-of, any-right, left-of, ==-sym, true-of, false-of}
 use Rattle.language.proofs.Parsing.ValidPrograms.{validBinding}
 use Rattle.syntax.specs.Values.{recordAt}
-use Rattle.evaluate.specs.Results.{stringIn, Written, TooHeavy}
+use Rattle.language.specs.Outcomes.{fills}
+use Rattle.evaluated.specs.Weighed.{byWeight}
+use Rattle.evaluated.specs.Results.{stringIn, Written}
 use Rattle.evaluate.specs.Drafts.{labels, spelling, Drafted, Extends}
 use Rattle.evaluate.specs.declared.draft.Draft.{Draft}
 use Rattle.evaluate.specs.declared.draft.Added.the-variants as Is
+use Rattle.evaluated.proofs.Weighing.{weighed-light, weighed-heavy}
 use Rattle.evaluate.proofs.Spelling.{roomOf}
 use Rattle.language.proofs.Logic.Lists.{map-append}
 
@@ -36,7 +39,7 @@ abbrev pub finish : Session → List Field → Option (List Binding × List Toke
 finish s fs none = none
 finish s fs (some r) = closed fs (each (fieldValue s) (r .0))
 
-pub whole-record : (s : Session) (bs : List Binding) (us : List Token) → value s (Syntax.fields bs) ≡ finish s [] (some (bs, us))
+pub whole-record : (s : Session) (bs : List Binding) (us : List Token) → recordValue s bs ≡ finish s [] (some (bs, us))
 whole-record s bs us = go (each (fieldValue s) bs)
   where
     go : (o : Option (List Field)) → (o >>= λ fs. if distinct (map (λ f. f .label) fs) then some (single (fields fs)) else none) ≡ closed [] o
@@ -128,10 +131,10 @@ all-read s fs us d =
     ∙ ap (λ (c : Bool). if_then_else_ {A = Option Value} c (some (single (fields fs))) none) (true-of (distinct (labels fs)) d)
 
 module _ (fs : List Field) (out : Text) (slots : List ℕ) (d : Draft) (D : Drafted fs out slots d) (n : 0 < length fs) where
-  pub record-light : d .weight ≤ 8192 → Written (some (single (fields fs))) out (d .end) (d .weight)
+  pub record-light : d .weight ≤ 8192 → Written (byWeight (some (single (fields fs)))) out (d .end) (d .weight)
   record-light h = record {
     value = single (fields fs);
-    is-value = refl;
+    is-value = weighed-light (single (fields fs)) (omega (arith, h, D .weighs));
     held = record {
       is-valid = and-three (ltb 0 (length fs)) (all validField fs) (distinct (labels fs)) (lt→ltb 0 (length fs) n) (D .are-valid) (D .are-distinct);
       is-text = D .is-text h;
@@ -141,8 +144,8 @@ module _ (fs : List Field) (out : Text) (slots : List ℕ) (d : Draft) (D : Draf
     light = h;
   }
 
-  pub record-heavy : 8192 < d .weight → TooHeavy (some (single (fields fs)))
-  record-heavy h = record { value = single (fields fs); is-value = refl; heavy = omega (arith, h, D .weighs) }
+  pub record-heavy : 8192 < d .weight → byWeight (some (single (fields fs))) ≡ fills
+  record-heavy h = weighed-heavy (single (fields fs)) (omega (arith, h, D .weighs))
 
 -- ---- where the loop stands
 

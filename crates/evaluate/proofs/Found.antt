@@ -26,8 +26,9 @@ use Rattle.values.specs.Answers.{fieldOf}
 use Rattle.values.proofs.Texts.{some-bytes}
 use Rattle.values.proofs.Standing.{fields-valid}
 use Rattle.evaluate.specs.Scopes.{Scope, ReadAs}
-use Rattle.evaluate.specs.Results.{stringIn, fieldIn, MaybeString, stringValue, Valued}
-use Rattle.evaluate.specs.declared.result.Evaluated.{Evaluated}
+use Rattle.evaluated.specs.Weighed.{byWeight}
+use Rattle.evaluated.specs.Results.{stringIn, fieldIn, MaybeString, stringValue, Valued}
+use Rattle.evaluated.specs.declared.Evaluated.{Evaluated}
 
 abbrev IsValid : Value → Type 0
 IsValid v = T (validValue v)
@@ -63,12 +64,16 @@ bytes-in (v ∷ vs) x = go (v .name == x) (bytes-in vs x)
         omega (arith, length-append (variableText (v .name) (v .value)) (joined (λ v. variableText (v .name) (v .value)) vs), ap length (variable-text (v .name) (v .value)), length-append (v .name) (9 ∷ u))
     go false h = omega (arith, h, length-append (variableText (v .name) (v .value)) (joined (λ v. variableText (v .name) (v .value)) vs))
 
+read-bytes : (o : Option Value) (r : Text) → ReadAs o r → r ≡ valueBytes o
+read-bytes none r R = R
+read-bytes (some v) r R = R .is-text
+
 pub read-short : {s : Session} {shared : Text} {slots : List ℕ} {count : ℕ} {locals : Text} {lslots : List ℕ} {lcount : ℕ}
-    → Scope s shared slots count locals lslots lcount → (x : Name) (r : Text) → r ≡ valueBytes (lookup s x) → length r ≤ 65536
-read-short {s} S x r e =
+    → Scope s shared slots count locals lslots lcount → (x : Name) (r : Text) → ReadAs (lookup s x) r → length r ≤ 65536
+read-short {s} S x r R =
     let l : length (valueBytes (valueIn (s .locals) x)) ≤ 65536 = omega (arith, bytes-in (s .locals) x, S .locals-held .small, ap length (S .locals-held .is-text)) in
     let h : length (valueBytes (valueIn (s .store .variables) x)) ≤ 65536 = omega (arith, bytes-in (s .store .variables) x, S .shared-held .small, ap length (S .shared-held .is-text)) in
-    omega (arith, ap length e, go (valueIn (s .locals) x) l h)
+    omega (arith, ap length (read-bytes (lookup s x) r R), go (valueIn (s .locals) x) l h)
   where
     go : (o : Option Value) → length (valueBytes o) ≤ 65536 → length (valueBytes (valueIn (s .store .variables) x)) ≤ 65536
         → length (valueBytes (o orElse valueIn (s .store .variables) x)) ≤ 65536
@@ -152,5 +157,6 @@ dot-string s x y = go (fieldIn (lookup s x) y) ∙ ap stringIn (dot-value s x y)
     go (some t) = refl
 
 -- the same operand, by another name
-pub valued-as : (r : Evaluated) (s : Session) (t out : Text) {v w : Read.Operand} → v ≡ w → Valued r (operandValue s (operandMeant t w)) out → Valued r (operandValue s (operandMeant t v)) out
-valued-as r s t out e h = subst (λ (o : Read.Operand). Valued r (operandValue s (operandMeant t o)) out) (sym e) h
+pub valued-as : (r : Evaluated) (s : Session) (t out : Text) {v w : Read.Operand} → v ≡ w
+    → Valued r (byWeight (operandValue s (operandMeant t w))) out → Valued r (byWeight (operandValue s (operandMeant t v))) out
+valued-as r s t out e h = subst (λ (o : Read.Operand). Valued r (byWeight (operandValue s (operandMeant t o))) out) (sym e) h

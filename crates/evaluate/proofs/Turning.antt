@@ -17,7 +17,7 @@ use Rattle.language.proofs.Logic.Tests.{both}
 use Rattle.language.proofs.StateText.Clean.{identifier-name}
 use Rattle.language.proofs.Parsing.ValidPrograms.{validBinding, validOperand}
 use Rattle.syntax.specs.Values.{recordAt, withField, SomeRecord}
-use Rattle.evaluate.specs.Results.{stringIn}
+use Rattle.evaluated.specs.Results.{stringIn}
 use Rattle.evaluate.specs.Drafts.{spelling, Drafted, SomeDraft, Extends}
 use Rattle.evaluate.specs.declared.draft.Draft.{Draft}
 use Rattle.evaluate.specs.declared.draft.Added.the-variants as Is

@@ -6,8 +6,11 @@ use mathlib.Core.List.{List, []}
 use lib.Dec.{T}
 use Rattle.language.specs.Text.{Text, all}
 use Rattle.language.specs.State.{Value}
-use Rattle.language.specs.Values.{Session}
+use Rattle.language.specs.Values.{Session, lookup}
 use Rattle.language.specs.Valid.{validVariable}
+use Rattle.text.specs.Meaning.{part}
+use Rattle.syntax.specs.declared.Operand.{Operand}
+use Rattle.syntax.specs.declared.Operand.the-variants.{Name, Field, Quoted}
 use Rattle.store.specs.Held.{Variables}
 use Rattle.values.specs.Encoding.{Holds}
 
@@ -31,3 +34,13 @@ ReadAs (some v) t = Holds v t
 pub record SomeRead (t : Text) : Type 0 where
   pub value : Option Value
   pub held : ReadAs value t
+
+-- u is what an operand is looked for in: what reading its name gives, or the program's text
+abbrev pub SourceOf : Session → Text → Operand → Text → Type 0
+SourceOf s t (Name x) u = ReadAs (lookup s (part t x)) u
+SourceOf s t (Field x y) u = ReadAs (lookup s (part t x)) u
+SourceOf s t (Quoted q) u = u ≡ t
+
+pub record SomeSource (t : Text) (v : Operand) (u : Text) : Type 0 where
+  pub session : Session
+  pub held : SourceOf session t v u

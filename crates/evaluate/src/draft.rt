@@ -16,7 +16,7 @@ ghost use Rattle.store.specs.Held.{slot};
 ghost use Rattle.store.specs.Rows.{Row, Rows, SomeRows, rowNames};
 ghost use Rattle.value_text.specs.Writing.{Written};
 ghost use Rattle.values.specs.Answers.{textAt, Placed};
-ghost use Rattle.evaluate.specs.Results.{MaybeString};
+ghost use Rattle.evaluated.specs.Results.{MaybeString};
 ghost use Rattle.evaluate.specs.Drafts.{Drafted, SomeDraft, Lent, Extends, spelling};
 
 // How far a record is written, how many fields it has, and what they weigh. Of fields that are too heavy only the labels are written.
@@ -79,7 +79,7 @@ fn slot_of(label: &[u8], at: usize) -> u32
 }
 
 // Adds a field, unless its label is there already.
-pub fn add(out: &mut [u8], slots: &mut [u32], d: Draft, label: &[u8], text: &[u8]) -> Added
+fn add(out: &mut [u8], slots: &mut [u32], d: Draft, label: &[u8], text: &[u8]) -> Added
     requires { ⌜ Lent (now out) (now slots) × SomeDraft (now out) (now slots) d (now label) ⌝ }
     requires { ⌜ T (isString (now text)) × (length (now text) ≤ 65536) ⌝ }
     ensures { λ r. ⌜ ((fs : List Field) → Drafted fs (now (out .entry)) (now (slots .entry)) d → spelling fs + length (now (label .entry)) + 3 ≤ longest

@@ -1,10 +1,11 @@
 // The value of an expression of a program, over a session whose variables are texts.
+mod call; // the value of a function
 mod draft; // a record that is written field by field
 mod operand; // the value of x, of x.y or of a string
 mod record; // the value of a record
-pub mod result; // what evaluation answers
+mod source; // the string that an operand is
 
-use result::Evaluated;
+use evaluated::Evaluated;
 use syntax::Expr;
 ghost use mathlib.Core.Path.{_≡_};
 ghost use mathlib.Core.Option.{some};
@@ -14,16 +15,18 @@ ghost use lib.ListN.{length};
 ghost use Rattle.language.specs.Syntax as Syntax;
 ghost use Rattle.language.specs.Programs.{longest};
 ghost use Rattle.language.specs.State.{list};
-ghost use Rattle.language.specs.Values as Values;
+ghost use Rattle.language.specs.Outcomes.{gives};
+ghost use Rattle.language.specs.Values.{Session};
+ghost use Rattle.language.specs.Expressions.{value};
 ghost use Rattle.syntax.specs.Values.{exprMeant, SomeExpr};
 ghost use Rattle.evaluate.specs.Scopes.{Scope, SomeScope};
-ghost use Rattle.evaluate.specs.Results.{Valued};
+ghost use Rattle.evaluated.specs.Results.{Valued};
 ghost use Rattle.evaluate.specs.Drafts.{Lent};
 
 // Writes the empty list.
 fn put_empty(out: &mut [u8]) -> Evaluated
     requires { ⌜ 32768 ≤ length (now out) ⌝ }
-    ensures { λ r. ⌜ Valued r (some (list [])) (now (out .exit)) ⌝ }
+    ensures { λ r. ⌜ Valued r (gives (list [])) (now (out .exit)) ⌝ }
 {
     let len = value_text::put_list(out, 0);
     Evaluated::Value { len, weight: 0 }
@@ -38,7 +41,7 @@ pub fn value<'a>(
     locals: &'a [u8],
     lslots: &[u32],
     lcount: usize,
-    text: &[u8],
+    text: &'a [u8],
     e: Expr,
     out: &mut [u8],
     labels: &mut [u32],
@@ -46,8 +49,8 @@ pub fn value<'a>(
     requires { ⌜ SomeScope (now shared) (now slots) count (now locals) (now lslots) lcount ⌝ }
     requires { ⌜ SomeExpr (now text) e × (length (now text) ≤ longest) ⌝ }
     requires { ⌜ Lent (now out) (now labels) ⌝ }
-    ensures { λ r. ⌜ ((s : Values.Session) (x : Syntax.Expr) → Scope s (now (shared .entry)) (now (slots .entry)) count (now (locals .entry)) (now (lslots .entry)) lcount
-        → exprMeant (now (text .entry)) e ≡ some x → Valued r (Values.value s x) (now (out .exit))) ⌝ }
+    ensures { λ r. ⌜ ((s : Session) (x : Syntax.Expr) → Scope s (now (shared .entry)) (now (slots .entry)) count (now (locals .entry)) (now (lslots .entry)) lcount
+        → exprMeant (now (text .entry)) e ≡ some x → Valued r (value s x) (now (out .exit))) ⌝ }
 {
     match e {
         Expr::Single(v) => {
@@ -65,6 +68,22 @@ pub fn value<'a>(
             at,
             out,
             labels,
+        ),
+        Expr::Lower(v) => {
+            call::put_lower(shared, slots, count, locals, lslots, lcount, text, v, out)
+        }
+        Expr::Call(f, v, w) => call::put_call(
+            shared,
+            slots,
+            count,
+            locals,
+            lslots,
+            lcount,
+            text,
+            f,
+            v,
+            w,
+            out,
         ),
     }
 }

@@ -1,5 +1,5 @@
 // The value of an operand: a name, a field of a named record, or a string of the program.
-use crate::result::Evaluated;
+use evaluated::Evaluated;
 use syntax::Operand;
 use values::Found;
 ghost use mathlib.Core.Path.{_≡_};
@@ -14,7 +14,8 @@ ghost use Rattle.language.proofs.Parsing.ValidPrograms.{validOperand};
 ghost use Rattle.syntax.specs.Values.{operandMeant, OperandWithin};
 ghost use Rattle.values.specs.Answers.{textAt, Placed};
 ghost use Rattle.evaluate.specs.Scopes.{Scope, SomeScope, ReadAs, SomeRead};
-ghost use Rattle.evaluate.specs.Results.{Valued, stringIn, fieldIn, stringValue, MaybeString};
+ghost use Rattle.evaluated.specs.Weighed.{byWeight};
+ghost use Rattle.evaluated.specs.Results.{Valued, stringIn, fieldIn, stringValue, MaybeString};
 
 // The string that a name's value is.
 pub fn string_of(value: &[u8]) -> Found
@@ -43,7 +44,7 @@ pub fn field_of(value: &[u8], label: &[u8]) -> Found
 // Writes a name's value.
 fn put_value(value: &[u8], out: &mut [u8]) -> Evaluated
     requires { ⌜ SomeRead (now value) × (32768 ≤ length (now out)) ⌝ }
-    ensures { λ r. ⌜ ((o : Option Value) → ReadAs o (now (value .entry)) → Valued r o (now (out .exit))) ⌝ }
+    ensures { λ r. ⌜ ((o : Option Value) → ReadAs o (now (value .entry)) → Valued r (byWeight o) (now (out .exit))) ⌝ }
 {
     if value.len() == 0 {
         return Evaluated::Missing;
@@ -59,7 +60,7 @@ fn put_value(value: &[u8], out: &mut [u8]) -> Evaluated
 // Writes a string.
 fn put_text(text: &[u8], out: &mut [u8]) -> Evaluated
     requires { ⌜ T (isString (now text)) × (32768 ≤ length (now out)) ⌝ }
-    ensures { λ r. ⌜ Valued r (some (single (string (now (text .entry))))) (now (out .exit)) ⌝ }
+    ensures { λ r. ⌜ Valued r (byWeight (some (single (string (now (text .entry)))))) (now (out .exit)) ⌝ }
 {
     let weight = text.len();
     if 8192 < weight {
@@ -72,7 +73,7 @@ fn put_text(text: &[u8], out: &mut [u8]) -> Evaluated
 // Writes the string that was found in a name's value.
 fn put_found(value: &[u8], found: Found, out: &mut [u8]) -> Evaluated
     requires { ⌜ Placed (now value) found × MaybeString (textAt (now value) found) × (32768 ≤ length (now out)) ⌝ }
-    ensures { λ r. ⌜ Valued r (stringValue (textAt (now (value .entry)) found)) (now (out .exit)) ⌝ }
+    ensures { λ r. ⌜ Valued r (byWeight (stringValue (textAt (now (value .entry)) found))) (now (out .exit)) ⌝ }
 {
     match found {
         Found::At(s) => {
@@ -100,7 +101,7 @@ pub fn put_operand<'a>(
     requires { ⌜ OperandWithin (now text) v × T (validOperand (operandMeant (now text) v)) ⌝ }
     requires { ⌜ 32768 ≤ length (now out) ⌝ }
     ensures { λ r. ⌜ ((s : Session) → Scope s (now (shared .entry)) (now (slots .entry)) count (now (locals .entry)) (now (lslots .entry)) lcount
-        → Valued r (operandValue s (operandMeant (now (text .entry)) v)) (now (out .exit))) ⌝ }
+        → Valued r (byWeight (operandValue s (operandMeant (now (text .entry)) v))) (now (out .exit))) ⌝ }
 {
     match v {
         Operand::Name(x) => {

@@ -2,7 +2,9 @@
 // heavy, so all fields are looked at.
 use crate::draft::Added;
 use crate::draft::Draft;
-use crate::result::Evaluated;
+use crate::source::source;
+use crate::source::string_in;
+use evaluated::Evaluated;
 use syntax::FieldRead;
 use syntax::Operand;
 use text::Span;
@@ -18,12 +20,14 @@ ghost use Rattle.language.specs.Syntax.{Binding};
 ghost use Rattle.language.specs.Syntax as Syntax;
 ghost use Rattle.language.specs.Programs.{longest};
 ghost use Rattle.language.specs.State.{Field, single, fields};
-ghost use Rattle.language.specs.Values.{Session, operandValue, value};
+ghost use Rattle.language.specs.Values.{Session, operandValue};
+ghost use Rattle.language.specs.Expressions.{value};
 ghost use Rattle.language.proofs.Parsing.ValidPrograms.{validOperand};
 ghost use Rattle.text.specs.Meaning.{part, Within};
 ghost use Rattle.syntax.specs.Values.{operandMeant, OperandWithin, recordAt, SomeRecord};
 ghost use Rattle.evaluate.specs.Scopes.{Scope, SomeScope};
-ghost use Rattle.evaluate.specs.Results.{Valued, stringIn};
+ghost use Rattle.evaluated.specs.Weighed.{byWeight};
+ghost use Rattle.evaluated.specs.Results.{Valued, stringIn};
 ghost use Rattle.evaluate.specs.Drafts.{Drafted, SomeDraft, Lent, Extends, spelling};
 
 // Adds the field of a program's label and operand.
@@ -34,7 +38,7 @@ fn add_field<'a>(
     locals: &'a [u8],
     lslots: &[u32],
     lcount: usize,
-    text: &[u8],
+    text: &'a [u8],
     x: Span,
     v: Operand,
     out: &mut [u8],
@@ -50,34 +54,14 @@ fn add_field<'a>(
 {
     let a = x.start;
     let b = x.end;
-    match v {
-        Operand::Name(n) => {
-            let e = n.start;
-            let f = n.end;
-            let value = contents::read(shared, slots, count, locals, lslots, lcount, &text[e..f]);
-            let found = crate::operand::string_of(value);
-            crate::draft::add_found(out, labels, d, &text[a..b], value, found)
-        }
-        Operand::Field(n, y) => {
-            let e = n.start;
-            let f = n.end;
-            let value = contents::read(shared, slots, count, locals, lslots, lcount, &text[e..f]);
-            let g = y.start;
-            let h = y.end;
-            let found = crate::operand::field_of(value, &text[g..h]);
-            crate::draft::add_found(out, labels, d, &text[a..b], value, found)
-        }
-        Operand::Quoted(q) => {
-            let e = q.start;
-            let f = q.end;
-            crate::draft::add(out, labels, d, &text[a..b], &text[e..f])
-        }
-    }
+    let s = source(shared, slots, count, locals, lslots, lcount, text, v);
+    let found = string_in(s, text, v);
+    crate::draft::add_found(out, labels, d, &text[a..b], s, found)
 }
 
 // What a record is whose fields are all written.
 fn finished(d: Draft) -> Evaluated
-    ensures { λ r. ⌜ ((fs : List Field) (out : Text) (slots : List ℕ) → Drafted fs out slots d → 0 < length fs → Valued r (some (single (fields fs))) out) ⌝ }
+    ensures { λ r. ⌜ ((fs : List Field) (out : Text) (slots : List ℕ) → Drafted fs out slots d → 0 < length fs → Valued r (byWeight (some (single (fields fs)))) out) ⌝ }
 {
     let weight = d.weight;
     if 8192 < weight {
@@ -94,7 +78,7 @@ pub fn put_fields<'a>(
     locals: &'a [u8],
     lslots: &[u32],
     lcount: usize,
-    text: &[u8],
+    text: &'a [u8],
     at: usize,
     out: &mut [u8],
     labels: &mut [u32],

@@ -1,52 +1,22 @@
--- What foreach does, and whether it weighs too much: the new list weighs no less than an element, and no more than the session that has it.
+-- What foreach does, and what a heavy list does to it: the session that has the new list weighs no less than that.
 -- Assumes nothing.
 use mathlib.Core.Path.{_≡_, refl, ap, _∙_}
-use Prim.Native.Nat.{_≤_, _<_}
+use Prim.Native.Nat.{_≤_}
 use native.Mathlib.Omega.{arith}
-use mathlib.Core.Bool.{Bool, true, false, _||_, not}
+use mathlib.Core.Bool.{Bool, true, false}
 use mathlib.Core.Option.{Option, none, some}
-use mathlib.Core.List.{List, [], _∷_, map}
-use lib.Dec.{ltb}
-use borrow.Author.Tests.{lt-ltb, le-ltb}
-use Rattle.language.specs.Text.{if_then_else_, _==_, _>>=_, _>>_, given, any, sum, each}
+use mathlib.Core.List.{List, [], _∷_}
+use Rattle.language.specs.Text.{if_then_else_, _==_, sum}
 use Rattle.language.specs.Syntax.{Name, Expr, foreach}
-use Rattle.language.specs.State.{Element, Value, single, list, Variable, put}
-use Rattle.language.specs.Weight.{limit, valueWeight, variableWeight}
+use Rattle.language.specs.State.{Element, Value, list, Variable, put}
+use Rattle.language.specs.Weight.{valueWeight, variableWeight}
+use Rattle.language.specs.Outcomes.{Outcome, gives, fails, fills, _>>=_, from, eachOf}
 use Rattle.language.specs.Output.{status}
-use Rattle.language.specs.Values.{Session, isShared, isLocal, isDefined, lookup, asList}
-use Rattle.language.specs.Commands.{Effect, effect, denied, heavy, step, refused, FAILED, FULL, assign, granted, enterAll, withStore, withLocals, withVariables, sessionWeight, replaced}
-use Rattle.session.specs.declared.Layout.{Layout}
-use Rattle.session.specs.Sessions.{Slices, Running}
-use Rattle.session.specs.Endings.{Succeeds}
-use Rattle.session.proofs.Steps.{is-failed, is-full, is-done}
-use Rattle.foreach_source.specs.Sources.{source}
-use Rattle.language.proofs.Logic.Tests.{or-second}
-
-abbrev outcome : Session → Name → List Element → Effect
-outcome s x fs = record { after = assign s x (list fs); values = map single fs; line = status "FOREACH" }
-
--- ---- what it does
-
-module _ (s : Session) (y x : Name) (e : Expr) where
-  effect-is : effect s (foreach y x e) ≡ (source s y x >>= λ es. each (replaced s y e) es >>= λ fs. some (outcome s x fs))
-  effect-is = go (not (isDefined s y)) (lookup s x >>= asList) (λ es. each (replaced s y e) es >>= λ fs. some (outcome s x fs))
-    where
-      go : (b : Bool) (o : Option (List Element)) (k : List Element → Option Effect) → (given b >> (o >>= k)) ≡ ((given b >> o) >>= k)
-      go true o k = refl
-      go false o k = refl
-
-  no-source : source s y x ≡ none → effect s (foreach y x e) ≡ none
-  no-source h = effect-is ∙ ap (λ (o : Option (List Element)). o >>= λ es. each (replaced s y e) es >>= λ fs. some (outcome s x fs)) h
-
-  module _ (es : List Element) (h : source s y x ≡ some es) where
-    effect-by : effect s (foreach y x e) ≡ (each (replaced s y e) es >>= λ fs. some (outcome s x fs))
-    effect-by = effect-is ∙ ap (λ (o : Option (List Element)). o >>= λ es. each (replaced s y e) es >>= λ fs. some (outcome s x fs)) h
-
-    no-list-made : each (replaced s y e) es ≡ none → effect s (foreach y x e) ≡ none
-    no-list-made k = effect-by ∙ ap (λ (o : Option (List Element)). o >>= λ fs. some (outcome s x fs)) k
-
-    list-made : (fs : List Element) → each (replaced s y e) es ≡ some fs → effect s (foreach y x e) ≡ some (outcome s x fs)
-    list-made fs k = effect-by ∙ ap (λ (o : Option (List Element)). o >>= λ fs. some (outcome s x fs)) k
+use Rattle.language.specs.Values.{Session, isShared, isLocal}
+use Rattle.language.specs.Commands.{elements, replaced, Effect, effect, denied, step, refused, FAILED, FULL, assign, granted, enterAll, withStore, withLocals, withVariables, sessionWeight}
+use Rattle.session.proofs.Steps.{is-failed, is-filled}
+use Rattle.session.proofs.Weighed.{ends-full}
+use Rattle.foreach_element.specs.Drafts.{Heavy}
 
 -- ---- what it weighs
 
@@ -71,43 +41,37 @@ assign-weighs s x v = go (isLocal s x) (isShared s x)
     go false true = omega (arith, put-weighs x v (s .store .variables))
     go false false = omega (arith, put-weighs x v (s .store .variables))
 
-light-elements : (fs : List Element) → valueWeight (list fs) ≤ limit → any (λ v. ltb limit (valueWeight v)) (map single fs) ≡ false
-light-elements [] h = refl
-light-elements (e ∷ fs) h =
-    ap (λ (b : Bool). b || any (λ v. ltb limit (valueWeight v)) (map single fs)) (le-ltb limit (valueWeight (single e)) (omega (arith, h))) ∙ light-elements fs (omega (arith, h))
+-- ---- what it does
 
-module _ (s : Session) (x : Name) (fs : List Element) where
-  full-session : limit < sessionWeight (assign s x (list fs)) → heavy (outcome s x fs) ≡ true
-  full-session h =
-      or-second (any (λ v. ltb limit (valueWeight v)) (map single fs)) (ltb limit (sessionWeight (assign s x (list fs)))) (lt-ltb limit (sessionWeight (assign s x (list fs))) h)
+abbrev pub outcome : Session → Name → List Element → Effect
+outcome s x fs = record { after = assign s x (list fs); line = status "FOREACH" }
 
-  full-list : limit < valueWeight (list fs) → heavy (outcome s x fs) ≡ true
-  full-list h = full-session (omega (arith, h, assign-weighs s x (list fs)))
+module _ (s : Session) (y x : Name) (e : Expr) where
+  by-elements : (o : Option (List Element)) → elements s y x ≡ o → effect s (foreach y x e) ≡ (from o >>= λ es. eachOf (replaced s y e) es >>= λ fs. gives (outcome s x fs))
+  by-elements o h = ap (λ (o : Option (List Element)). from o >>= λ es. eachOf (replaced s y e) es >>= λ fs. gives (outcome s x fs)) h
 
-  not-full : valueWeight (list fs) ≤ limit → sessionWeight (assign s x (list fs)) ≤ limit → heavy (outcome s x fs) ≡ false
-  not-full h k =
-      ap (λ (b : Bool). b || ltb limit (sessionWeight (assign s x (list fs)))) (light-elements fs h) ∙ le-ltb limit (sessionWeight (assign s x (list fs))) k
+  module _ (es : List Element) (h : elements s y x ≡ some es) where
+    by-outcome : (o : Outcome (List Element)) → eachOf (replaced s y e) es ≡ o → effect s (foreach y x e) ≡ (o >>= λ fs. gives (outcome s x fs))
+    by-outcome o k = by-elements (some es) h ∙ ap (λ (o : Outcome (List Element)). o >>= λ fs. gives (outcome s x fs)) k
 
--- ---- how it ends
+    pub list-made : (fs : List Element) → eachOf (replaced s y e) es ≡ gives fs → effect s (foreach y x e) ≡ gives (outcome s x fs)
+    list-made fs k = by-outcome (gives fs) k
 
-module _ (s : Session) (y x : Name) (e : Expr) (n : denied s (foreach y x e) ≡ false) where
-  pub ends-without : source s y x ≡ none → step s (foreach y x e) ≡ refused FAILED
-  ends-without h = is-failed s (foreach y x e) n (no-source s y x e h)
+  -- ---- how it ends
 
-  module _ (es : List Element) (h : source s y x ≡ some es) where
-    pub ends-failed : each (replaced s y e) es ≡ none → step s (foreach y x e) ≡ refused FAILED
-    ends-failed k = is-failed s (foreach y x e) n (no-list-made s y x e es h k)
+  module _ (n : denied s (foreach y x e) ≡ false) where
+    pub ends-without : elements s y x ≡ none → step s (foreach y x e) ≡ refused FAILED
+    ends-without h = is-failed s (foreach y x e) n (by-elements none h)
 
-    module _ (fs : List Element) (k : each (replaced s y e) es ≡ some fs) where
-      pub ends-heavy : limit < valueWeight (list fs) → step s (foreach y x e) ≡ refused FULL
-      ends-heavy w = is-full s (foreach y x e) (outcome s x fs) n (list-made s y x e es h fs k) (full-list s x fs w)
+    module _ (es : List Element) (h : elements s y x ≡ some es) where
+      pub ends-failed : eachOf (replaced s y e) es ≡ fails → step s (foreach y x e) ≡ refused FAILED
+      ends-failed k = is-failed s (foreach y x e) n (by-outcome es h fails k)
 
-      pub ends-full : limit < sessionWeight (assign s x (list fs)) → step s (foreach y x e) ≡ refused FULL
-      ends-full w = is-full s (foreach y x e) (outcome s x fs) n (list-made s y x e es h fs k) (full-session s x fs w)
-
-      pub ends-done : valueWeight (list fs) ≤ limit → (l : Layout) (b : Slices) → Running (assign s x (list fs)) l b → Succeeds (step s (foreach y x e)) l b
-      ends-done w l b R = record {
-        effect = outcome s x fs;
-        is-step = is-done s (foreach y x e) (outcome s x fs) n (list-made s y x e es h fs k) (not-full s x fs w (omega (arith, R .weighed, R .light)));
-        running = R;
-      }
+      -- an element is too heavy, or the new list is
+      pub ends-heavy : Heavy list (eachOf (replaced s y e) es) → step s (foreach y x e) ≡ refused FULL
+      ends-heavy w = go (eachOf (replaced s y e) es) refl w
+        where
+          go : (o : Outcome (List Element)) → eachOf (replaced s y e) es ≡ o → Heavy list o → step s (foreach y x e) ≡ refused FULL
+          go (gives fs) k w = ends-full s (foreach y x e) (outcome s x fs) n (list-made es h fs k) (omega (arith, w, assign-weighs s x (list fs)))
+          go fails k w = absurd w
+          go fills k w = is-filled s (foreach y x e) n (by-outcome es h fills k)

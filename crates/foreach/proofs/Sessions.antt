@@ -8,38 +8,29 @@ use mathlib.Core.List.{List}
 use lib.Dec.{T}
 use lib.ListN.{length, take}
 use Rattle.language.specs.Text.{Text}
-use Rattle.language.specs.Syntax.{Name, Expr}
+use Rattle.language.specs.Syntax.{Expr}
 use Rattle.language.specs.Identifiers.{isName}
 use Rattle.language.specs.Programs.{longest}
-use Rattle.language.specs.State.{Element}
 use Rattle.language.specs.Values.{Session}
 use Rattle.text.specs.declared.Span.{Span}
 use Rattle.text.specs.Meaning.{part, Within}
 use Rattle.syntax.specs.declared.Expr as Read
 use Rattle.syntax.specs.Values.{exprMeant, SomeExpr}
-use Rattle.evaluate.proofs.LastLocal.{undefined-local}
 use Rattle.session.specs.declared.Layout.{Layout}
 use Rattle.session.specs.Sessions.{Slices, slices, Running}
 use Rattle.session.proofs.Scoping.{scope}
 use Rattle.session.proofs.Changes.{other-locals}
 use Rattle.session.proofs.Room.{variables-short, records-few, principals-some}
 use Rattle.foreach_element.specs.Turning.{Turning, SomeTurning}
-use Rattle.foreach_source.specs.Sources.{source}
-use Rattle.foreach_source.proofs.Sourcing.{source-new}
 
-module _ (s : Session) (l : Layout) (b : Slices) (R : Running s l b) (text : Text) (y : Span) (x : Name) (es : List Element) (h : source s (part text y) x ≡ some es) (e : Read.Expr) where
+module _ (s : Session) (l : Layout) (b : Slices) (R : Running s l b) (text : Text) (e : Read.Expr) where
   pub turning : (u : Expr) → exprMeant text e ≡ some u
-      → Turning s u (take (l .«vars_len») (b .vars)) (b .variable-slots) (l .vars) (b .locals) (l .«locals_len») (b .local-slots) (l .locals) text y e
-  turning u m = record {
-    scope = scope s l b R;
-    is-light = omega (arith, R .weighed, R .light);
-    is-new = undefined-local s (part text y) (source-new s (part text y) x es h);
-    meant = m;
-  }
+      → Turning s u (take (l .«vars_len») (b .vars)) (b .variable-slots) (l .vars) (b .locals) (l .«locals_len») (b .local-slots) (l .locals) text e
+  turning u m = record { scope = scope s l b R; meant = m }
 
-  pub some-turning : SomeExpr text e → length text ≤ longest → Within text y → T (isName (part text y))
+  pub some-turning : (y : Span) → SomeExpr text e → length text ≤ longest → Within text y → T (isName (part text y))
       → SomeTurning (take (l .«vars_len») (b .vars)) (b .variable-slots) (l .vars) (b .locals) (l .«locals_len») (b .local-slots) (l .locals) text y e
-  some-turning E k w n = record {
+  some-turning y E k w n = record {
     session = s;
     says = E;
     turning = turning (E .expression) (E .meant);
@@ -51,10 +42,10 @@ module _ (s : Session) (l : Layout) (b : Slices) (R : Running s l b) (text : Tex
   }
 
 -- the same session, whose locals' slots are changed where they stand for no record
-pub running-again : (s : Session) (u : Expr) (l : Layout) (b : Slices) → Running s l b → (slots : List ℕ) (text : Text) (y : Span) (e : Read.Expr)
+pub running-again : (s : Session) (u : Expr) (l : Layout) (b : Slices) → Running s l b → (slots : List ℕ) (text : Text) (e : Read.Expr)
     → length slots ≡ length (b .local-slots)
-    → Turning s u (take (l .«vars_len») (b .vars)) (b .variable-slots) (l .vars) (b .locals) (l .«locals_len») slots (l .locals) text y e
+    → Turning s u (take (l .«vars_len») (b .vars)) (b .variable-slots) (l .vars) (b .locals) (l .«locals_len») slots (l .locals) text e
     → Running s l (slices (b .principals) (b .principal-slots) (b .vars) (b .variable-slots) (b .locals) slots (b .assertions))
-running-again s u l b R slots text y e q I =
+running-again s u l b R slots text e q I =
     other-locals s l b R (s .locals) (b .locals) slots (l .«locals_len») (l .locals) (l .weight) (R .sized .locals-size) (q ∙ R .sized .local-slots-size) (I .scope .locals-held)
     (R .locals-within) (R .ready .is-good .locals-valid) (R .weighed) (R .light)

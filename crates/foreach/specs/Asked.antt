@@ -7,6 +7,7 @@ use lib.ListN.{length}
 use Rattle.language.specs.Text.{Text}
 use Rattle.language.specs.Syntax.{Name, Expr, foreach}
 use Rattle.language.specs.Values.{Session}
+use Rattle.language.specs.Commands.{elements}
 use Rattle.language.specs.Programs.{longest}
 use Rattle.language.proofs.Parsing.ValidPrograms.{validCommand}
 use Rattle.text.specs.declared.Span.{Span}
@@ -15,13 +16,13 @@ use Rattle.syntax.specs.declared.Expr as Read
 use Rattle.syntax.specs.Values.{SomeExpr}
 use Rattle.session.specs.declared.Layout.{Layout}
 use Rattle.session.specs.Sessions.{Slices, Running}
-use Rattle.foreach_source.specs.Sources.{source, Copied}
+use Rattle.foreach_source.specs.Sources.{Copied}
 
 -- the buffers hold some session, and the first n bytes of out are the list that it goes through
 pub record SomeSource (l : Layout) (b : Slices) (y x : Name) (out : Text) (n : ℕ) : Type 0 where
   pub session : Session
   pub running : Running session l b
-  pub copied : Copied (source session y x) out n
+  pub copied : Copied (elements session y x) out n
 
 -- the program's text says a valid foreach at these places
 pub record SomeForeach (t : Text) (y x : Span) (e : Read.Expr) : Type 0 where

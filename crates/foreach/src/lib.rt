@@ -13,12 +13,13 @@ ghost use mathlib.Core.Bool.{false};
 ghost use mathlib.Core.Option.{some};
 ghost use Rattle.language.specs.Syntax as Syntax;
 ghost use Rattle.language.specs.Values.{Session};
+ghost use Rattle.language.specs.Commands as Commands;
 ghost use Rattle.language.specs.Commands.{denied, step};
 ghost use Rattle.text.specs.Meaning.{part};
 ghost use Rattle.syntax.specs.Values.{exprMeant};
 ghost use Rattle.session.specs.Sessions.{slices, Running, SomeRunning};
 ghost use Rattle.session.specs.Endings.{Ended};
-ghost use Rattle.foreach_source.specs.Sources.{source, Copied};
+ghost use Rattle.foreach_source.specs.Sources.{Copied};
 ghost use Rattle.foreach.specs.Asked.{SomeSource, SomeForeach, Workspace};
 
 // Replaces the elements of the list in the first `n` bytes of `elements`, and puts the new list in its place.
@@ -45,7 +46,7 @@ fn replace(
     ensures { λ r. ⌜ ((s : Session) (u : Syntax.Expr)
         → Running s l (slices (now (principals .entry)) (now («principal_slots» .entry)) (now (vars .entry)) (now («variable_slots» .entry)) (now (locals .entry)) (now («local_slots» .entry)) (now (assertions .entry)))
         → exprMeant (now (text .entry)) e ≡ some u → denied s (Syntax.foreach (part (now (text .entry)) y) (part (now (text .entry)) x) u) ≡ false
-        → Copied (source s (part (now (text .entry)) y) (part (now (text .entry)) x)) (now (elements .entry)) n
+        → Copied (Commands.elements s (part (now (text .entry)) y) (part (now (text .entry)) x)) (now (elements .entry)) n
         → Ended r (step s (Syntax.foreach (part (now (text .entry)) y) (part (now (text .entry)) x) u))
         (slices (now (principals .entry)) (now («principal_slots» .entry)) (now (vars .exit)) (now («variable_slots» .exit)) (now (locals .exit)) (now («local_slots» .exit)) (now (assertions .exit)))) ⌝ }
 {

@@ -1,5 +1,4 @@
 -- Laws of what foreach makes of an element.
 pub mod Drafting
 pub mod Singles
-pub mod LightLists
 pub mod Lasting

@@ -1,21 +1,21 @@
 // What foreach puts in the place of one element.
-use evaluate::result::Evaluated;
+use evaluated::Evaluated;
 use syntax::Expr;
 use text::Span;
 ghost use mathlib.Core.Path.{_≡_};
-ghost use mathlib.Core.Option.{Option};
 ghost use Prim.Native.Nat.{_≤_};
 ghost use lib.ListN.{length};
 ghost use Rattle.language.specs.Syntax as Syntax;
 ghost use Rattle.language.specs.State.{Element, Value, single};
+ghost use Rattle.language.specs.Outcomes.{Outcome};
 ghost use Rattle.language.specs.Values.{Session};
 ghost use Rattle.language.specs.Commands.{replaced};
 ghost use Rattle.text.specs.Meaning.{part};
 ghost use Rattle.values.specs.Encoding.{Holds};
-ghost use Rattle.evaluate.specs.Results.{Valued};
+ghost use Rattle.evaluated.specs.Results.{Valued};
 ghost use Rattle.evaluate.specs.Drafts.{Lent};
 ghost use Rattle.foreach_element.specs.Drafts.{MadeOf};
-ghost use Rattle.foreach_element.specs.Turning.{scopeSize, Turning, SomeTurning, SomeElement, NoHeavyList, SomeAnswer, elementIn};
+ghost use Rattle.foreach_element.specs.Turning.{scopeSize, Turning, SomeTurning, SomeElement, SomeAnswer, elementIn};
 
 // What is made of an element, or of a list: a value that is written in the first `len` bytes that were lent for it, and its weight.
 // Of a value that weighs more than 8,192 only that is kept: the weight is then 8,193, and the bytes say nothing.
@@ -30,10 +30,10 @@ pub enum Made {
     No,
 }
 
-// What an answer of the evaluation puts in an element's place. A list may not stand there; a value that is too heavy is none.
+// What an answer of the evaluation puts in an element's place. A list may not stand there; of what is too heavy only that is kept.
 fn settled(out: &[u8], r: Evaluated) -> Made
     requires { ⌜ SomeAnswer r (now out) ⌝ }
-    ensures { λ m. ⌜ ((o : Option Value) → Valued r o (now (out .entry)) → NoHeavyList o → MadeOf single m (elementIn o) (now (out .entry))) ⌝ }
+    ensures { λ m. ⌜ ((o : Outcome Value) → Valued r o (now (out .entry)) → MadeOf single m (elementIn o) (now (out .entry))) ⌝ }
 {
     match r {
         Evaluated::Value { len, weight } => {
@@ -59,7 +59,7 @@ pub fn turn<'a>(
     len: usize,
     lslots: &mut [u32],
     lcount: usize,
-    text: &[u8],
+    text: &'a [u8],
     y: Span,
     e: Expr,
     element: &[u8],
@@ -70,11 +70,11 @@ pub fn turn<'a>(
     requires { ⌜ SomeElement (now element) × (length (now element) ≤ 24579) × (length (now locals) ≡ scopeSize) ⌝ }
     requires { ⌜ Lent (now out) (now labels) ⌝ }
     ensures meant { λ r. ⌜ ((s : Session) (x : Syntax.Expr) (a : Element)
-        → Turning s x (now (shared .entry)) (now (slots .entry)) count (now (locals .entry)) len (now (lslots .entry)) lcount (now (text .entry)) y e
+        → Turning s x (now (shared .entry)) (now (slots .entry)) count (now (locals .entry)) len (now (lslots .entry)) lcount (now (text .entry)) e
         → Holds (single a) (now (element .entry)) → MadeOf single r (replaced s (part (now (text .entry)) y) x a) (now (out .exit))) ⌝ }
     ensures kept { λ r. ⌜ ((s : Session) (x : Syntax.Expr)
-        → Turning s x (now (shared .entry)) (now (slots .entry)) count (now (locals .entry)) len (now (lslots .entry)) lcount (now (text .entry)) y e
-        → Turning s x (now (shared .entry)) (now (slots .entry)) count (now (locals .exit)) len (now (lslots .exit)) lcount (now (text .entry)) y e) ⌝ }
+        → Turning s x (now (shared .entry)) (now (slots .entry)) count (now (locals .entry)) len (now (lslots .entry)) lcount (now (text .entry)) e
+        → Turning s x (now (shared .entry)) (now (slots .entry)) count (now (locals .exit)) len (now (lslots .exit)) lcount (now (text .entry)) e) ⌝ }
 {
     let a = y.start;
     let b = y.end;

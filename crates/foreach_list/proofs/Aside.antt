@@ -8,29 +8,24 @@ use lib.Seq.{length-take-le, take-at}
 use Rattle.language.specs.Text.{Text}
 use Rattle.language.specs.Syntax.{Expr}
 use Rattle.language.specs.Values.{Session}
-use Rattle.text.specs.declared.Span.{Span}
 use Rattle.syntax.specs.declared.Expr as Read
 use Rattle.splice.specs.Splices.{over}
 use Rattle.evaluate.specs.Scopes.{Scope}
 use Rattle.foreach_element.specs.Turning.{Turning}
 
-module _ {s : Session} {x : Expr} {shared : Text} {slots : List ℕ} {count : ℕ} {locals : Text} {len : ℕ} {lslots : List ℕ} {lcount : ℕ} {text : Text} {y : Span} {e : Read.Expr} where
-  pub elsewhere : Turning s x shared slots count locals len lslots lcount text y e → (t : Text) → take len t ≡ take len locals → Turning s x shared slots count t len lslots lcount text y e
+module _ {s : Session} {x : Expr} {shared : Text} {slots : List ℕ} {count : ℕ} {locals : Text} {len : ℕ} {lslots : List ℕ} {lcount : ℕ} {text : Text} {e : Read.Expr} where
+  pub elsewhere : Turning s x shared slots count locals len lslots lcount text e → (t : Text) → take len t ≡ take len locals → Turning s x shared slots count t len lslots lcount text e
   elsewhere I t q = record {
     scope = subst (λ (u : Text). Scope s shared slots count u lslots lcount) (sym q) (I .scope);
-    is-light = I .is-light;
-    is-new = I .is-new;
     meant = I .meant;
   }
 
   -- and back in their own, with the slots that they have then
-  pub brought-back : Turning s x shared slots count locals len lslots lcount text y e → (t : Text) (aslots : List ℕ) → Turning s x shared slots count t len aslots lcount text y e
-      → Turning s x shared slots count locals len aslots lcount text y e
+  pub brought-back : Turning s x shared slots count locals len lslots lcount text e → (t : Text) (aslots : List ℕ) → Turning s x shared slots count t len aslots lcount text e
+      → Turning s x shared slots count locals len aslots lcount text e
   brought-back I t aslots J = record {
     scope =
         subst (λ (u : Text). Scope s shared slots count u aslots lcount) (J .scope .locals-held .is-text ∙ sym (I .scope .locals-held .is-text)) (J .scope);
-    is-light = I .is-light;
-    is-new = I .is-new;
     meant = I .meant;
   }
 

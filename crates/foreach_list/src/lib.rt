@@ -9,21 +9,21 @@ ghost use mathlib.Core.Path.{_≡_};
 ghost use mathlib.Core.List.{List, [], _∷_, _++_};
 ghost use Prim.Native.Nat.{_≤_};
 ghost use lib.ListN.{length};
-ghost use Rattle.language.specs.Text.{each};
 ghost use Rattle.language.specs.Syntax as Syntax;
 ghost use Rattle.language.specs.State.{Element, single, list};
+ghost use Rattle.language.specs.Outcomes.{Outcome, gives, eachOf};
 ghost use Rattle.language.specs.Values.{Session};
 ghost use Rattle.language.specs.Commands.{replaced};
 ghost use Rattle.text.specs.Meaning.{part};
 ghost use Rattle.values.specs.Encoding.{Holds, ListText};
 ghost use Rattle.evaluate.specs.Drafts.{Lent};
-ghost use Rattle.foreach_element.specs.Drafts.{Drafted, SomeList, SomeSingle, MadeOf};
+ghost use Rattle.foreach_element.specs.Drafts.{Drafted, SomeDraft, MadeOf};
 ghost use Rattle.foreach_element.specs.Turning.{scopeSize, Turning, SomeTurning};
 
 // A list without elements.
 fn start(out: &mut [u8]) -> Draft
     requires { ⌜ 32768 ≤ length (now out) ⌝ }
-    ensures { λ r. ⌜ Drafted (list []) (now (out .exit)) r ⌝ }
+    ensures { λ r. ⌜ Drafted list (gives []) (now (out .exit)) r ⌝ }
 {
     let len = value_text::put_list(out, 0);
     Draft { len, weight: 0 }
@@ -31,9 +31,9 @@ fn start(out: &mut [u8]) -> Draft
 
 // Adds an element to the list, which is written as long as it is not too heavy.
 fn put_element(out: &mut [u8], d: Draft, value: &[u8], one: Draft) -> Draft
-    requires { ⌜ SomeList (now out) d × SomeSingle (now value) one × (32768 ≤ length (now out)) ⌝ }
-    ensures { λ r. ⌜ ((es : List Element) (e : Element) → Drafted (list es) (now (out .entry)) d → Drafted (single e) (now (value .entry)) one
-        → Drafted (list (es ++ (e ∷ []))) (now (out .exit)) r) ⌝ }
+    requires { ⌜ SomeDraft list (now out) d × SomeDraft single (now value) one × (32768 ≤ length (now out)) ⌝ }
+    ensures { λ r. ⌜ ((f : Element → Outcome Element) (es : List Element) (a : Element) → Drafted list (eachOf f es) (now (out .entry)) d
+        → Drafted single (f a) (now (value .entry)) one → Drafted list (eachOf f (es ++ (a ∷ []))) (now (out .exit)) r) ⌝ }
 {
     let weight = d.weight + 1 + one.weight;
     if 8192 < weight {
@@ -48,15 +48,15 @@ fn put_element(out: &mut [u8], d: Draft, value: &[u8], one: Draft) -> Draft
 }
 
 // Replaces the elements of the list one after the other; the new list is written from the start of `out` on.
-fn replace_all(
-    shared: &[u8],
+fn replace_all<'a>(
+    shared: &'a [u8],
     slots: &[u32],
     count: usize,
     locals: &mut [u8],
     len: usize,
     lslots: &mut [u32],
     lcount: usize,
-    text: &[u8],
+    text: &'a [u8],
     y: Span,
     e: Expr,
     elements: &[u8],
@@ -68,11 +68,11 @@ fn replace_all(
     requires { ⌜ ListText (now elements) × (length (now elements) ≤ 24579) × (length (now locals) ≡ scopeSize) ⌝ }
     requires { ⌜ Lent (now value) (now labels) × (32768 ≤ length (now out)) ⌝ }
     ensures meant { λ r. ⌜ ((s : Session) (x : Syntax.Expr) (es : List Element)
-        → Turning s x (now (shared .entry)) (now (slots .entry)) count (now (locals .entry)) len (now (lslots .entry)) lcount (now (text .entry)) y e
-        → Holds (list es) (now (elements .entry)) → MadeOf list r (each (replaced s (part (now (text .entry)) y) x) es) (now (out .exit))) ⌝ }
+        → Turning s x (now (shared .entry)) (now (slots .entry)) count (now (locals .entry)) len (now (lslots .entry)) lcount (now (text .entry)) e
+        → Holds (list es) (now (elements .entry)) → MadeOf list r (eachOf (replaced s (part (now (text .entry)) y) x) es) (now (out .exit))) ⌝ }
     ensures kept { λ r. ⌜ ((s : Session) (x : Syntax.Expr)
-        → Turning s x (now (shared .entry)) (now (slots .entry)) count (now (locals .entry)) len (now (lslots .entry)) lcount (now (text .entry)) y e
-        → Turning s x (now (shared .entry)) (now (slots .entry)) count (now (locals .exit)) len (now (lslots .exit)) lcount (now (text .entry)) y e) ⌝ }
+        → Turning s x (now (shared .entry)) (now (slots .entry)) count (now (locals .entry)) len (now (lslots .entry)) lcount (now (text .entry)) e
+        → Turning s x (now (shared .entry)) (now (slots .entry)) count (now (locals .exit)) len (now (lslots .exit)) lcount (now (text .entry)) e) ⌝ }
 {
     let mut at = values::first_element(elements);
     let mut d = start(out);
@@ -108,15 +108,15 @@ fn replace_all(
 
 // Replaces them over a copy of the locals, which has room for y; the locals stay as they are, and of their slots only what follows is
 // changed.
-pub fn replace_aside(
-    shared: &[u8],
+pub fn replace_aside<'a>(
+    shared: &'a [u8],
     slots: &[u32],
     count: usize,
     locals: &[u8],
     len: usize,
     lslots: &mut [u32],
     lcount: usize,
-    text: &[u8],
+    text: &'a [u8],
     y: Span,
     e: Expr,
     elements: &[u8],
@@ -128,11 +128,11 @@ pub fn replace_aside(
     requires { ⌜ ListText (now elements) × (length (now elements) ≤ 24579) × (len ≤ length (now locals)) ⌝ }
     requires { ⌜ Lent (now value) (now labels) × (32768 ≤ length (now out)) ⌝ }
     ensures meant { λ r. ⌜ ((s : Session) (x : Syntax.Expr) (es : List Element)
-        → Turning s x (now (shared .entry)) (now (slots .entry)) count (now (locals .entry)) len (now (lslots .entry)) lcount (now (text .entry)) y e
-        → Holds (list es) (now (elements .entry)) → MadeOf list r (each (replaced s (part (now (text .entry)) y) x) es) (now (out .exit))) ⌝ }
+        → Turning s x (now (shared .entry)) (now (slots .entry)) count (now (locals .entry)) len (now (lslots .entry)) lcount (now (text .entry)) e
+        → Holds (list es) (now (elements .entry)) → MadeOf list r (eachOf (replaced s (part (now (text .entry)) y) x) es) (now (out .exit))) ⌝ }
     ensures kept { λ r. ⌜ ((s : Session) (x : Syntax.Expr)
-        → Turning s x (now (shared .entry)) (now (slots .entry)) count (now (locals .entry)) len (now (lslots .entry)) lcount (now (text .entry)) y e
-        → Turning s x (now (shared .entry)) (now (slots .entry)) count (now (locals .entry)) len (now (lslots .exit)) lcount (now (text .entry)) y e) ⌝ }
+        → Turning s x (now (shared .entry)) (now (slots .entry)) count (now (locals .entry)) len (now (lslots .entry)) lcount (now (text .entry)) e
+        → Turning s x (now (shared .entry)) (now (slots .entry)) count (now (locals .entry)) len (now (lslots .exit)) lcount (now (text .entry)) e) ⌝ }
 {
     let mut scope = [0u8; 57605];
     splice::copy(&mut scope, 0, &locals[..len]);

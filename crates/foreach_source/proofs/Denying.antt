@@ -2,16 +2,15 @@
 -- Assumes nothing.
 use mathlib.Core.Path.{_≡_, refl, sym, ap, _∙_}
 use mathlib.Core.Bool.{Bool, true, false, _&&_, _||_, not}
-use mathlib.Core.Option.{Option}
 use mathlib.Core.List.{List, [], _∷_, _++_}
-use Rattle.language.specs.Text.{if_then_else_, _>>=_, _>>_, given, any}
+use Rattle.language.specs.Text.{if_then_else_, any}
 use Rattle.language.specs.Syntax.{Name, read, write, Expr, foreach}
-use Rattle.language.specs.State.{Element}
 use Rattle.language.specs.Chains.{has}
-use Rattle.language.specs.Values.{Session, isShared, isDefined, lookup, asList, names}
-use Rattle.language.specs.Commands.{Need, isFilled, iterates, reads, met, denied}
+use Rattle.language.specs.Values.{Session, isShared}
+use Rattle.language.specs.Expressions.{names}
+use Rattle.language.specs.Commands.{Need, elements, isFilled, reads, met, denied}
 use Rattle.permits.specs.Permits.{allowedOn, unread}
-use Rattle.foreach_source.specs.Sources.{source, forbidden}
+use Rattle.foreach_source.specs.Sources.{forbidden}
 
 -- ---- the right to read and the right to write
 
@@ -24,13 +23,6 @@ may-read s x b c h e k = ap (λ (d : Bool). not d || not (allowedOn s write x)) 
 -- ---- all that it needs
 
 module _ (s : Session) (y x : Name) (e : Expr) where
-  evaluates : iterates s y x ≡ isFilled (source s y x)
-  evaluates = go (isDefined s y) (lookup s x >>= asList)
-    where
-      go : (b : Bool) (o : Option (List Element)) → (not b && isFilled o) ≡ isFilled (given (not b) >> o)
-      go true o = refl
-      go false o = refl
-
   two-rights : (r w : Bool) (b : Bool) → (not (r || false) || (not (w || false) || b)) ≡ ((not r || not w) || b)
   two-rights true true b = refl
   two-rights true false b = refl
@@ -46,20 +38,20 @@ module _ (s : Session) (y x : Name) (e : Expr) where
   reads-where true = refl
   reads-where false = refl
 
-  denied-is : denied s (foreach y x e) ≡ (forbidden s x || (isFilled (source s y x) && unread s (names e)))
+  denied-is : denied s (foreach y x e) ≡ (forbidden s x || (isFilled (elements s y x) && unread s (names e)))
   denied-is =
-      ruled-by (isShared s x) (reads s (if iterates s y x then names e else []))
-      ∙ ap (λ (b : Bool). forbidden s x || b) (reads-where (iterates s y x) ∙ ap (λ (b : Bool). b && unread s (names e)) evaluates)
+      ruled-by (isShared s x) (reads s (if isFilled (elements s y x) then names e else []))
+      ∙ ap (λ (b : Bool). forbidden s x || b) (reads-where (isFilled (elements s y x)))
 
   pub denied-list : forbidden s x ≡ true → denied s (foreach y x e) ≡ true
-  denied-list h = denied-is ∙ ap (λ (b : Bool). b || (isFilled (source s y x) && unread s (names e))) h
+  denied-list h = denied-is ∙ ap (λ (b : Bool). b || (isFilled (elements s y x) && unread s (names e))) h
 
   module _ (h : forbidden s x ≡ false) where
-    denied-after : denied s (foreach y x e) ≡ (isFilled (source s y x) && unread s (names e))
-    denied-after = denied-is ∙ ap (λ (b : Bool). b || (isFilled (source s y x) && unread s (names e))) h
+    denied-after : denied s (foreach y x e) ≡ (isFilled (elements s y x) && unread s (names e))
+    denied-after = denied-is ∙ ap (λ (b : Bool). b || (isFilled (elements s y x) && unread s (names e))) h
 
-    pub not-evaluated : isFilled (source s y x) ≡ false → denied s (foreach y x e) ≡ false
+    pub not-evaluated : isFilled (elements s y x) ≡ false → denied s (foreach y x e) ≡ false
     not-evaluated k = denied-after ∙ ap (λ (b : Bool). b && unread s (names e)) k
 
-    pub evaluated-by : isFilled (source s y x) ≡ true → (b : Bool) → unread s (names e) ≡ not b → denied s (foreach y x e) ≡ not b
+    pub evaluated-by : isFilled (elements s y x) ≡ true → (b : Bool) → unread s (names e) ≡ not b → denied s (foreach y x e) ≡ not b
     evaluated-by k b q = denied-after ∙ ap (λ (c : Bool). c && unread s (names e)) k ∙ q

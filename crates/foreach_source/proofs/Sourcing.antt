@@ -3,18 +3,18 @@
 use mathlib.Core.Path.{_≡_, refl, sym, ap, _∙_}
 use Prim.Native.Nat.{ℕ, _≤_}
 use native.Mathlib.Omega.{arith}
-use mathlib.Core.Bool.{Bool, true, false, not}
+use mathlib.Core.Bool.{Bool, true, false}
 use mathlib.Core.Option.{Option, none, some}
 use mathlib.Core.List.{List, [], _∷_}
 use lib.ListN.{length, take}
 use lib.Seq.{length-take-le}
-use Rattle.language.specs.Text.{Text, _>>=_, _>>_, given, present}
+use Rattle.language.specs.Text.{Text, if_then_else_, present}
 use Rattle.language.specs.Syntax.{Name}
 use Rattle.language.specs.State.{Element, Value, single, list}
 use Rattle.language.specs.Encode.{valueText}
 use Rattle.language.specs.Weight.{limit, valueWeight}
-use Rattle.language.specs.Values.{Session, isDefined, lookup, asList}
-use Rattle.language.specs.Commands.{sessionWeight, isFilled}
+use Rattle.language.specs.Values.{Session, isDefined, lookup}
+use Rattle.language.specs.Commands.{sessionWeight, elements, isFilled}
 use Rattle.language.proofs.Logic.Outcomes.{Where}
 use Rattle.value_text.specs.Writing as Piece
 use Rattle.value_text.proofs.Pieces.{written-take, written-length}
@@ -22,26 +22,19 @@ use Rattle.values.proofs.Listing.{starts-with}
 use Rattle.evaluate.specs.Scopes.{ReadAs}
 use Rattle.evaluate.proofs.Bounds.{text-bound}
 use Rattle.lookup.specs.Looks.{elementsIn}
-use Rattle.foreach_source.specs.Sources.{source, Copied}
+use Rattle.foreach_source.specs.Sources.{Copied}
 use Rattle.lookup.proofs.LightNames.{lookup-light}
 
-pub source-new : (s : Session) (y x : Name) (es : List Element) → source s y x ≡ some es → isDefined s y ≡ false
-source-new s y x es h = go (isDefined s y) h
-  where
-    go : (b : Bool) → (given (not b) >> (lookup s x >>= asList)) ≡ some es → b ≡ false
-    go true k = absurd (let z : _≡_ {A = ℕ} 0 1 = cc in omega arith)
-    go false k = refl
-
 module _ (s : Session) (y x : Name) where
-  by-defined : (b : Bool) → isDefined s y ≡ b → source s y x ≡ (given (not b) >> elementsIn (lookup s x))
-  by-defined b e = ap (λ (c : Bool). given (not c) >> elementsIn (lookup s x)) e
+  by-defined : (b : Bool) → isDefined s y ≡ b → elements s y x ≡ (if_then_else_ {A = Option (List Element)} b none (elementsIn (lookup s x)))
+  by-defined b e = ap (λ (c : Bool). if_then_else_ {A = Option (List Element)} c none (elementsIn (lookup s x))) e
 
   -- where y has a value, there is no list
-  pub other-there : isDefined s y ≡ true → source s y x ≡ none
+  pub other-there : isDefined s y ≡ true → elements s y x ≡ none
   other-there e = by-defined true e
 
   module _ (e : isDefined s y ≡ false) where
-    pub no-list : (b : Bool) → b ≡ present (elementsIn (lookup s x)) → b ≡ false → source s y x ≡ none
+    pub no-list : (b : Bool) → b ≡ present (elementsIn (lookup s x)) → b ≡ false → elements s y x ≡ none
     no-list b q f = by-defined false e ∙ go (elementsIn (lookup s x)) (sym f ∙ q)
       where
         go : (o : Option (List Element)) → false ≡ present o → o ≡ none
@@ -49,10 +42,10 @@ module _ (s : Session) (y x : Name) where
         go (some es) h = absurd (let z : _≡_ {A = ℕ} 0 1 = cc in omega arith)
 
     pub list-copied : (t : Text) → ReadAs (lookup s x) t → (b : Bool) → b ≡ present (elementsIn (lookup s x)) → b ≡ true → (out after : Text) (n : ℕ) → Piece.Written out 0 t n after
-        → Copied (source s y x) after n
+        → Copied (elements s y x) after n
     list-copied t k b q f out after n P = go (lookup s x) (by-defined false e) k (sym f ∙ q)
       where
-        go : (o : Option Value) → source s y x ≡ elementsIn o → ReadAs o t → true ≡ present (elementsIn o) → Copied (source s y x) after n
+        go : (o : Option Value) → elements s y x ≡ elementsIn o → ReadAs o t → true ≡ present (elementsIn o) → Copied (elements s y x) after n
         go none q k h = absurd (let z : _≡_ {A = ℕ} 0 1 = cc in omega arith)
         go (some (single a)) q k h = absurd (let z : _≡_ {A = ℕ} 0 1 = cc in omega arith)
         go (some (list es)) q k h = record {
@@ -70,16 +63,20 @@ read-fits s x t k l = go (lookup s x) k (lookup-light s x l)
     go none k h = omega (arith, ap length k)
     go (some v) k h = omega (arith, h, text-bound v t k)
 
-pub source-fits : (s : Session) (y x : Name) (out : Text) (n : ℕ) → Copied (source s y x) out n → sessionWeight s ≤ limit → n ≤ 24579
-source-fits s y x out n C l = go (lookup s x) (lookup-light s x l) (ap (λ (b : Bool). given (not b) >> (lookup s x >>= asList)) (sym (source-new s y x (C .elements) (C .is-source))) ∙ C .is-source)
+pub source-fits : (s : Session) (y x : Name) (out : Text) (n : ℕ) → Copied (elements s y x) out n → sessionWeight s ≤ limit → n ≤ 24579
+source-fits s y x out n C l = defined (isDefined s y) (C .is-source)
   where
     bound : (es : List Element) → valueWeight (list es) ≤ limit → es ≡ C .elements → n ≤ 24579
     bound es k e = omega (arith, k, ap (λ (l : List Element). valueWeight (list l)) e, text-bound (list (C .elements)) (take n out) (C .held), length-take-le n out (C .within))
 
-    go : (o : Option Value) → Where (λ v. valueWeight v ≤ limit) o → (o >>= asList) ≡ some (C .elements) → n ≤ 24579
+    go : (o : Option Value) → Where (λ v. valueWeight v ≤ limit) o → elementsIn o ≡ some (C .elements) → n ≤ 24579
     go none k e = absurd (let z : _≡_ {A = ℕ} 0 1 = cc in omega arith)
     go (some (single a)) k e = absurd (let z : _≡_ {A = ℕ} 0 1 = cc in omega arith)
     go (some (list es)) k e = bound es k (let q : es ≡ C .elements = cc in q)
+
+    defined : (b : Bool) → if_then_else_ {A = Option (List Element)} b none (elementsIn (lookup s x)) ≡ some (C .elements) → n ≤ 24579
+    defined true e = absurd (let z : _≡_ {A = ℕ} 0 1 = cc in omega arith)
+    defined false e = go (lookup s x) (lookup-light s x l) e
 
 -- ---- an empty list's text has two bytes
 

@@ -5,12 +5,12 @@ use mathlib.Core.Bool.{Bool, true, false, _||_, not}
 use mathlib.Core.Option.{Option, none, some}
 use mathlib.Core.List.{List}
 use lib.ListN.{length, take}
-use Rattle.language.specs.Text.{Text, _>>=_, _>>_, given}
+use Rattle.language.specs.Text.{Text}
 use Rattle.language.specs.Syntax.{Name, read, write, Expr, foreach}
 use Rattle.language.specs.State.{Element, list}
 use Rattle.language.specs.Weight.{limit}
-use Rattle.language.specs.Values.{Session, isDefined, lookup, asList}
-use Rattle.language.specs.Commands.{denied, sessionWeight}
+use Rattle.language.specs.Values.{Session}
+use Rattle.language.specs.Commands.{elements, denied, sessionWeight}
 use Rattle.syntax.specs.declared.Expr as Read
 use Rattle.values.specs.Encoding.{Holds}
 use Rattle.permits.specs.Permits.{allowedOn}
@@ -20,10 +20,6 @@ use Rattle.foreach_source.specs.declared.Source.{Source}
 use Rattle.foreach_source.specs.declared.Source.the-variants as SourceIs
 use Rattle.foreach_source.specs.declared.Prepared.{Prepared}
 use Rattle.foreach_source.specs.declared.Prepared.the-variants as Is
-
--- the elements of x, where that is a list and y is undefined
-abbrev pub source : Session → Name → Name → Option (List Element)
-source s y x = given (not (isDefined s y)) >> (lookup s x >>= asList)
 
 -- the sender may not read x, or may not write it
 abbrev pub forbidden : Session → Name → Bool
@@ -49,5 +45,5 @@ Sourced SourceIs.No o out = o ≡ none
 -- foreach is denied; it may be sent, and there is no list to go through; or there is
 abbrev pub Prepares : Prepared → Session → Name → Name → Expr → Text → Type 0
 Prepares Is.Denied s y x e out = denied s (foreach y x e) ≡ true
-Prepares Is.Failed s y x e out = (denied s (foreach y x e) ≡ false) × (source s y x ≡ none)
-Prepares (Is.List n) s y x e out = (denied s (foreach y x e) ≡ false) × Copied (source s y x) out n
+Prepares Is.Failed s y x e out = (denied s (foreach y x e) ≡ false) × (elements s y x ≡ none)
+Prepares (Is.List n) s y x e out = (denied s (foreach y x e) ≡ false) × Copied (elements s y x) out n

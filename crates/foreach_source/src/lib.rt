@@ -11,11 +11,12 @@ ghost use Prim.Native.Nat.{_≤_};
 ghost use lib.ListN.{length};
 ghost use Rattle.language.specs.Syntax as Syntax;
 ghost use Rattle.language.specs.Values.{Session};
+ghost use Rattle.language.specs.Commands.{elements};
 ghost use Rattle.text.specs.Meaning.{part, Within};
 ghost use Rattle.syntax.specs.Values.{exprMeant, SomeExpr};
 ghost use Rattle.lookup.specs.Looks.{Scoped, Sending, SomeSending};
 ghost use Rattle.session.specs.Sessions.{slices, Running, SomeRunning};
-ghost use Rattle.foreach_source.specs.Sources.{source, forbidden, SomeLight, Sourced, Prepares};
+ghost use Rattle.foreach_source.specs.Sources.{forbidden, SomeLight, Sourced, Prepares};
 
 // Where a list's text was copied to the front of a buffer, its length.
 pub enum Source {
@@ -63,7 +64,7 @@ fn copy_list<'a>(
     requires { ⌜ SomeLight l (now vars) (now «variable_slots») (now locals) (now «local_slots») ⌝ }
     requires { ⌜ Within (now text) y × Within (now text) x × (32768 ≤ length (now out)) ⌝ }
     ensures { λ r. ⌜ ((s : Session) → Scoped s l (now (vars .entry)) (now («variable_slots» .entry)) (now (locals .entry)) (now («local_slots» .entry))
-        → Sourced r (source s (part (now (text .entry)) y) (part (now (text .entry)) x)) (now (out .exit))) ⌝ }
+        → Sourced r (elements s (part (now (text .entry)) y) (part (now (text .entry)) x)) (now (out .exit))) ⌝ }
 {
     let a = y.start;
     let b = y.end;

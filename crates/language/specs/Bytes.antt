@@ -22,8 +22,9 @@ pub data Class : Type 0 where
   letter digit space newline foreign : Class
   mark : ℕ → Class
 
+-- those of document 01, and the parentheses of request M-100
 abbrev pub marks : Text
-marks = bytes "_,;:.?!-=/>{}[]*\""
+marks = bytes "_,;:.?!-=/>{}[]()*\""
 
 abbrev pub class : ℕ → Class
 class b =

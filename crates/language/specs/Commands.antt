@@ -1,21 +1,23 @@
 -- Document 01, "Commands".
 --
 -- Three definitions judge a command, each by itself, so that no order of evaluation enters:
--- `reserved` and `needs` say who may send it (DENIED), `effect` what it does, where it can be done (else FAILED),
--- and `heavy` whether the result weighs too much (FULL). `step` asks them in that order.
+-- `reserved` and `needs` say who may send it (DENIED); `effect` what it does, where it can be done (else FAILED) and no value on the way
+-- weighs too much (else FULL); and `heavy` whether the session after it does (FULL). `step` asks them in that order.
 use Prim.Native.Nat.{ℕ, _+_}
 use Prim.Native.String.{String}
 use mathlib.Core.Bool.{Bool, true, false, _&&_, _||_, not}
 use mathlib.Core.Option.{Option, none, some}
 use mathlib.Core.List.{List, [], _∷_, _++_, map}
 use lib.Dec.{ltb}
-use Rattle.language.specs.Text.{Text, if_then_else_, _==_, _>>=_, _>>_, given, any, all, keep, sum, each}
+use Rattle.language.specs.Text.{Text, if_then_else_, _==_, any, all, keep, sum}
 use Rattle.language.specs.Syntax.{Name, Right, read, write, append, delegate, rights, Expr, Target, every, only, Command, create-principal, change-password, set, append-to, local, foreach, set-delegation, delete-delegation, default-delegator, exit, return}
 use Rattle.language.specs.State as S
 use Rattle.language.specs.State.{Element, Value, list, Principal, Variable, Assertion, Store, admin, put, enter, withdraw}
-use Rattle.language.specs.Weight.{limit, valueWeight, variableWeight, storeWeight}
+use Rattle.language.specs.Weight.{limit, variableWeight, storeWeight}
 use Rattle.language.specs.Chains.{has}
-use Rattle.language.specs.Values.{Session, isShared, isLocal, isDefined, isPrincipal, lookup, asList, asElement, value, names}
+use Rattle.language.specs.Outcomes.{Outcome, gives, fails, fills, _>>=_, _>>_, from, provided, eachOf}
+use Rattle.language.specs.Values.{Session, isShared, isLocal, isDefined, isPrincipal, asElement, listOf}
+use Rattle.language.specs.Expressions.{value, names}
 use Rattle.language.specs.Output.{status, returning}
 
 -- ---- who may send a command
@@ -30,14 +32,15 @@ pub record Need : Type 0 where
 abbrev pub need : Session → List Right → Name → List Need
 need s rs x = if isShared s x then record { holder = s .sender; oneOf = rs; variable = x } ∷ [] else []
 
--- foreach evaluates its expression: x is a list with an element, and y is undefined
+-- the elements that foreach goes through: x is a list, and y is undefined
+abbrev pub elements : Session → Name → Name → Option (List Element)
+elements s y x = if isDefined s y then none else listOf s x
+
+-- it evaluates its expression where there is one
 abbrev pub isFilled : Option (List Element) → Bool
 isFilled none = false
 isFilled (some []) = false
 isFilled (some (e ∷ rest)) = true
-
-abbrev pub iterates : Session → Name → Name → Bool
-iterates s y x = not (isDefined s y) && isFilled (lookup s x >>= asList)
 
 -- the names that a command evaluates
 abbrev pub evaluated : Session → Command → List Name
@@ -46,7 +49,7 @@ evaluated s (change-password p t) = []
 evaluated s (set x e) = names e
 evaluated s (append-to x e) = names e
 evaluated s (local x e) = names e
-evaluated s (foreach y x e) = if iterates s y x then names e else []
+evaluated s (foreach y x e) = if isFilled (elements s y x) then names e else []
 evaluated s (set-delegation t q r p) = []
 evaluated s (delete-delegation t q r p) = []
 evaluated s (default-delegator p) = []
@@ -185,56 +188,60 @@ abbrev pub extend : List Element → Value → List Element
 extend es (S.single e) = es ++ (e ∷ [])
 extend es (list fs) = es ++ fs
 
--- what foreach puts in an element's place
-abbrev pub replaced : Session → Name → Expr → Element → Option Element
-replaced s y e a = value (withLocals s (record { name = y; value = S.single a } ∷ s .locals)) e >>= asElement
+-- y stands for an element, last among the locals
+abbrev pub withElement : Session → Name → Element → Session
+withElement s y a = withLocals s (s .locals ++ (record { name = y; value = S.single a } ∷ []))
 
--- the session after, the values of the command's expressions, and the line printed
+-- what foreach puts in an element's place: no list
+abbrev pub replaced : Session → Name → Expr → Element → Outcome Element
+replaced s y e a = do
+  v ← value (withElement s y a) e
+  from (asElement v)
+
+-- the session after, and the line printed
 pub record Effect : Type 0 where
   pub after : Session
-  pub values : List Value
   pub line : Text
 
-abbrev pub done : String → List Value → Session → Option Effect
-done word vs s = some (record { after = s; values = vs; line = status word })
+abbrev pub done : String → Session → Outcome Effect
+done word s = gives (record { after = s; line = status word })
 
--- what a command that may be sent does, where it can be done
-abbrev pub effect : Session → Command → Option Effect
+-- what a command that may be sent does, where it can be done. What makes it FAILED by the command's own rule stands before its value.
+abbrev pub effect : Session → Command → Outcome Effect
 effect s (create-principal p t) = do
-  given (not (isPrincipal s p))
-  done "CREATE_PRINCIPAL" [] (withStore s (created (s .store) p t))
+  provided (not (isPrincipal s p))
+  done "CREATE_PRINCIPAL" (withStore s (created (s .store) p t))
 effect s (change-password p t) = do
-  given (isPrincipal s p)
-  done "CHANGE_PASSWORD" [] (withStore s (withPrincipals (s .store) (map (changed p t) (s .store .principals))))
+  provided (isPrincipal s p)
+  done "CHANGE_PASSWORD" (withStore s (withPrincipals (s .store) (map (changed p t) (s .store .principals))))
 effect s (set x e) = do
   v ← value s e
-  done "SET" (v ∷ []) (assign s x v)
+  done "SET" (assign s x v)
 effect s (append-to x e) = do
+  es ← from (listOf s x)
   v ← value s e
-  es ← lookup s x >>= asList
-  done "APPEND" (v ∷ []) (assign s x (list (extend es v)))
+  done "APPEND" (assign s x (list (extend es v)))
 effect s (local x e) = do
+  provided (not (isDefined s x))
   v ← value s e
-  given (not (isDefined s x))
-  done "LOCAL" (v ∷ []) (withLocals s (put x v (s .locals)))
+  done "LOCAL" (withLocals s (put x v (s .locals)))
 effect s (foreach y x e) = do
-  given (not (isDefined s y))
-  es ← lookup s x >>= asList
-  fs ← each (replaced s y e) es
-  done "FOREACH" (map S.single fs) (assign s x (list fs))
+  es ← from (elements s y x)
+  fs ← eachOf (replaced s y e) es
+  done "FOREACH" (assign s x (list fs))
 effect s (set-delegation t q r p) = do
-  given (isPrincipal s p && isPrincipal s q && all (isShared s) (targets (s .store) t q))
-  done "SET_DELEGATION" [] (withStore s (enterAll (s .store) (assertionsOn (targets (s .store) t q) q r p)))
+  provided (isPrincipal s p && isPrincipal s q && all (isShared s) (targets (s .store) t q))
+  done "SET_DELEGATION" (withStore s (enterAll (s .store) (assertionsOn (targets (s .store) t q) q r p)))
 effect s (delete-delegation t q r p) = do
-  given (isPrincipal s p && isPrincipal s q && all (isShared s) (targets (s .store) t q))
-  done "DELETE_DELEGATION" [] (withStore s (withdrawAll (s .store) (assertionsOn (targets (s .store) t q) q r p)))
+  provided (isPrincipal s p && isPrincipal s q && all (isShared s) (targets (s .store) t q))
+  done "DELETE_DELEGATION" (withStore s (withdrawAll (s .store) (assertionsOn (targets (s .store) t q) q r p)))
 effect s (default-delegator p) = do
-  given (isPrincipal s p)
-  done "DEFAULT_DELEGATOR" [] (withStore s (withDelegator (s .store) p))
-effect s exit = done "EXITING" [] (withStore s (closed (s .store)))
+  provided (isPrincipal s p)
+  done "DEFAULT_DELEGATOR" (withStore s (withDelegator (s .store) p))
+effect s exit = done "EXITING" (withStore s (closed (s .store)))
 effect s (return e) = do
   v ← value s e
-  some (record { after = s; values = v ∷ []; line = returning v })
+  gives (record { after = s; line = returning v })
 
 -- ---- the verdict
 
@@ -242,7 +249,7 @@ abbrev pub sessionWeight : Session → ℕ
 sessionWeight s = storeWeight (s .store) + sum variableWeight (s .locals)
 
 abbrev pub heavy : Effect → Bool
-heavy f = any (λ v. ltb limit (valueWeight v)) (f .values) || ltb limit (sessionWeight (f .after))
+heavy f = ltb limit (sessionWeight (f .after))
 
 pub data Refusal : Type 0 where
   DENIED FAILED FULL : Refusal
@@ -252,10 +259,11 @@ pub data Step : Type 0 where
   went : Effect → Step
 
 -- DENIED goes before FAILED, and FAILED before FULL
-abbrev pub verdict : Bool → Option Effect → Step
-verdict true f = refused DENIED
-verdict false none = refused FAILED
-verdict false (some f) = if heavy f then refused FULL else went f
+abbrev pub verdict : Bool → Outcome Effect → Step
+verdict true o = refused DENIED
+verdict false fails = refused FAILED
+verdict false fills = refused FULL
+verdict false (gives f) = if heavy f then refused FULL else went f
 
 abbrev pub step : Session → Command → Step
 step s c = verdict (denied s c) (effect s c)

@@ -1,4 +1,4 @@
--- Document 01, "Program text": the grammar of one line, as readers of its tokens.
+-- Document 01, "Program text", and request M-100 for functions: the grammar of one line, as readers of its tokens.
 use Prim.Native.Nat.{ℕ, zero, suc}
 use Prim.Native.String.{String}
 use mathlib.Core.Option.{Option, none, some}
@@ -6,7 +6,8 @@ use mathlib.Core.List.{List, [], _∷_}
 use lib.ListN.{length}
 use Rattle.language.specs.Text.{Text, bytes, if_then_else_, _==_, _orElse_}
 use Rattle.language.specs.Tokens.{Token, sign, ident, text, wrong}
-use Rattle.language.specs.Syntax.{Name, Right, read, write, append, delegate, Operand, name, dot, quoted, Binding, Expr, single, nothing, fields, Target, every, only, Command, create-principal, change-password, set, append-to, local, foreach, set-delegation, delete-delegation, default-delegator, exit, return}
+use Rattle.language.specs.Syntax.{Name, Right, read, write, append, delegate, Operand, name, dot, quoted, Binding, Function, split, concat, Expr, single, nothing, fields, tolower, call}
+use Rattle.language.specs.Syntax.{Target, every, only, Command, create-principal, change-password, set, append-to, local, foreach, set-delegation, delete-delegation, default-delegator, exit, return}
 
 -- A reader takes what it reads from the front of the tokens.
 abbrev pub Reader : Type 0 → Type 0
@@ -73,10 +74,35 @@ anyFields (suc n) = do
   v ← anyOperand
   (do the "}"; give (record { label = x; operand = v } ∷ [])) ∣ (do the ","; rest ← anyFields n; give (record { label = x; operand = v } ∷ rest))
 
+-- the function of two values that a keyword names
+abbrev pub functionOf : Text → Option Function
+functionOf w =
+    if w == bytes "split" then some split
+    else if w == bytes "concat" then some concat
+    else none
+
+abbrev pub ahead : {A : Type 0} → Option A → Reader A
+ahead none ts = none
+ahead (some a) ts = some (a, ts)
+
+abbrev pub anyFunction : Reader Function
+anyFunction [] = none
+anyFunction (sign w ∷ ts) = ahead (functionOf w) ts
+anyFunction (ident w ∷ ts) = none
+anyFunction (text w ∷ ts) = none
+anyFunction (wrong ∷ ts) = none
+
+-- a function, and as many values as it takes
+abbrev pub anyCall : Reader Expr
+anyCall =
+    (do the "tolower"; the "("; v ← anyOperand; the ")"; give (tolower v))
+    ∣ (do f ← anyFunction; the "("; v ← anyOperand; the ","; w ← anyOperand; the ")"; give (call f v w))
+
 abbrev pub anyExpression : Reader Expr
 anyExpression =
     (do the "[]"; give nothing)
     ∣ (do the "{"; fs ← (λ ts. anyFields (length ts) ts); give (fields fs))
+    ∣ anyCall
     ∣ (do v ← anyOperand; give (single v))
 
 abbrev pub anyRight : Reader Right

@@ -1,4 +1,4 @@
--- The definitions of document 01, each file a subject. Nothing else has to be believed.
+-- The definitions of document 01 and of the requests that change it, each file a subject. Nothing else has to be believed.
 -- Texts and lists
 pub mod Text
 -- "Program text"
@@ -18,6 +18,9 @@ pub mod Decode
 pub mod Chains
 -- "Values" and "Commands"
 pub mod Values
+pub mod Outcomes
+pub mod Functions
+pub mod Expressions
 pub mod Output
 pub mod Commands
 -- "A run" and "Who gets which number"

@@ -1,4 +1,4 @@
--- Document 01, "Program text": the abstract syntax of expressions, commands and programs.
+-- Document 01, "Program text", and request M-100: the abstract syntax of expressions, commands and programs.
 use mathlib.Core.Bool.{Bool, true, false}
 use mathlib.Core.List.{List, [], _∷_}
 use Rattle.language.specs.Text.{Text}
@@ -41,10 +41,16 @@ pub record Binding : Type 0 where
   pub label : Name
   pub operand : Operand
 
+-- the functions of two values (request M-100)
+pub data Function : Type 0 where
+  split concat : Function
+
 pub data Expr : Type 0 where
   single : Operand → Expr
   nothing : Expr
   fields : List Binding → Expr
+  tolower : Operand → Expr
+  call : Function → Operand → Operand → Expr
 
 pub data Target : Type 0 where
   every : Target

@@ -1,4 +1,4 @@
--- Document 01, "Program text": tokens, the longest taken; the first one of a text, and all of a line.
+-- Document 01, "Program text", and request M-100 for parentheses: tokens, the longest taken; the first one of a text, and all of a line.
 use Prim.Native.Nat.{ℕ, zero, suc}
 use mathlib.Core.List.{List, [], _∷_}
 use lib.ListN.{length}
@@ -55,7 +55,7 @@ lexeme newline b bs = end
 lexeme foreign b bs = bad
 lexeme (mark m) b bs =
     if m is "\"" then quotedBy (front stringByte bs) (past stringByte bs)
-    else if m ∈ bytes "=.,{}" then token (sign (m ∷ [])) 0
+    else if m ∈ bytes "=.,{}()" then token (sign (m ∷ [])) 0
     else pair m bs
 
 -- a lexeme's token in front of the tokens that `rest n` gives, those past n bytes more

@@ -1,9 +1,9 @@
--- Document 01, "Values": what an expression is worth to a running program, whatever the rights, and which names it evaluates.
+-- Document 01, "Values": a running program, the values of its names, and what operands and records come to, whatever the rights.
 use mathlib.Core.Bool.{Bool, _||_}
 use mathlib.Core.Option.{Option, none, some}
-use mathlib.Core.List.{List, [], _∷_, _++_, map}
+use mathlib.Core.List.{List, [], _∷_, map}
 use Rattle.language.specs.Text.{Text, if_then_else_, _==_, _>>=_, _orElse_, present, each, distinct}
-use Rattle.language.specs.Syntax.{Name, Operand, name, dot, quoted, Binding, Expr, single, nothing, fields}
+use Rattle.language.specs.Syntax.{Name, Operand, name, dot, quoted, Binding}
 use Rattle.language.specs.State as S
 use Rattle.language.specs.State.{Field, Element, Value, list, Variable, Store, named, valueIn}
 
@@ -30,7 +30,7 @@ isPrincipal s p = present (named (s .store .principals) p)
 abbrev pub lookup : Session → Name → Option Value
 lookup s x = valueIn (s .locals) x orElse valueIn (s .store .variables) x
 
--- ---- expressions: the value, where there is one, whatever the rights
+-- ---- operands and records: the value, where there is one
 
 abbrev pub asFields : Value → Option (List Field)
 asFields (S.single (S.string t)) = none
@@ -69,24 +69,12 @@ fieldValue s b = do
   t ← asString v
   some (record { label = b .label; text = t })
 
-abbrev pub value : Session → Expr → Option Value
-value s (single o) = operandValue s o
-value s nothing = some (list [])
-value s (fields bs) = do
+-- the record that bindings make: no label twice
+abbrev pub recordValue : Session → List Binding → Option Value
+recordValue s bs = do
   fs ← each (fieldValue s) bs
   if distinct (map (λ f. f .label) fs) then some (S.single (S.fields fs)) else none
 
--- the names that an expression evaluates
-abbrev pub operandNames : Operand → List Name
-operandNames (name x) = x ∷ []
-operandNames (dot x y) = x ∷ []
-operandNames (quoted t) = []
-
-abbrev pub bindingNames : List Binding → List Name
-bindingNames [] = []
-bindingNames (b ∷ rest) = operandNames (b .operand) ++ bindingNames rest
-
-abbrev pub names : Expr → List Name
-names (single o) = operandNames o
-names nothing = []
-names (fields bs) = bindingNames bs
+-- the elements of x, where that is a list
+abbrev pub listOf : Session → Name → Option (List Element)
+listOf s x = lookup s x >>= asList

@@ -1,2 +1,3 @@
 -- Laws of whole lines.
+pub mod FirstLine
 pub mod Wholes

@@ -1,22 +1,38 @@
--- Laws of whole lines: nothing but the line's end may follow, and what was read means something.
+-- Laws of whole lines: the tokens of a line end with it, nothing but its end may follow what was read, and that means something.
 -- Assumes nothing.
-use mathlib.Core.Path.{_≡_, refl}
+use mathlib.Core.Path.{_≡_, refl, ap}
+use Prim.Native.Nat.{ℕ}
 use mathlib.Core.Bool.{true, false}
 use mathlib.Core.Option.{Option, none, some}
 use mathlib.Core.List.{List, [], _∷_}
+use lib.ListN.{drop}
 use Rattle.language.specs.Text.{Text, _>>=_, present}
-use Rattle.language.specs.Tokens.{Token}
+use Rattle.language.specs.Tokens.{Token, lex}
 use Rattle.language.specs.Syntax as Syntax
-use Rattle.language.specs.Grammar.{spent, the, anyName, anyString, anyLogin}
+use Rattle.language.specs.Grammar.{spent, whole, the, anyName, anyString, anyLogin, anyCommand, anyEnding}
+use Rattle.language.specs.Programs.{loginLine, commandLine, endingLine}
 use Rattle.syntax.specs.Values.{exprMeant, ExprWithin, recordAt}
 use Rattle.command_readers.specs.Commands.{commandMeant, CommandWithin}
 use Rattle.syntax.specs.declared.Expr.{Expr}
-use Rattle.syntax.specs.declared.Expr.the-variants.{Single, Empty, Record}
+use Rattle.syntax.specs.declared.Expr.the-variants.{Single, Empty, Record, Lower, Call}
 use Rattle.command_readers.specs.declared.Command.{Command}
 use Rattle.command_readers.specs.declared.Command.the-variants.{Administer, Variable}
 use Rattle.command_readers.specs.declared.Administration.the-variants.{CreatePrincipal, ChangePassword, SetDelegation, DeleteDelegation, DefaultDelegator, Exit}
 use Rattle.command_readers.specs.declared.VariableCommand.the-variants.{Set, Append, Local, Foreach, Return}
+use Rattle.program_lines.specs.Lines.{lineFrom}
 use Rattle.line_readers.specs.WholeLines.{isNil}
+use Rattle.line_readers.proofs.FirstLine.{lex-line}
+
+-- ---- a line is what the tokens of the text from its place on say, for they end with the line
+module _ (t : Text) (at : ℕ) where
+  pub login-tokens : loginLine (lineFrom t at) ≡ whole anyLogin (lex (drop at t))
+  login-tokens = ap (whole anyLogin) (lex-line (drop at t))
+
+  pub command-tokens : commandLine (lineFrom t at) ≡ whole anyCommand (lex (drop at t))
+  command-tokens = ap (whole anyCommand) (lex-line (drop at t))
+
+  pub ending-tokens : endingLine (lineFrom t at) ≡ whole anyEnding (lex (drop at t))
+  ending-tokens = ap (whole anyEnding) (lex-line (drop at t))
 
 -- ---- the line's end after what was read
 module _ {A : Type 0} where
@@ -51,6 +67,8 @@ expr-meant : (t : Text) (e : Expr) → ExprWithin t e → present (exprMeant t e
 expr-meant t (Single v) h = refl
 expr-meant t Empty h = refl
 expr-meant t (Record p) h = bound (recordAt t p) (λ r. Syntax.fields (r .0)) (h .1)
+expr-meant t (Lower v) h = refl
+expr-meant t (Call f v w) h = refl
 
 pub command-meant : (t : Text) (c : Command) → CommandWithin t c → present (commandMeant t c) ≡ true
 command-meant t (Administer (CreatePrincipal p s)) h = refl

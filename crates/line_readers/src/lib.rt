@@ -9,7 +9,8 @@ ghost use mathlib.Core.Path.{_≡_};
 ghost use Prim.Native.Nat.{_≤_};
 ghost use lib.ListN.{length, drop};
 ghost use Rattle.language.specs.Tokens.{lex};
-ghost use Rattle.language.specs.Grammar.{whole, anyLogin, anyCommand, anyEnding};
+ghost use Rattle.language.specs.Programs.{loginLine, commandLine, endingLine};
+ghost use Rattle.program_lines.specs.Lines.{lineFrom};
 ghost use Rattle.line_readers.specs.WholeLines.{isNil, lineReadMeant, LineWithin, loginMeant, LoginWithin};
 
 // Whether the line ends here, perhaps after a comment.
@@ -35,7 +36,7 @@ pub enum LineRead {
 
 pub fn command_line(text: &[u8], at: usize) -> LineRead
     requires { ⌜ at ≤ length (now text) ⌝ }
-    ensures meant { λ r. ⌜ lineReadMeant (now (text .entry)) r ≡ whole anyCommand (lex (drop at (now (text .entry)))) ⌝ }
+    ensures meant { λ r. ⌜ lineReadMeant (now (text .entry)) r ≡ commandLine (lineFrom (now (text .entry)) at) ⌝ }
     ensures placed { λ r. ⌜ LineWithin (now (text .entry)) r ⌝ }
 {
     let command = command_readers::command_at(text, at);
@@ -50,7 +51,7 @@ pub fn command_line(text: &[u8], at: usize) -> LineRead
 
 pub fn ending_line(text: &[u8], at: usize) -> LineRead
     requires { ⌜ at ≤ length (now text) ⌝ }
-    ensures meant { λ r. ⌜ lineReadMeant (now (text .entry)) r ≡ whole anyEnding (lex (drop at (now (text .entry)))) ⌝ }
+    ensures meant { λ r. ⌜ lineReadMeant (now (text .entry)) r ≡ endingLine (lineFrom (now (text .entry)) at) ⌝ }
     ensures placed { λ r. ⌜ LineWithin (now (text .entry)) r ⌝ }
 {
     let ending = command_readers::ending_at(text, at);
@@ -72,7 +73,7 @@ pub enum LoginRead {
 // as principal p password s do
 pub fn login_line(text: &[u8], at: usize) -> LoginRead
     requires { ⌜ at ≤ length (now text) ⌝ }
-    ensures meant { λ r. ⌜ loginMeant (now (text .entry)) r ≡ whole anyLogin (lex (drop at (now (text .entry)))) ⌝ }
+    ensures meant { λ r. ⌜ loginMeant (now (text .entry)) r ≡ loginLine (lineFrom (now (text .entry)) at) ⌝ }
     ensures placed { λ r. ⌜ LoginWithin (now (text .entry)) r ⌝ }
 {
     let one = tokens::reader::expect(text, at, b"as");

@@ -1,7 +1,7 @@
 -- What the texts of a running session say of a name, and what the answers about rights say of a command.
 -- Assumes nothing.
-use mathlib.Core.Path.{_≡_, refl, sym, ap, _∙_}
-use mathlib.Core.Bool.{Bool, true, false, _&&_, _||_, not}
+use mathlib.Core.Path.{_≡_, refl, sym, ap, subst, _∙_}
+use mathlib.Core.Bool.{Bool, true, false, _||_, not}
 use mathlib.Core.Option.{Option, none, some}
 use mathlib.Core.List.{List, [], _∷_}
 use Prim.Native.Nat.{ℕ}
@@ -10,9 +10,10 @@ use borrow.Author.Tests.{lt-ltb}
 use lib.Dec.{ltb}
 use lib.ListN.{length}
 use Rattle.language.specs.Text.{Text, if_then_else_, any, present, _orElse_}
-use Rattle.language.specs.Syntax.{Name, Right, write, append, Expr, set, append-to, local}
+use Rattle.language.specs.Syntax.{Name, Right, write, append, Expr, set, append-to}
 use Rattle.language.specs.State.{string, fields, Value, single, list, valueIn}
-use Rattle.language.specs.Values.{Session, lookup, asList, isShared, isDefined, names}
+use Rattle.language.specs.Values.{Session, lookup, asList, isShared, isDefined}
+use Rattle.language.specs.Expressions.{value, names}
 use Rattle.language.specs.Chains.{has}
 use Rattle.language.specs.Commands.{met, need, reads, denied}
 use Rattle.values.specs.Encoding.{Holds}
@@ -22,11 +23,17 @@ use Rattle.values.specs.declared.Kind.the-variants as Is
 use Rattle.values.proofs.Texts.{some-bytes}
 use Rattle.evaluate.specs.Scopes.{ReadAs}
 use Rattle.permits.specs.Permits.{allowedOn, unread}
+use Rattle.evaluated.specs.Results.{Valued}
+use Rattle.evaluated.specs.declared.Evaluated.{Evaluated}
+use Rattle.evaluated.specs.declared.Evaluated.the-variants as Worth
 use Rattle.evaluate.proofs.Found.{something-read}
 use Rattle.session.specs.declared.Layout.{Layout}
 use Rattle.session.specs.Sessions.{Slices, Running}
 use Rattle.session.proofs.Scoping.{scope, sends}
 use Rattle.lookup.specs.Looks.{elementsIn, Scoped, Sending}
+use Rattle.lookup.specs.Told.{Answers}
+use Rattle.lookup.specs.declared.Answered.{Answered}
+use Rattle.lookup.specs.declared.Answered.the-variants as Told
 use Rattle.language.proofs.Logic.Lists.{any-joined}
 
 -- ---- a running session is what is asked for
@@ -68,19 +75,6 @@ defined-said s x t r = bytes (lookup s x) r ∙ either (valueIn (s .locals) x) (
 
 -- ---- the rights
 
-pub not-used : (a u b : Bool) → b ≡ a → not b ≡ true → false ≡ (a && not u)
-not-used true u true e f = absurd (let z : _≡_ {A = ℕ} 0 1 = cc in omega arith)
-not-used true u false e f = absurd (let z : _≡_ {A = ℕ} 0 1 = cc in omega arith)
-not-used false u b e f = refl
-
-pub used : (a u b c : Bool) → b ≡ a → not b ≡ false → u ≡ not c → c ≡ (a && not u)
-used true true b true e t q = q
-used true true b false e t q = refl
-used true false b true e t q = refl
-used true false b false e t q = q
-used false u true c e t q = absurd (let z : _≡_ {A = ℕ} 0 1 = cc in omega arith)
-used false u false c e t q = absurd (let z : _≡_ {A = ℕ} 0 1 = cc in omega arith)
-
 module _ (s : Session) (x : Name) (e : Expr) where
   one-need : (r : Right) → any (λ n. not (met s n)) (need s (r ∷ []) x) ≡ not (allowedOn s r x)
   one-need r = go (isShared s x) (has (s .store) r x (s .sender)) refl
@@ -107,37 +101,31 @@ module _ (s : Session) (x : Name) (e : Expr) where
       go true = two (has (s .store) write x (s .sender)) (has (s .store) append x (s .sender))
       go false = refl
 
-  pub denied-set : (b : Bool) → b ≡ (allowedOn s write x && not (unread s (names e))) → denied s (set x e) ≡ not b
-  denied-set b q =
-      any-joined (λ n. not (met s n)) (need s (write ∷ []) x) (reads s (names e)) ∙ ap (λ (z : Bool). z || unread s (names e)) (one-need write)
-      ∙ go (allowedOn s write x) (unread s (names e)) ∙ ap not (sym q)
-    where
-      go : (a u : Bool) → (not a || u) ≡ not (a && not u)
-      go true true = refl
-      go true false = refl
-      go false u = refl
+  -- a command is denied by its own rule, or by what its expression reads
+  pub denied-set : denied s (set x e) ≡ (not (allowedOn s write x) || unread s (names e))
+  denied-set = any-joined (λ n. not (met s n)) (need s (write ∷ []) x) (reads s (names e)) ∙ ap (λ (z : Bool). z || unread s (names e)) (one-need write)
 
-  pub denied-append : (b c : Bool) → b ≡ (allowedOn s write x && not (unread s (names e))) → c ≡ (allowedOn s append x && not (unread s (names e)))
-      → denied s (append-to x e) ≡ not (b || c)
-  denied-append b c p q =
-      any-joined (λ n. not (met s n)) (need s (write ∷ append ∷ []) x) (reads s (names e)) ∙ ap (λ (z : Bool). z || unread s (names e)) two-needs
-      ∙ go (allowedOn s write x) (allowedOn s append x) (unread s (names e)) ∙ (λ i. not (sym p i || sym q i))
-    where
-      go : (a b u : Bool) → (not (a || b) || u) ≡ not ((a && not u) || (b && not u))
-      go true b true = other b
-        where
-          other : (b : Bool) → true ≡ not (b && false)
-          other true = refl
-          other false = refl
-      go true b false = refl
-      go false true true = refl
-      go false true false = refl
-      go false false u = refl
+  pub denied-append : denied s (append-to x e) ≡ (not (allowedOn s write x || allowedOn s append x) || unread s (names e))
+  denied-append = any-joined (λ n. not (met s n)) (need s (write ∷ append ∷ []) x) (reads s (names e)) ∙ ap (λ (z : Bool). z || unread s (names e)) two-needs
 
-  pub denied-local : (b : Bool) → unread s (names e) ≡ not b → denied s (local x e) ≡ not b
-  denied-local b q = q
+-- ---- the answer for an expression
 
-  -- write alone will do
-  pub denied-first : (b : Bool) → b ≡ (allowedOn s write x && not (unread s (names e))) → b ≡ true → denied s (append-to x e) ≡ not true
-  denied-first b q t =
-      denied-append b (allowedOn s append x && not (unread s (names e))) q refl ∙ ap (λ (z : Bool). not (z || (allowedOn s append x && not (unread s (names e))))) t
+abbrev answerTo : Evaluated → Answered
+answerTo (Worth.Value n w) = Told.Value n w
+answerTo Worth.Missing = Told.Missing
+answerTo Worth.Heavy = Told.Heavy
+
+-- where the sender may read it, what the evaluation answers
+pub told : (s : Session) (e : Expr) (out : Text) (b : Bool) (r k : Evaluated) → unread s (names e) ≡ not b → not b ≡ false → Valued r (value s e) out → r ≡ k
+    → Answers (answerTo k) s e out
+told s e out b r k u f h q = go k (subst (λ (z : Evaluated). Valued z (value s e) out) q h)
+  where
+    go : (k : Evaluated) → Valued k (value s e) out → Answers (answerTo k) s e out
+    go (Worth.Value n w) h = (u ∙ f, h)
+    go Worth.Missing h = (u ∙ f, h)
+    go Worth.Heavy h = (u ∙ f, h)
+
+-- write or append
+pub either-right : (a b : Bool) (c d : Bool) → c ≡ a → c ≡ false → d ≡ b → d ≡ (a || b)
+either-right true b c d e f g = absurd (let z : _≡_ {A = ℕ} 0 1 = cc in omega arith)
+either-right false b c d e f g = g

@@ -2,46 +2,46 @@
 use assertion::APPEND;
 use assertion::WRITE;
 use contents::read;
-use evaluate::result::Evaluated;
+use evaluated::Evaluated;
 use permits::allowed;
 use permits::readable;
 use session::Layout;
 use syntax::Expr;
-use text::Span;
 use values::Kind;
 ghost use mathlib.Core.Path.{_≡_};
-ghost use mathlib.Core.Bool.{not, _&&_};
+ghost use mathlib.Core.Bool.{not, _||_};
 ghost use mathlib.Core.Option.{Option, some};
 ghost use Rattle.language.specs.Text.{present};
 ghost use Rattle.language.specs.State.{Value};
 ghost use Rattle.language.specs.Syntax as Syntax;
-ghost use Rattle.language.specs.Values as Values;
-ghost use Rattle.language.specs.Values.{Session, lookup, isDefined, names};
-ghost use Rattle.language.specs.Commands.{denied};
+ghost use Rattle.language.specs.Syntax.{write, append};
+ghost use Rattle.language.specs.Values.{Session, lookup, isDefined};
+ghost use Rattle.language.specs.Expressions as Expressions;
+ghost use Rattle.language.specs.Expressions.{names};
 ghost use Rattle.named_rights.specs.Numbers.{code};
 ghost use Rattle.permits.specs.Permits.{allowedOn, unread};
-ghost use Rattle.text.specs.Meaning.{part, Within};
 ghost use Rattle.syntax.specs.Values.{exprMeant, SomeExpr};
 ghost use Rattle.evaluate.specs.Scopes.{ReadAs, SomeRead};
-ghost use Rattle.evaluate.specs.Results.{Valued};
+ghost use Rattle.evaluated.specs.Results.{Valued};
 ghost use Rattle.evaluate.specs.Drafts.{Lent};
 ghost use Rattle.lookup.specs.Looks.{elementsIn, Scoped, SomeScoped, Sending, SomeSending, Said};
+ghost use Rattle.lookup.specs.Told.{Answers};
 
 // The value of an expression, written from the start of `value` on.
-pub fn worth<'a>(
+fn worth<'a>(
     vars: &'a [u8],
     variable_slots: &[u32],
     locals: &'a [u8],
     local_slots: &[u32],
     l: Layout,
-    text: &[u8],
+    text: &'a [u8],
     e: Expr,
     value: &mut [u8],
     labels: &mut [u32],
 ) -> Evaluated
     requires { ⌜ SomeScoped l (now vars) (now «variable_slots») (now locals) (now «local_slots») × Said (now text) e × Lent (now value) (now labels) ⌝ }
     ensures { λ r. ⌜ ((s : Session) (y : Syntax.Expr) → Scoped s l (now (vars .entry)) (now («variable_slots» .entry)) (now (locals .entry)) (now («local_slots» .entry))
-        → exprMeant (now (text .entry)) e ≡ some y → Valued r (Values.value s y) (now (value .exit))) ⌝ }
+        → exprMeant (now (text .entry)) e ≡ some y → Valued r (Expressions.value s y) (now (value .exit))) ⌝ }
 {
     let n = l.vars_len;
     let m = l.locals_len;
@@ -188,45 +188,69 @@ pub fn may_do(
     )
 }
 
-// Whether the sender may do to the name at x what the right allows, and may read all that an expression evaluates.
-pub fn may_use(
-    vars: &[u8],
-    variable_slots: &[u32],
-    assertions: &[u64],
-    l: Layout,
-    text: &[u8],
-    x: Span,
-    e: Expr,
-    right: u16,
-) -> bool
-    requires { ⌜ SomeSending l (now vars) (now «variable_slots») (now assertions) × Said (now text) e × Within (now text) x ⌝ }
-    ensures { λ b. ⌜ ((s : Session) (y : Syntax.Expr) (r : Syntax.Right) → Sending s l (now (vars .entry)) (now («variable_slots» .entry)) (now (assertions .entry))
-        → exprMeant (now (text .entry)) e ≡ some y → right ≡ code r → b ≡ (allowedOn s r (part (now (text .entry)) x) && not (unread s (names y)))) ⌝ }
-{
-    let a = x.start;
-    let b = x.end;
-    if !may_do(vars, variable_slots, assertions, l, &text[a..b], right) {
-        return false;
-    }
-    may_read(vars, variable_slots, assertions, l, text, e)
-}
-
-// Whether the sender may append to the name at x: write or append will do.
+// Whether the sender may append to a name: write or append will do.
 pub fn may_append(
     vars: &[u8],
     variable_slots: &[u32],
     assertions: &[u64],
     l: Layout,
-    text: &[u8],
-    x: Span,
-    e: Expr,
+    name: &[u8],
 ) -> bool
-    requires { ⌜ SomeSending l (now vars) (now «variable_slots») (now assertions) × Said (now text) e × Within (now text) x ⌝ }
-    ensures { λ b. ⌜ ((s : Session) (y : Syntax.Expr) → Sending s l (now (vars .entry)) (now («variable_slots» .entry)) (now (assertions .entry))
-        → exprMeant (now (text .entry)) e ≡ some y → denied s (Syntax.append-to (part (now (text .entry)) x) y) ≡ not b) ⌝ }
+    requires { ⌜ SomeSending l (now vars) (now «variable_slots») (now assertions) ⌝ }
+    ensures { λ b. ⌜ ((s : Session) → Sending s l (now (vars .entry)) (now («variable_slots» .entry)) (now (assertions .entry))
+        → b ≡ (allowedOn s write (now (name .entry)) || allowedOn s append (now (name .entry)))) ⌝ }
 {
-    if may_use(vars, variable_slots, assertions, l, text, x, e, WRITE) {
+    if may_do(vars, variable_slots, assertions, l, name, WRITE) {
         return true;
     }
-    may_use(vars, variable_slots, assertions, l, text, x, e, APPEND)
+    may_do(vars, variable_slots, assertions, l, name, APPEND)
+}
+
+// What a session says of an expression to the sender of a program: that it may not be read; that it comes to no value, or to one that is too
+// heavy; or the value, whose text stands in the first `len` bytes that were lent for it.
+pub enum Answered {
+    Denied,
+    Missing,
+    Heavy,
+    Value { len: usize, weight: usize },
+}
+
+// The answer for an expression. The command asks its own rule of the sender first.
+pub fn answer<'a>(
+    vars: &'a [u8],
+    variable_slots: &[u32],
+    locals: &'a [u8],
+    local_slots: &[u32],
+    assertions: &[u64],
+    l: Layout,
+    text: &'a [u8],
+    e: Expr,
+    value: &mut [u8],
+    labels: &mut [u32],
+) -> Answered
+    requires { ⌜ SomeScoped l (now vars) (now «variable_slots») (now locals) (now «local_slots») × SomeSending l (now vars) (now «variable_slots») (now assertions) ⌝ }
+    requires { ⌜ Said (now text) e × Lent (now value) (now labels) ⌝ }
+    ensures { λ r. ⌜ ((s : Session) (y : Syntax.Expr) → Scoped s l (now (vars .entry)) (now («variable_slots» .entry)) (now (locals .entry)) (now («local_slots» .entry))
+        → Sending s l (now (vars .entry)) (now («variable_slots» .entry)) (now (assertions .entry))
+        → exprMeant (now (text .entry)) e ≡ some y → Answers r s y (now (value .exit))) ⌝ }
+{
+    if !may_read(vars, variable_slots, assertions, l, text, e) {
+        return Answered::Denied;
+    }
+    let v = worth(
+        vars,
+        variable_slots,
+        locals,
+        local_slots,
+        l,
+        text,
+        e,
+        value,
+        labels,
+    );
+    match v {
+        Evaluated::Value { len, weight } => Answered::Value { len, weight },
+        Evaluated::Missing => Answered::Missing,
+        Evaluated::Heavy => Answered::Heavy,
+    }
 }

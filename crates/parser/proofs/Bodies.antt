@@ -8,15 +8,15 @@ use Prim.Native.Nat.{_≤_, _<_}
 use lib.ListN.{length}
 use borrow.Author.Tests.{le-leb, lt-leb}
 use Rattle.language.specs.Text.{Text, bytes, _>>=_, _==_, parts, present}
-use Rattle.language.specs.Tokens.{Token, sign, ident, text, wrong}
+use Rattle.language.specs.Tokens.{Token, sign, ident, text, wrong, lex}
 use Rattle.language.specs.Syntax.{Command}
-use Rattle.language.specs.Grammar.{Opening, spent, whole, anyLogin, anyCommand, anyEnding}
-use Rattle.language.specs.Programs.{above, lexed, body, program, longest, parse}
+use Rattle.language.specs.Grammar.{Opening, spent, whole, anyCommand, anyEnding}
+use Rattle.language.specs.Programs.{above, written, loginLine, commandLine, endingLine, body, program, longest, parse}
 use Rattle.text.proofs.Words.{same-true}
-use Rattle.program_lines.specs.Lines.{lexedFrom, ahead}
+use Rattle.program_lines.specs.Lines.{writtenFrom, ahead}
 use Rattle.parser.specs.Bodies.{isEmpty, withBody}
 
--- a line is not both a command and an ending
+-- tokens are not both those of a command and those of an ending, and so no line is both
 disjoint : (ts : List Token) → present (whole anyCommand ts) ≡ true → anyEnding ts ≡ none
 disjoint [] h = refl
 disjoint (sign w ∷ ts) h = go (w == bytes "exit") (w == bytes "return") refl refl
@@ -35,8 +35,8 @@ disjoint (ident w ∷ ts) h = refl
 disjoint (text w ∷ ts) h = refl
 disjoint (wrong ∷ ts) h = refl
 
-no-ending : (ts : List Token) → present (whole anyCommand ts) ≡ true → whole anyEnding ts ≡ none
-no-ending ts h = ap spent (disjoint ts h)
+no-ending : (l : Text) → present (commandLine l) ≡ true → endingLine l ≡ none
+no-ending l h = ap spent (disjoint (lex l) h)
 
 -- what k makes of what is there is there
 pub bound : {A B : Type 0} (o : Option A) (k : A → B) → present (o >>= λ a. some (k a)) ≡ present o
@@ -44,46 +44,46 @@ bound none k = refl
 bound (some a) k = refl
 
 -- ---- the lines of a body: a line l in front of those in o
-module _ (l : List Token) where
-  pub command-body : (o : Option (List (List Token))) (k : Command) → whole anyCommand l ≡ some k → (ahead l o >>= body) ≡ ((o >>= body) >>= λ cs. some (k ∷ cs))
+module _ (l : Text) where
+  pub command-body : (o : Option (List Text)) (k : Command) → commandLine l ≡ some k → (ahead l o >>= body) ≡ ((o >>= body) >>= λ cs. some (k ∷ cs))
   command-body none k h = refl
   command-body (some []) k h = rw (no-ending l (ap present h))
   command-body (some (m ∷ ls)) k h = rw h
 
-  pub ending-body : (o : Option (List (List Token))) (k : Command) → whole anyEnding l ≡ some k → isEmpty o ≡ true → (ahead l o >>= body) ≡ some (k ∷ [])
+  pub ending-body : (o : Option (List Text)) (k : Command) → endingLine l ≡ some k → isEmpty o ≡ true → (ahead l o >>= body) ≡ some (k ∷ [])
   ending-body none k h z = cc
   ending-body (some []) k h z = rw h
   ending-body (some (m ∷ ls)) k h z = cc
 
-  pub ending-more : (o : Option (List (List Token))) → whole anyCommand l ≡ none → isEmpty o ≡ false → (ahead l o >>= body) ≡ none
+  pub ending-more : (o : Option (List Text)) → commandLine l ≡ none → isEmpty o ≡ false → (ahead l o >>= body) ≡ none
   ending-more none h z = refl
   ending-more (some []) h z = cc
   ending-more (some (m ∷ ls)) h z = rw h
 
-  pub neither-body : (o : Option (List (List Token))) → whole anyCommand l ≡ none → whole anyEnding l ≡ none → (ahead l o >>= body) ≡ none
+  pub neither-body : (o : Option (List Text)) → commandLine l ≡ none → endingLine l ≡ none → (ahead l o >>= body) ≡ none
   neither-body none h e = refl
   neither-body (some []) h e = rw e
   neither-body (some (m ∷ ls)) h e = rw h
 
-pub ahead-more : (l : List Token) (o : Option (List (List Token))) → isEmpty (ahead l o) ≡ false
+pub ahead-more : (l : Text) (o : Option (List Text)) → isEmpty (ahead l o) ≡ false
 ahead-more l none = refl
 ahead-more l (some ls) = refl
 
 -- ---- the program
-pub no-login : (l : List Token) (o : Option (List (List Token))) → whole anyLogin l ≡ none → (ahead l o >>= program) ≡ none
+pub no-login : (l : Text) (o : Option (List Text)) → loginLine l ≡ none → (ahead l o >>= program) ≡ none
 no-login l none h = refl
 no-login l (some ls) h = rw h
 
-pub with-login : (l : List Token) (o : Option (List (List Token))) {p : Opening} → whole anyLogin l ≡ some p → (ahead l o >>= program) ≡ withBody p (o >>= body)
+pub with-login : (l : Text) (o : Option (List Text)) {p : Opening} → loginLine l ≡ some p → (ahead l o >>= program) ≡ withBody p (o >>= body)
 with-login l none h = refl
 with-login l (some ls) h = rw h
 
-joined : (o : Option (List Text)) → (o >>= λ ls. program (lexed ls)) ≡ ((o >>= λ ls. some (lexed ls)) >>= program)
+joined : (o : Option (List Text)) → (o >>= λ ls. program (written ls)) ≡ ((o >>= λ ls. some (written ls)) >>= program)
 joined none = refl
 joined (some ls) = refl
 
 pub parse-long : (t : Text) → longest < length t → parse t ≡ none
 parse-long t h = rw (lt-leb (length t) longest h)
 
-pub parse-is : (t : Text) → length t ≤ longest → parse t ≡ (lexedFrom t 0 >>= program)
+pub parse-is : (t : Text) → length t ≤ longest → parse t ≡ (writtenFrom t 0 >>= program)
 parse-is t h = rw (le-leb (length t) longest h) (joined (above (parts 10 t)))

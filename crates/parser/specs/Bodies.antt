@@ -7,7 +7,6 @@ use mathlib.Core.List.{List, [], _∷_}
 use lib.Dec.{T}
 use lib.ListN.{length}
 use Rattle.language.specs.Text.{Text, _>>=_}
-use Rattle.language.specs.Tokens.{Token}
 use Rattle.language.specs.Syntax as Syntax
 use Rattle.language.specs.Grammar.{Opening}
 use Rattle.language.specs.Programs.{body, longest}
@@ -22,17 +21,17 @@ use Rattle.parser.specs.declared.Rest.{Rest}
 use Rattle.parser.specs.declared.Rest.the-variants.{At, End}
 use Rattle.parser.specs.declared.Read.{Read}
 use Rattle.parser.specs.declared.Read.the-variants.{Command, Broken}
-use Rattle.program_lines.specs.Lines.{lexedFrom}
+use Rattle.program_lines.specs.Lines.{writtenFrom}
 
 -- nothing but `***` is left
-abbrev pub isEmpty : Option (List (List Token)) → Bool
+abbrev pub isEmpty : Option (List Text) → Bool
 isEmpty none = false
 isEmpty (some []) = true
 isEmpty (some (l ∷ ls)) = false
 
 -- the commands and the ending of the lines from place `at` on up to `***`
 abbrev pub bodyFrom : Text → ℕ → Option (List Syntax.Command)
-bodyFrom t at = lexedFrom t at >>= body
+bodyFrom t at = writtenFrom t at >>= body
 
 -- ---- the login: the program that has it and the commands that o is
 abbrev pub withBody : Opening → Option (List Syntax.Command) → Option Syntax.Program

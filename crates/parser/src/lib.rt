@@ -9,7 +9,7 @@ ghost use Prim.Native.Nat.{_≤_};
 ghost use lib.ListN.{length};
 ghost use Rattle.language.specs.Text.{present};
 ghost use Rattle.language.specs.Programs.{parse};
-ghost use Rattle.program_lines.specs.Lines.{lexedFrom};
+ghost use Rattle.program_lines.specs.Lines.{writtenFrom};
 ghost use Rattle.parser.specs.Bodies.{isEmpty, bodyFrom, headMeant, HeadWithin, ReadFrom};
 
 // The login of a text: who sends it, the password, and where its commands start.
@@ -63,7 +63,7 @@ pub enum Read {
 // Whether nothing but `***` follows from `at` on.
 fn stars_at(text: &[u8], at: usize) -> bool
     requires { ⌜ at ≤ length (now text) ⌝ }
-    ensures { λ r. ⌜ r ≡ isEmpty (lexedFrom (now (text .entry)) at) ⌝ }
+    ensures { λ r. ⌜ r ≡ isEmpty (writtenFrom (now (text .entry)) at) ⌝ }
 {
     let step = program_lines::next_line(text, at);
     match step {

@@ -9,7 +9,8 @@ use native.Mathlib.Omega.{arith}
 use borrow.Author.Tests.{lt-ltb, le-ltb}
 use lib.Dec.{T}
 use lib.ListN.{length, take}
-use Rattle.language.specs.Text.{Text, given, _>>_}
+use Rattle.language.specs.Text.{Text}
+use Rattle.language.specs.Outcomes.{gives, provided, _>>_}
 use Rattle.language.specs.Syntax.{Name, change-password}
 use Rattle.language.specs.Identifiers.{isIdentifier, isString}
 use Rattle.language.specs.Weight.{limit, passwordWeight, principalWeight}
@@ -47,7 +48,7 @@ module _ (s : Session) (l : Layout) (b : Slices) (R : Running s l b) (p : Name) 
   pub password-failed : (l .sender ≡ 0) ⊎ (l .sender ≡ n) → n ≡ l .principals → step s (change-password p t) ≡ refused FAILED
   password-failed m h =
       is-failed s (change-password p t) (they-may s l b R p n n-is m)
-      (ap (λ (c : Bool). given c >> done "CHANGE_PASSWORD" [] after) (is-missing s l b R p n n-is h))
+      (ap (λ (c : Bool). provided c >> done "CHANGE_PASSWORD" after) (is-missing s l b R p n n-is h))
 
   module _ (h : n < l .principals) where
     below : n < length (s .store .principals)
@@ -64,10 +65,10 @@ module _ (s : Session) (l : Layout) (b : Slices) (R : Running s l b) (p : Name) 
 
     module _ (m : (l .sender ≡ 0) ⊎ (l .sender ≡ n)) where
       abbrev out : Effect
-      out = record { after = after; values = []; line = status "CHANGE_PASSWORD" }
+      out = record { after = after; line = status "CHANGE_PASSWORD" }
 
-      does : effect s (change-password p t) ≡ some out
-      does = ap (λ (c : Bool). given c >> done "CHANGE_PASSWORD" [] after) (is-there s l b R p n n-is h)
+      does : effect s (change-password p t) ≡ gives out
+      does = ap (λ (c : Bool). provided c >> done "CHANGE_PASSWORD" after) (is-there s l b R p n n-is h)
 
       pub password-full : limit < sessionWeight after → step s (change-password p t) ≡ refused FULL
       password-full w = is-full s (change-password p t) out (they-may s l b R p n n-is m) does (lt-ltb limit (sessionWeight after) w)

@@ -7,13 +7,17 @@ use mathlib.Core.Option.{Option, none, some}
 use mathlib.Core.List.{List, [], _∷_, _++_, append-assoc}
 use Rattle.language.specs.Text.{Text, if_then_else_, any}
 use Rattle.language.specs.Tokens.{Token}
-use Rattle.language.specs.Syntax.{Name, read, Binding}
-use Rattle.language.specs.Values.{Session, isShared, operandNames, bindingNames}
+use Rattle.language.specs.Syntax.{Name, read, Binding, Expr}
+use Rattle.language.specs.Values.{Session, isShared}
+use Rattle.language.specs.Expressions.{operandNames, bindingNames, names}
 use Rattle.language.specs.Chains.{has}
 use Rattle.language.specs.Commands.{Need, need, met, reads}
-use Rattle.syntax.specs.Values.{recordAt, withField, SomeRecord}
+use Rattle.syntax.specs.declared.Expr as Read
+use Rattle.syntax.specs.declared.Expr.the-variants.{Single, Lower}
+use Rattle.syntax.specs.declared.Operand as ReadOperand
+use Rattle.syntax.specs.Values.{operandMeant, OperandWithin, recordAt, withField, exprMeant, SomeExpr, SomeRecord}
 use Rattle.permits.specs.Permits.{allowedOn, unread}
-use Rattle.syntax.proofs.Said.{Next, next-field}
+use Rattle.syntax.proofs.Said.{single-meant, lower-meant, single-safe, lower-safe, Next, next-field}
 use Rattle.language.proofs.Logic.Lists.{any-joined}
 
 -- ---- one name, and names in a row
@@ -36,6 +40,28 @@ reads-append s (x ∷ xs) ys = ap (λ (l : List Need). need s (read ∷ []) x ++
 
 unread-append : (s : Session) (xs ys : List Name) → unread s (xs ++ ys) ≡ (unread s xs || unread s ys)
 unread-append s xs ys = ap (any (λ n. not (met s n))) (reads-append s xs ys) ∙ any-joined (λ n. not (met s n)) (reads s xs) (reads s ys)
+
+-- ---- an expression that evaluates one value, as it stands or in lower case
+
+pub record OneValue (t : Text) (e : Read.Expr) (v : ReadOperand.Operand) : Type 0 where
+  pub within : OperandWithin t v
+  pub evaluates : (x : Expr) → exprMeant t e ≡ some x → names x ≡ operandNames (operandMeant t v)
+
+module _ (t : Text) (e : Read.Expr) (E : SomeExpr t e) (v : ReadOperand.Operand) where
+  pub of-single : e ≡ Single v → OneValue t e v
+  of-single q = record { within = single-safe t e E v q .0; evaluates = λ x m. ap names (single-meant t e v x q m) }
+
+  pub of-lower : e ≡ Lower v → OneValue t e v
+  of-lower q = record { within = lower-safe t e E v q .0; evaluates = λ x m. ap names (lower-meant t e v x q m) }
+
+-- ---- two values
+
+module _ (s : Session) (xs ys : List Name) where
+  pub first-unread : unread s xs ≡ true → unread s (xs ++ ys) ≡ true
+  first-unread q = unread-append s xs ys ∙ ap (λ (c : Bool). c || unread s ys) q
+
+  pub second-decides : unread s xs ≡ false → unread s (xs ++ ys) ≡ unread s ys
+  second-decides q = unread-append s xs ys ∙ ap (λ (c : Bool). c || unread s ys) q
 
 -- ---- fields
 

@@ -7,11 +7,12 @@ use syntax::Operand;
 ghost use mathlib.Core.Path.{_≡_};
 ghost use mathlib.Core.Bool.{not};
 ghost use mathlib.Core.Option.{some};
-ghost use mathlib.Core.List.{List};
+ghost use mathlib.Core.List.{List, _++_};
 ghost use Rattle.language.specs.Tokens.{Token};
 ghost use Rattle.language.specs.Syntax.{Right, Binding};
 ghost use Rattle.language.specs.Syntax as Syntax;
-ghost use Rattle.language.specs.Values.{Session, operandNames, bindingNames, names};
+ghost use Rattle.language.specs.Values.{Session};
+ghost use Rattle.language.specs.Expressions.{operandNames, bindingNames, names};
 ghost use Rattle.syntax.specs.Values.{operandMeant, OperandWithin, recordAt, exprMeant, SomeExpr, SomeRecord};
 ghost use Rattle.named_rights.specs.Numbers.{code};
 ghost use Rattle.permits.specs.Permits.{Sends, SomeSender, allowedOn, unread};
@@ -136,7 +137,50 @@ fn fields_readable(
     }
 }
 
-// Whether the sender may read all names that an expression evaluates.
+// Whether the sender may read the names that both values of a call evaluate.
+fn both_readable(
+    shared: &[u8],
+    slots: &[u32],
+    count: usize,
+    assertions: &[u64],
+    n: usize,
+    principals: usize,
+    sender: usize,
+    text: &[u8],
+    first: Operand,
+    second: Operand,
+) -> bool
+    requires { ⌜ SomeSender (now shared) (now slots) count (now assertions) n principals sender × OperandWithin (now text) first × OperandWithin (now text) second ⌝ }
+    ensures { λ b. ⌜ ((s : Session) → Sends s (now (shared .entry)) (now (slots .entry)) count (now (assertions .entry)) n principals sender
+        → unread s (operandNames (operandMeant (now (text .entry)) first) ++ operandNames (operandMeant (now (text .entry)) second)) ≡ not b) ⌝ }
+{
+    if !operand_readable(
+        shared,
+        slots,
+        count,
+        assertions,
+        n,
+        principals,
+        sender,
+        text,
+        first,
+    ) {
+        return false;
+    }
+    operand_readable(
+        shared,
+        slots,
+        count,
+        assertions,
+        n,
+        principals,
+        sender,
+        text,
+        second,
+    )
+}
+
+// Whether the sender may read all names that an expression evaluates. What `tolower` evaluates is its value.
 pub fn readable(
     shared: &[u8],
     slots: &[u32],
@@ -152,20 +196,10 @@ pub fn readable(
     ensures { λ b. ⌜ ((s : Session) (x : Syntax.Expr) → Sends s (now (shared .entry)) (now (slots .entry)) count (now (assertions .entry)) n principals sender
         → exprMeant (now (text .entry)) e ≡ some x → unread s (names x) ≡ not b) ⌝ }
 {
-    match e {
-        Expr::Single(v) => operand_readable(
-            shared,
-            slots,
-            count,
-            assertions,
-            n,
-            principals,
-            sender,
-            text,
-            v,
-        ),
-        Expr::Empty => true,
-        Expr::Record(at) => fields_readable(
+    let v = match e {
+        Expr::Single(v) => v,
+        Expr::Empty => return true,
+        Expr::Record(at) => return fields_readable(
             shared,
             slots,
             count,
@@ -176,5 +210,29 @@ pub fn readable(
             text,
             at,
         ),
-    }
+        Expr::Lower(v) => v,
+        Expr::Call(_, v, w) => return both_readable(
+            shared,
+            slots,
+            count,
+            assertions,
+            n,
+            principals,
+            sender,
+            text,
+            v,
+            w,
+        ),
+    };
+    operand_readable(
+        shared,
+        slots,
+        count,
+        assertions,
+        n,
+        principals,
+        sender,
+        text,
+        v,
+    )
 }

@@ -8,7 +8,8 @@ use native.Mathlib.Omega.{arith}
 use borrow.Author.Tests.{lt-ltb, le-ltb}
 use lib.Dec.{T}
 use lib.ListN.{length}
-use Rattle.language.specs.Text.{Text, given, _>>_}
+use Rattle.language.specs.Text.{Text}
+use Rattle.language.specs.Outcomes.{gives, provided, _>>_}
 use Rattle.language.specs.Syntax.{Name, create-principal, rights}
 use Rattle.language.specs.State.{Principal}
 use Rattle.language.specs.Weight.{limit}
@@ -40,16 +41,16 @@ module _ (s : Session) (l : Layout) (b : Slices) (R : Running s l b) (p t : Text
     after = withStore s (created (s .store) p t)
 
     abbrev out : Effect
-    out = record { after = after; values = []; line = status "CREATE_PRINCIPAL" }
+    out = record { after = after; line = status "CREATE_PRINCIPAL" }
 
     pub create-failed : n < l .principals → step s (create-principal p t) ≡ refused FAILED
     create-failed h =
         is-failed s (create-principal p t) (admin-may s l b R by-admin)
-        (ap (λ (c : Bool). given (not c) >> done "CREATE_PRINCIPAL" [] after) (is-there s l b R p n n-is h))
+        (ap (λ (c : Bool). provided (not c) >> done "CREATE_PRINCIPAL" after) (is-there s l b R p n n-is h))
 
     module _ (new : n ≡ l .principals) where
-      does : effect s (create-principal p t) ≡ some out
-      does = ap (λ (c : Bool). given (not c) >> done "CREATE_PRINCIPAL" [] after) (is-missing s l b R p n n-is new)
+      does : effect s (create-principal p t) ≡ gives out
+      does = ap (λ (c : Bool). provided (not c) >> done "CREATE_PRINCIPAL" after) (is-missing s l b R p n n-is new)
 
       pub create-new : T (validCommand (create-principal p t)) → New s l b (b .principals) (b .principal-slots) p t
       create-new v = record { running = R; principals-are = refl; slots-are = refl; unknown = is-missing s l b R p n n-is new; is-valid = v }

@@ -12,13 +12,11 @@ use lib.ListN.{length, getD, take, drop, drop-of-length-le}
 use lib.Seq.{drop-cons}
 use borrow.Author.Tests.{le-leb, lt-leb}
 use Rattle.language.specs.Text.{Text, if_then_else_, bytes, _>>=_, _==_, front, past, parts}
-use Rattle.language.specs.Tokens.{Token, lex}
-use Rattle.language.specs.Programs.{ended, above, isComment, lexed}
+use Rattle.language.specs.Programs.{ended, above, isComment, written}
 use Rattle.text.specs.Meaning.{isNot}
 use Rattle.text.proofs.Runs.{run-part}
 use Rattle.text.proofs.Words.{next, split-run, partsFrom, parts-step}
-use Rattle.program_lines.specs.Lines.{lexedFrom, ahead}
-use Rattle.program_lines.proofs.FirstLine.{lex-line}
+use Rattle.program_lines.specs.Lines.{writtenFrom, lineFrom, ahead}
 
 -- more than one newline, or anything else, after `***`
 ended-more : (b : ℕ) (bs : Text) → ended (parts 10 (b ∷ bs)) ≡ false
@@ -28,13 +26,13 @@ ended-more b bs = rw (split-run 10 bs) (go (eqb b 10) (front (isNot 10) bs) (nex
     go true l ls = refl
     go false l ls = refl
 
--- a line in front of others: a comment is skipped, or its tokens come in front of theirs
-skips : (l : Text) (o : Option (List Text)) → isComment l ≡ true → ((o >>= λ rest. some (l ∷ rest)) >>= λ ls. some (lexed ls)) ≡ (o >>= λ ls. some (lexed ls))
+-- a line in front of others: a comment is skipped, any other line is kept
+skips : (l : Text) (o : Option (List Text)) → isComment l ≡ true → ((o >>= λ rest. some (l ∷ rest)) >>= λ ls. some (written ls)) ≡ (o >>= λ ls. some (written ls))
 skips l none e = refl
 skips l (some ls) e = rw e
 
 leads : (l : Text) (o : Option (List Text)) → isComment l ≡ false
-    → ((o >>= λ rest. some (l ∷ rest)) >>= λ ls. some (lexed ls)) ≡ ahead (lex l) (o >>= λ ls. some (lexed ls))
+    → ((o >>= λ rest. some (l ∷ rest)) >>= λ ls. some (written ls)) ≡ ahead l (o >>= λ ls. some (written ls))
 leads l none e = refl
 leads l (some ls) e = rw e
 
@@ -63,20 +61,19 @@ module _ (t : Text) (at e : ℕ) (h : at ≤ length t) (ends : e ≡ at + length
   ended-wrong : 1 < length t - e → ended (partsFrom 10 (e + 1) t) ≡ false
   ended-wrong q = rw (others (omega arith), drop-cons t (e + 1) 0 (omega arith)) (ended-more (getD t (e + 1) 0) (drop (suc (e + 1)) t))
 
-  pub stars : (line == bytes "***") ≡ true → e ≤ length t → length t - e ≤ 1 → lexedFrom t at ≡ some []
+  pub stars : (line == bytes "***") ≡ true → e ≤ length t → length t - e ≤ 1 → writtenFrom t at ≡ some []
   stars s k q = rw (lines, s, ended-right k q)
 
-  pub stars-more : (line == bytes "***") ≡ true → 1 < length t - e → lexedFrom t at ≡ none
+  pub stars-more : (line == bytes "***") ≡ true → 1 < length t - e → writtenFrom t at ≡ none
   stars-more s q = rw (lines, s, ended-wrong q)
 
-  pub no-newline : (line == bytes "***") ≡ false → length t ≤ e → lexedFrom t at ≡ none
+  pub no-newline : (line == bytes "***") ≡ false → length t ≤ e → writtenFrom t at ≡ none
   no-newline s k = rw (lines, s, last k)
 
-  pub comment-row : (line == bytes "***") ≡ false → e < length t → isComment line ≡ true → lexedFrom t at ≡ lexedFrom t (e + 1)
+  pub comment-row : (line == bytes "***") ≡ false → e < length t → isComment line ≡ true → writtenFrom t at ≡ writtenFrom t (e + 1)
   comment-row s k c = rw (lines, s, others k) (skips line (above (parts 10 (drop (e + 1) t))) c)
 
-  pub token-row : (line == bytes "***") ≡ false → e < length t → isComment line ≡ false → lexedFrom t at ≡ ahead (lex (drop at t)) (lexedFrom t (e + 1))
+  pub token-row : (line == bytes "***") ≡ false → e < length t → isComment line ≡ false → writtenFrom t at ≡ ahead (lineFrom t at) (writtenFrom t (e + 1))
   token-row s k c =
-      let tokens : lex line ≡ lex (drop at t) = ap lex (run-part (isNot 10) t at e ends) ∙ lex-line (drop at t) in
-      let row : lexedFrom t at ≡ ahead (lex line) (lexedFrom t (e + 1)) = rw (lines, s, others k) (leads line (above (parts 10 (drop (e + 1) t))) c) in
-      row ∙ ap (λ (l : List Token). ahead l (lexedFrom t (e + 1))) tokens
+      let row : writtenFrom t at ≡ ahead line (writtenFrom t (e + 1)) = rw (lines, s, others k) (leads line (above (parts 10 (drop (e + 1) t))) c) in
+      row ∙ ap (λ (l : Text). ahead l (writtenFrom t (e + 1))) (run-part (isNot 10) t at e ends)

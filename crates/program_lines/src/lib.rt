@@ -4,7 +4,7 @@ ghost use mathlib.Core.Path.{_≡_};
 ghost use Prim.Native.Nat.{_≤_};
 ghost use lib.ListN.{length};
 ghost use Rattle.language.specs.Programs.{isComment};
-ghost use Rattle.program_lines.specs.Lines.{lexedFrom, lineMeant, LinePlaced, stepMeant, StepPlaced};
+ghost use Rattle.program_lines.specs.Lines.{writtenFrom, lineMeant, LinePlaced, stepMeant, StepPlaced};
 
 // Whether a line is a comment from column 1.
 fn is_comment(line: &[u8]) -> bool
@@ -32,7 +32,7 @@ pub enum Line {
 
 fn line_at(text: &[u8], at: usize) -> Line
     requires { ⌜ at ≤ length (now text) ⌝ }
-    ensures meant { λ r. ⌜ lexedFrom (now (text .entry)) at ≡ lineMeant (now (text .entry)) at r ⌝ }
+    ensures meant { λ r. ⌜ writtenFrom (now (text .entry)) at ≡ lineMeant (now (text .entry)) at r ⌝ }
     ensures placed { λ r. ⌜ LinePlaced (now (text .entry)) at r ⌝ }
 {
     let end = text::until(text, at, b'\n');
@@ -61,7 +61,7 @@ pub enum Step {
 
 pub fn next_line(text: &[u8], at: usize) -> Step
     requires { ⌜ at ≤ length (now text) ⌝ }
-    ensures meant { λ r. ⌜ lexedFrom (now (text .entry)) at ≡ stepMeant (now (text .entry)) r ⌝ }
+    ensures meant { λ r. ⌜ writtenFrom (now (text .entry)) at ≡ stepMeant (now (text .entry)) r ⌝ }
     ensures placed { λ r. ⌜ StepPlaced (now (text .entry)) at r ⌝ }
 {
     let mut p = at;

@@ -9,8 +9,8 @@ use Rattle.language.specs.Output.{returning}
 use Rattle.language.specs.Values.{Session}
 use Rattle.language.specs.Commands.{Effect, Step, refused, went, DENIED, FAILED, FULL}
 use Rattle.values.specs.Encoding.{Holds}
-use Rattle.evaluate.specs.declared.result.Evaluated.{Evaluated}
-use Rattle.evaluate.specs.declared.result.Evaluated.the-variants as Found
+use Rattle.lookup.specs.declared.Answered.{Answered}
+use Rattle.lookup.specs.declared.Answered.the-variants as Told
 use Rattle.returning.specs.declared.Returned.{Returned}
 use Rattle.returning.specs.declared.Returned.the-variants as Is
 
@@ -31,8 +31,9 @@ Given Is.Failed k s out = k ≡ refused FAILED
 Given Is.Full k s out = k ≡ refused FULL
 Given (Is.Value n) k s out = Returns k s out n
 
--- what an answer of the evaluation makes of the ending
-abbrev pub answerTo : Evaluated → Returned
-answerTo (Found.Value n w) = Is.Value n
-answerTo Found.Missing = Is.Failed
-answerTo Found.Heavy = Is.Full
+-- what the answer for the expression makes of the ending
+abbrev pub answerTo : Answered → Returned
+answerTo Told.Denied = Is.Denied
+answerTo Told.Missing = Is.Failed
+answerTo Told.Heavy = Is.Full
+answerTo (Told.Value n w) = Is.Value n

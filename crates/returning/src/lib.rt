@@ -1,5 +1,5 @@
 // The ending `return e`: the value that the program prints.
-use evaluate::result::Evaluated;
+use lookup::Answered;
 use session::Layout;
 use syntax::Expr;
 ghost use mathlib.Core.Path.{_≡_};
@@ -23,14 +23,15 @@ pub enum Returned {
     Value(usize),
 }
 
-// What an answer of the evaluation makes of the ending, where the sender may read all that it evaluates.
-fn answered(r: Evaluated) -> Returned
+// What the answer for the expression makes of the ending.
+fn answered(r: Answered) -> Returned
     ensures { λ a. ⌜ a ≡ answerTo r ⌝ }
 {
     match r {
-        Evaluated::Value { len, weight: _ } => Returned::Value(len),
-        Evaluated::Missing => Returned::Failed,
-        Evaluated::Heavy => Returned::Full,
+        Answered::Denied => Returned::Denied,
+        Answered::Missing => Returned::Failed,
+        Answered::Heavy => Returned::Full,
+        Answered::Value { len, weight: _ } => Returned::Value(len),
     }
 }
 
@@ -46,7 +47,7 @@ pub fn value<'a>(
     value: &mut [u8],
     labels: &mut [u32],
     l: Layout,
-    text: &[u8],
+    text: &'a [u8],
     e: Expr,
 ) -> Returned
     requires { ⌜ SomeRunning l (slices (now principals) (now «principal_slots») (now vars) (now «variable_slots») (now locals) (now «local_slots») (now assertions)) ⌝ }
@@ -56,29 +57,13 @@ pub fn value<'a>(
         → Running s l (slices (now (principals .entry)) (now («principal_slots» .entry)) (now (vars .entry)) (now («variable_slots» .entry)) (now (locals .entry)) (now («local_slots» .entry)) (now (assertions .entry)))
         → exprMeant (now (text .entry)) e ≡ some x → Given r (step s (Syntax.return x)) s (now (value .exit))) ⌝ }
 {
-    let vars_len = l.vars_len;
-    let locals_len = l.locals_len;
-    let may = permits::readable(
-        &vars[..vars_len],
+    let r = lookup::answer(
+        vars,
         variable_slots,
-        l.vars,
-        assertions,
-        l.asserted,
-        l.principals,
-        l.sender,
-        text,
-        e,
-    );
-    if !may {
-        return Returned::Denied;
-    }
-    let r = evaluate::value(
-        &vars[..vars_len],
-        variable_slots,
-        l.vars,
-        &locals[..locals_len],
+        locals,
         local_slots,
-        l.locals,
+        assertions,
+        l,
         text,
         e,
         value,

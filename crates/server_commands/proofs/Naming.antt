@@ -1,13 +1,11 @@
 -- Exit and the default delegator: what the commands do to a running session, by numbers.
 use mathlib.Core.Path.{_≡_, refl, ap}
 use mathlib.Core.Bool.{Bool, false}
-use mathlib.Core.Option.{some}
-use mathlib.Core.List.{[]}
 use Prim.Native.Nat.{ℕ, _<_}
 use native.Mathlib.Omega.{arith}
 use borrow.Author.Tests.{le-ltb}
 use lib.Dec.{T, ltb}
-use Rattle.language.specs.Text.{given, _>>_}
+use Rattle.language.specs.Outcomes.{gives, provided, _>>_}
 use Rattle.language.specs.Syntax.{Name, default-delegator, exit}
 use Rattle.language.specs.Weight.{limit}
 use Rattle.language.specs.Output.{status}
@@ -49,7 +47,7 @@ module _ (s : Session) (l : Layout) (b : Slices) (R : Running s l b) where
 
   pub exit-done : l .sender ≡ 0 → Succeeds (step s exit) (shut l) b
   exit-done h =
-      let f : Effect = record { after = withStore s (closed (s .store)); values = []; line = status "EXITING" } in
+      let f : Effect = record { after = withStore s (closed (s .store)); line = status "EXITING" } in
       let e : step s exit ≡ went f = is-done s exit f (admin-may s l b R h) refl not-heavier in
       record {
         effect = f;
@@ -100,12 +98,12 @@ module _ (s : Session) (l : Layout) (b : Slices) (R : Running s l b) (p : Name) 
     pub delegator-failed : n ≡ l .principals → step s (default-delegator p) ≡ refused FAILED
     delegator-failed h =
         is-failed s (default-delegator p) (admin-may s l b R by-admin)
-        (ap (λ (c : Bool). given c >> done "DEFAULT_DELEGATOR" [] after) (is-missing s l b R p n n-is h))
+        (ap (λ (c : Bool). provided c >> done "DEFAULT_DELEGATOR" after) (is-missing s l b R p n n-is h))
 
     pub delegator-done : n < l .principals → T (validCommand (default-delegator p)) → Succeeds (step s (default-delegator p)) (delegatedBy l n) b
     delegator-done h v =
-        let f : Effect = record { after = after; values = []; line = status "DEFAULT_DELEGATOR" } in
-        let there : effect s (default-delegator p) ≡ some f = ap (λ (c : Bool). given c >> done "DEFAULT_DELEGATOR" [] after) (is-there s l b R p n n-is h) in
+        let f : Effect = record { after = after; line = status "DEFAULT_DELEGATOR" } in
+        let there : effect s (default-delegator p) ≡ gives f = ap (λ (c : Bool). provided c >> done "DEFAULT_DELEGATOR" after) (is-there s l b R p n n-is h) in
         let e : step s (default-delegator p) ≡ went f = is-done s (default-delegator p) f (admin-may s l b R by-admin) there (not-heavier s l b R) in
         record {
           effect = f;

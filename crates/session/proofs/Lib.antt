@@ -7,4 +7,4 @@ pub mod Admin
 pub mod Denials
 pub mod Finding
 pub mod Changes
-pub mod OneValue
+pub mod Weighed

@@ -3,7 +3,7 @@
 use mathlib.Core.Path.{_≡_, refl, sym, ap, _∙_}
 use mathlib.Core.Option.{Option, none, some}
 use mathlib.Core.List.{List, _∷_}
-use mathlib.Core.Bool.{true, false}
+use mathlib.Core.Bool.{true}
 use Prim.Native.Nat.{ℕ, _<_}
 use native.Mathlib.Omega.{arith}
 use Rattle.language.specs.Text.{Text, bytes, _==_, _>>=_, present}
@@ -25,9 +25,6 @@ fields-there (some r) e = refl
 module _ (w : Text) (us : List Token) where
   pub empty-list : (w == bytes "[]") ≡ true → anyExpression (sign w ∷ us) ≡ some (nothing, us)
   empty-list q = ap (λ (v : Text). anyExpression (sign v ∷ us)) (same-true w (bytes "[]") q)
-
-  pub no-enclosed : (w == bytes "{") ≡ false → (w == bytes "[]") ≡ false → anyExpression (sign w ∷ us) ≡ none
-  no-enclosed p q = rw (q, p)
 
   opened : (w == bytes "{") ≡ true → anyExpression (sign w ∷ us) ≡ then-read (allFields us) (λ fs. give (fields fs))
   opened q =

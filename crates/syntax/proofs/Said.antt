@@ -10,13 +10,15 @@ use lib.Dec.{T}
 use lib.ListN.{drop}
 use Rattle.language.specs.Text.{Text, _>>=_}
 use Rattle.language.specs.Tokens.{Token, lex}
-use Rattle.language.specs.Syntax.{Binding, Expr, single, nothing, fields}
+use Rattle.language.specs.Syntax.{Binding, Expr, single, nothing, fields, tolower, call}
 use Rattle.language.proofs.Parsing.ValidPrograms.{validExpr, validOperand}
 use Rattle.syntax.specs.declared.Expr as Read
-use Rattle.syntax.specs.declared.Expr.the-variants.{Single, Empty, Record}
+use Rattle.syntax.specs.declared.Expr.the-variants.{Single, Empty, Record, Lower, Call}
+use Rattle.syntax.specs.declared.Function as ReadFunction
 use Rattle.syntax.specs.declared.Operand as ReadOperand
-use Rattle.syntax.specs.Values.{operandMeant, OperandWithin, recordAt, before, withField, exprMeant, ExprWithin, SomeExpr, SomeRecord}
+use Rattle.syntax.specs.Values.{operandMeant, OperandWithin, recordAt, before, withField, functionMeant, exprMeant, ExprWithin, SomeExpr, SomeRecord}
 use Rattle.tokens.proofs.Reading.{no-some}
+use Rattle.language.proofs.Logic.Tests.{both}
 
 -- ---- expressions
 
@@ -44,12 +46,40 @@ module _ (t : Text) (e : Read.Expr) where
       go none h k = no-some k
       go (some r) h k = record { bindings = r .0; others = r .1; here = h; is-record = same-some x (fields (r .0)) (sym k) }
 
+  pub lower-meant : (v : ReadOperand.Operand) (x : Expr) → e ≡ Lower v → exprMeant t e ≡ some x → x ≡ tolower (operandMeant t v)
+  lower-meant v x q m = same-some x (tolower (operandMeant t v)) (sym m ∙ ap (exprMeant t) q)
+
+  pub call-meant :
+      (f : ReadFunction.Function) (v w : ReadOperand.Operand) (x : Expr)
+      → e ≡ Call f v w
+      → exprMeant t e ≡ some x
+      → x ≡ call (functionMeant f) (operandMeant t v) (operandMeant t w)
+  call-meant f v w x q m = same-some x (call (functionMeant f) (operandMeant t v) (operandMeant t w)) (sym m ∙ ap (exprMeant t) q)
+
   module _ (E : SomeExpr t e) where
     pub single-safe : (v : ReadOperand.Operand) → e ≡ Single v → OperandWithin t v × T (validOperand (operandMeant t v))
     single-safe v q = (
       subst (ExprWithin t) q (E .within),
       subst (λ (x : Expr). T (validExpr x)) (single-meant v (E .expression) q (E .meant)) (E .is-valid),
     )
+
+    pub lower-safe : (v : ReadOperand.Operand) → e ≡ Lower v → OperandWithin t v × T (validOperand (operandMeant t v))
+    lower-safe v q = (
+      subst (ExprWithin t) q (E .within),
+      subst (λ (x : Expr). T (validExpr x)) (lower-meant v (E .expression) q (E .meant)) (E .is-valid),
+    )
+
+    -- both values of a call
+    pub call-safe :
+        (f : ReadFunction.Function) (v w : ReadOperand.Operand)
+        → e ≡ Call f v w
+        → (OperandWithin t v × T (validOperand (operandMeant t v))) × (OperandWithin t w × T (validOperand (operandMeant t w)))
+    call-safe f v w q =
+        let (i, j) = subst (ExprWithin t) q (E .within) in
+        let (k, l) =
+        both (validOperand (operandMeant t v)) (validOperand (operandMeant t w))
+        (subst (λ (x : Expr). T (validExpr x)) (call-meant f v w (E .expression) q (E .meant)) (E .is-valid)) in
+        ((i, k), (j, l))
 
     pub record-safe : (p : ℕ) → e ≡ Record p → SomeRecord t p
     record-safe p q =

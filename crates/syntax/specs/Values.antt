@@ -1,4 +1,4 @@
--- What values, fields and expressions that were read mean in the terms of document 01's grammar, and where they stand.
+-- What values, fields, functions and expressions that were read mean in the terms of the language's grammar, and where they stand.
 use Prim.Native.Nat.{ℕ, _≤_, _<_}
 use mathlib.Core.Bool.{Bool, true, false}
 use mathlib.Core.Option.{Option, none, some}
@@ -18,8 +18,12 @@ use Rattle.syntax.specs.declared.OperandRead.{OperandRead}
 use Rattle.syntax.specs.declared.OperandRead.the-variants as OperandIs
 use Rattle.syntax.specs.declared.FieldRead.{FieldRead}
 use Rattle.syntax.specs.declared.FieldRead.the-variants as FieldIs
+use Rattle.syntax.specs.declared.Function.{Function}
+use Rattle.syntax.specs.declared.Function.the-variants.{Split, Concat}
+use Rattle.syntax.specs.declared.FunctionRead.{FunctionRead}
+use Rattle.syntax.specs.declared.FunctionRead.the-variants as FunctionIs
 use Rattle.syntax.specs.declared.Expr.{Expr}
-use Rattle.syntax.specs.declared.Expr.the-variants.{Single, Empty, Record}
+use Rattle.syntax.specs.declared.Expr.the-variants.{Single, Empty, Record, Lower, Call}
 use Rattle.syntax.specs.declared.ExprRead.{ExprRead}
 use Rattle.syntax.specs.declared.ExprRead.the-variants as ExprIs
 
@@ -69,17 +73,30 @@ abbrev pub FieldPlaced : Text → ℕ → FieldRead → Type 0
 FieldPlaced t at (FieldIs.Found x v more n) = Within t x × OperandWithin t v × (at < n) × (n ≤ length t)
 FieldPlaced t at FieldIs.No = Unit
 
+-- ---- functions
+abbrev pub functionMeant : Function → Syntax.Function
+functionMeant Split = Syntax.split
+functionMeant Concat = Syntax.concat
+
+abbrev pub functionReadMeant : FunctionRead → Option Syntax.Function
+functionReadMeant (FunctionIs.Found f) = some (functionMeant f)
+functionReadMeant FunctionIs.No = none
+
 -- ---- expressions
 abbrev pub exprMeant : Text → Expr → Option Syntax.Expr
 exprMeant t (Single v) = some (Syntax.single (operandMeant t v))
 exprMeant t Empty = some Syntax.nothing
 exprMeant t (Record p) = recordAt t p >>= λ r. some (Syntax.fields (r .0))
+exprMeant t (Lower v) = some (Syntax.tolower (operandMeant t v))
+exprMeant t (Call f v w) = some (Syntax.call (functionMeant f) (operandMeant t v) (operandMeant t w))
 
 -- every place in an expression is within the text, and a record has its fields
 abbrev pub ExprWithin : Text → Expr → Type 0
 ExprWithin t (Single v) = OperandWithin t v
 ExprWithin t Empty = Unit
 ExprWithin t (Record p) = (p ≤ length t) × (present (recordAt t p) ≡ true)
+ExprWithin t (Lower v) = OperandWithin t v
+ExprWithin t (Call f v w) = OperandWithin t v × OperandWithin t w
 
 abbrev pub exprReadMeant : Text → ExprRead → Option (Syntax.Expr × List Token)
 exprReadMeant t (ExprIs.Found e n) = exprMeant t e >>= λ x. some (x, lex (drop n t))

@@ -45,6 +45,8 @@ pub fn class_of(b: u8) -> Class
         | b'}'
         | b'['
         | b']'
+        | b'('
+        | b')'
         | b'*'
         | b'"' => Class::Mark(b),
         _ => Class::Foreign,

@@ -7,7 +7,7 @@ use Prim.Native.Nat.{ℕ, zero, suc, _+_, _-_, _≤_, _<_}
 use native.Mathlib.Omega.{arith}
 use native.Mathlib.Numerals.{add-one}
 use borrow.Author.Tests.{le-leb, lt-leb, eq-eqb, ne-eqb}
-use lib.ListN.{length, getD, take, drop, drop-of-length-le}
+use lib.ListN.{length, getD, drop, drop-of-length-le}
 use lib.Seq.{drop-cons, drop-drop}
 use Rattle.language.specs.Text.{Text, if_then_else_, bytes, member, front}
 use Rattle.language.specs.Bytes.{_is_, _∈_, between, Class, class, letter, digit, space, newline, mark, foreign, marks, wordByte, stringByte, commentByte}
@@ -100,12 +100,12 @@ module _ (t : List ℕ) (i : ℕ) (h : i < length t) where
 
   -- ---- marks of one byte, and of two
   module _ (m : ℕ) (l : class (getD t i 0) ≡ mark m) where
-    pub one-mark : (m is "\"") ≡ false → (m ∈ bytes "=.,{}") ≡ true → m ≡ getD t i 0 → lex (drop i t) ≡ sign (part t i (i + 1)) ∷ lex (drop (i + 1) t)
+    pub one-mark : (m is "\"") ≡ false → (m ∈ bytes "=.,{}()") ≡ true → m ≡ getD t i 0 → lex (drop i t) ≡ sign (part t i (i + 1)) ∷ lex (drop (i + 1) t)
     one-mark q o r =
         let one : i + 1 - i ≡ 1 = omega arith in
         lex-at ∙ rw (l, q, o, one, drop-cons t i 0 h, r)
 
-    pub two-marks : (m is "\"") ≡ false → (m ∈ bytes "=.,{}") ≡ false → lex (drop i t) ≡ lead (pair m (drop (i + 1) t)) (tokens (drop (i + 1) t))
+    pub two-marks : (m is "\"") ≡ false → (m ∈ bytes "=.,{}()") ≡ false → lex (drop i t) ≡ lead (pair m (drop (i + 1) t)) (tokens (drop (i + 1) t))
     two-marks q o = lex-at ∙ rw (l, q, o)
 
   -- a comment, whose slashes stand at i and after it

@@ -85,7 +85,7 @@ fn mark_at(text: &[u8], at: usize, m: u8) -> Token
     let next = at + 1;
     match m {
         b'"' => quoted_at(text, at),
-        b'=' | b'.' | b',' | b'{' | b'}' => Token::Sign(
+        b'=' | b'.' | b',' | b'{' | b'}' | b'(' | b')' => Token::Sign(
             Span {
                 start: at,
                 end: next,

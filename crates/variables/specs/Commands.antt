@@ -1,5 +1,6 @@
 -- What the commands ask.
 use mathlib.Core.Path.{_≡_}
+use mathlib.Core.Bool.{Bool, true, false}
 use Prim.Native.Nat.{ℕ}
 use mathlib.Core.List.{List}
 use lib.Dec.{T}
@@ -12,8 +13,12 @@ use Rattle.syntax.specs.declared.Expr as Read
 use Rattle.session.specs.declared.Verdict.{Verdict}
 use Rattle.session.specs.declared.Verdict.the-variants as Ends
 use Rattle.lookup.specs.Looks.{Said}
+use Rattle.lookup.specs.declared.Answered.{Answered}
+use Rattle.lookup.specs.declared.Answered.the-variants as Told
 use Rattle.assignment.specs.declared.Assigned.{Assigned}
 use Rattle.assignment.specs.declared.Assigned.the-variants.{Full, Done}
+use Rattle.variables.specs.declared.Settled.{Settled}
+use Rattle.variables.specs.declared.Settled.the-variants.{Over, Value}
 
 -- the program's text names a variable, and says an expression
 pub record Names (t : Text) (x : Span) (e : Read.Expr) : Type 0 where
@@ -30,3 +35,12 @@ pub record Scratch (value : Text) (labels : List ℕ) : Type 0 where
 abbrev pub verdictOf : Assigned → Verdict
 verdictOf Full = Ends.Full
 verdictOf (Done l) = Ends.Done l
+
+-- what an answer leaves of a command, which can be done with any value or with none
+abbrev pub settlement : Answered → Bool → Settled
+settlement Told.Denied fits = Over Ends.Denied
+settlement Told.Missing fits = Over Ends.Failed
+settlement Told.Heavy true = Over Ends.Full
+settlement Told.Heavy false = Over Ends.Failed
+settlement (Told.Value n w) true = Value n w
+settlement (Told.Value n w) false = Over Ends.Failed

@@ -3,30 +3,52 @@ use assertion::WRITE;
 use assignment::Assigned;
 use assignment::assign;
 use assignment::declare;
-use evaluate::result::Evaluated;
 use extension::join;
+use lookup::Answered;
 use session::Layout;
 use session::Verdict;
 use syntax::Expr;
 use text::Span;
 ghost use mathlib.Core.Path.{_≡_};
 ghost use mathlib.Core.Option.{some};
-ghost use mathlib.Core.Bool.{false};
-ghost use Prim.Native.Nat.{ℕ, _≤_};
-ghost use mathlib.Core.List.{List};
-ghost use lib.Dec.{T};
 ghost use lib.ListN.{length};
-ghost use Rattle.language.specs.Text.{Text};
-ghost use Rattle.language.specs.State.{Value, put};
-ghost use Rattle.language.specs.Identifiers.{isName};
 ghost use Rattle.language.specs.Syntax as Syntax;
-ghost use Rattle.language.specs.Values.{Session, isDefined};
-ghost use Rattle.language.specs.Commands.{step, withLocals};
+ghost use Rattle.language.specs.Values.{Session};
+ghost use Rattle.language.specs.Commands.{step};
 ghost use Rattle.text.specs.Meaning.{part};
 ghost use Rattle.syntax.specs.Values.{exprMeant};
 ghost use Rattle.session.specs.Sessions.{slices, Running, SomeRunning};
 ghost use Rattle.session.specs.Endings.{Ended};
-ghost use Rattle.variables.specs.Commands.{Names, Scratch, verdictOf};
+ghost use Rattle.variables.specs.Commands.{Names, Scratch, verdictOf, settlement};
+
+// What an answer for an expression leaves of a command: it is over, or there is a value to store.
+enum Settled {
+    Over(Verdict),
+    Value { len: usize, weight: usize },
+}
+
+// `fits` says whether the command can be done with any value: append wants a list, local a new name. Where it cannot, it is FAILED, also for
+// a value that is too heavy; DENIED goes before.
+fn settle(v: Answered, fits: bool) -> Settled
+    ensures { λ r. ⌜ r ≡ settlement v fits ⌝ }
+{
+    match v {
+        Answered::Denied => Settled::Over(Verdict::Denied),
+        Answered::Missing => Settled::Over(Verdict::Failed),
+        Answered::Heavy => {
+            if fits {
+                return Settled::Over(Verdict::Full);
+            }
+            Settled::Over(Verdict::Failed)
+        }
+        Answered::Value { len, weight } => {
+            if fits {
+                return Settled::Value { len, weight };
+            }
+            Settled::Over(Verdict::Failed)
+        }
+    }
+}
 
 fn verdict(a: Assigned) -> Verdict
     ensures { λ r. ⌜ r ≡ verdictOf a ⌝ }
@@ -61,24 +83,27 @@ pub fn set(
         → Ended r (step s (Syntax.set (part (now (text .entry)) x) y))
         (slices (now (principals .entry)) (now («principal_slots» .entry)) (now (vars .exit)) (now («variable_slots» .exit)) (now (locals .exit)) (now («local_slots» .exit)) (now (assertions .exit)))) ⌝ }
 {
-    if !lookup::may_use(vars, variable_slots, assertions, l, text, x, e, WRITE) {
+    let a = x.start;
+    let b = x.end;
+    let name = &text[a..b];
+    if !lookup::may_do(vars, variable_slots, assertions, l, name, WRITE) {
         return Verdict::Denied;
     }
-    let v = lookup::worth(
+    let v = lookup::answer(
         vars,
         variable_slots,
         locals,
         local_slots,
+        assertions,
         l,
         text,
         e,
         value,
         labels,
     );
-    match v {
-        Evaluated::Value { len, weight } => {
-            let a = x.start;
-            let b = x.end;
+    match settle(v, true) {
+        Settled::Over(r) => r,
+        Settled::Value { len, weight } => {
             let done = assign(
                 principals,
                 principal_slots,
@@ -88,14 +113,12 @@ pub fn set(
                 local_slots,
                 assertions,
                 l,
-                &text[a..b],
+                name,
                 &value[..len],
                 weight,
             );
             verdict(done)
         }
-        Evaluated::Missing => Verdict::Failed,
-        Evaluated::Heavy => Verdict::Full,
     }
 }
 
@@ -123,27 +146,28 @@ pub fn append(
         → Ended r (step s (Syntax.append-to (part (now (text .entry)) x) y))
         (slices (now (principals .entry)) (now («principal_slots» .entry)) (now (vars .exit)) (now («variable_slots» .exit)) (now (locals .exit)) (now («local_slots» .exit)) (now (assertions .entry)))) ⌝ }
 {
-    if !lookup::may_append(vars, variable_slots, assertions, l, text, x, e) {
-        return Verdict::Denied;
-    }
     let a = x.start;
     let b = x.end;
-    if !lookup::is_list(vars, variable_slots, locals, local_slots, l, &text[a..b]) {
-        return Verdict::Failed;
+    let name = &text[a..b];
+    if !lookup::may_append(vars, variable_slots, assertions, l, name) {
+        return Verdict::Denied;
     }
-    let v = lookup::worth(
+    let v = lookup::answer(
         vars,
         variable_slots,
         locals,
         local_slots,
+        assertions,
         l,
         text,
         e,
         value,
         labels,
     );
-    match v {
-        Evaluated::Value { len, weight } => {
+    let list = lookup::is_list(vars, variable_slots, locals, local_slots, l, name);
+    match settle(v, list) {
+        Settled::Over(r) => r,
+        Settled::Value { len, weight } => {
             let done = join(
                 principals,
                 principal_slots,
@@ -153,22 +177,20 @@ pub fn append(
                 local_slots,
                 assertions,
                 l,
-                &text[a..b],
+                name,
                 &value[..len],
                 weight,
             );
             verdict(done)
         }
-        Evaluated::Missing => Verdict::Failed,
-        Evaluated::Heavy => Verdict::Full,
     }
 }
 
 // local x = e
-pub fn local(
+pub fn local<'a>(
     principals: &[u8],
     principal_slots: &[u32],
-    vars: &[u8],
+    vars: &'a [u8],
     variable_slots: &[u32],
     locals: &mut [u8],
     local_slots: &mut [u32],
@@ -176,7 +198,7 @@ pub fn local(
     value: &mut [u8],
     labels: &mut [u32],
     l: Layout,
-    text: &[u8],
+    text: &'a [u8],
     x: Span,
     e: Expr,
 ) -> Verdict
@@ -188,31 +210,27 @@ pub fn local(
         → Ended r (step s (Syntax.local (part (now (text .entry)) x) y))
         (slices (now (principals .entry)) (now («principal_slots» .entry)) (now (vars .entry)) (now («variable_slots» .entry)) (now (locals .exit)) (now («local_slots» .exit)) (now (assertions .entry)))) ⌝ }
 {
-    if !lookup::may_read(vars, variable_slots, assertions, l, text, e) {
-        return Verdict::Denied;
-    }
     let a = x.start;
     let b = x.end;
-    if lookup::is_defined(vars, variable_slots, locals, local_slots, l, &text[a..b]) {
-        return Verdict::Failed;
-    }
-    let v = lookup::worth(
+    let name = &text[a..b];
+    let v = lookup::answer(
         vars,
         variable_slots,
         locals,
         local_slots,
+        assertions,
         l,
         text,
         e,
         value,
         labels,
     );
-    match v {
-        Evaluated::Value { len, weight } => {
-            let done = declare(locals, local_slots, l, &text[a..b], &value[..len], weight);
+    let defined = lookup::is_defined(vars, variable_slots, locals, local_slots, l, name);
+    match settle(v, !defined) {
+        Settled::Over(r) => r,
+        Settled::Value { len, weight } => {
+            let done = declare(locals, local_slots, l, name, &value[..len], weight);
             verdict(done)
         }
-        Evaluated::Missing => Verdict::Failed,
-        Evaluated::Heavy => Verdict::Full,
     }
 }

@@ -15,7 +15,8 @@ use Rattle.session.proofs.Steps.{is-denied}
 use Rattle.delegations.specs.Delegates.{Delegates}
 use Rattle.delegation_rules.specs.Asking.{Names}
 use Rattle.delegation_rules.proofs.Existing.{complete}
-use Rattle.delegations.proofs.Ending.{ends-done, delete-fails, deleting, delete-goes, giver-there, delegates}
+use Rattle.session.proofs.Weighed.{ends-done}
+use Rattle.delegations.proofs.Ending.{delete-fails, deleting, delete-goes, giver-there, delegates}
 use Rattle.named_rights.specs.Numbers.{variables}
 use Rattle.delegation_rules.proofs.Denials.{aim-few}
 use Rattle.delegation_rules.proofs.Fitting.{few-variables}
@@ -153,7 +154,7 @@ returns-3 c s R =
     let back-14 = back-13 .before in
     let back-26 = back-14 .before .before .before .before .before .before .before .before .before .before .before .before in
     let t = target-of back-26 in
-    ends-done s (command back-26) (deleting s t (from-of back-26) (right-of back-26) (to-of back-26)) refl
+    ends-done s (command back-26) (deleting s t (from-of back-26) (right-of back-26) (to-of back-26))
     (sym (judged back-14 s R) ∙ back-13 .if1 .left) (delete-goes s t (from-of back-26) (right-of back-26) (to-of back-26) (whole back-11 s R)) _ _
     (c .before .before .withdraw-all .ensures s _ _ _ _ (delegating (c .before .before .before .before .before) s R))
 

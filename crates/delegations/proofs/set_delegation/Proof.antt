@@ -17,7 +17,8 @@ use Rattle.assertion_changes.specs.Entering.{Ends, entered}
 use Rattle.delegations.specs.Delegates.{Delegates}
 use Rattle.delegation_rules.specs.Asking.{Names}
 use Rattle.delegation_rules.proofs.Existing.{complete}
-use Rattle.delegations.proofs.Ending.{ends-full, ends-done, set-fails, setting, set-goes, giver-there, delegates}
+use Rattle.session.proofs.Weighed.{ends-full, ends-done}
+use Rattle.delegations.proofs.Ending.{set-fails, setting, set-goes, giver-there, delegates}
 use Rattle.named_rights.specs.Numbers.{variables}
 use Rattle.delegation_rules.proofs.Denials.{aim-few}
 use Rattle.delegation_rules.proofs.Fitting.{few-variables}
@@ -174,7 +175,7 @@ returns-3 c s R =
     let back-16 = back-15 .before in
     let back-28 = back-16 .before .before .before .before .before .before .before .before .before .before .before .before in
     let t = target-of back-28 in
-    ends-full s (command back-28) (setting s t (from-of back-28) (right-of back-28) (to-of back-28)) refl
+    ends-full s (command back-28) (setting s t (from-of back-28) (right-of back-28) (to-of back-28))
     (sym (judged back-16 s R) ∙ back-15 .if1 .left) (set-goes s t (from-of back-28) (right-of back-28) (to-of back-28) (whole back-13 s R))
     (ended (c .before .before .before .before) s R _ (c .enum-told .given .1))
 
@@ -191,7 +192,7 @@ returns-4 c s R =
     let back-17 = back-16 .before in
     let back-29 = back-17 .before .before .before .before .before .before .before .before .before .before .before .before in
     let t = target-of back-29 in
-    ends-done s (command back-29) (setting s t (from-of back-29) (right-of back-29) (to-of back-29)) refl
+    ends-done s (command back-29) (setting s t (from-of back-29) (right-of back-29) (to-of back-29))
     (sym (judged back-17 s R) ∙ back-16 .if1 .left) (set-goes s t (from-of back-29) (right-of back-29) (to-of back-29) (whole back-14 s R)) _ _
     (ended (c .before .before .before .before .before) s R _ (c .before .done .given .1))
 

@@ -2,10 +2,10 @@
 -- Assumes nothing.
 use mathlib.Core.Path.{refl}
 use native.Mathlib.Omega.{arith}
-use mathlib.Core.Option.{some}
+use Rattle.language.specs.Outcomes.{gives}
 use mathlib.Core.List.{[]}
 use Rattle.language.specs.State.{list}
-use Rattle.evaluate.proofs.Putting.{value-put}
+use Rattle.evaluated.proofs.Putting.{value-put}
 use borrow.Author.Needs.{needs}
 use Rattle.evaluate.proofs.put_empty.Statement.{statement}
 use Rattle.evaluate.proofs.put_empty.Tie as tie
@@ -17,7 +17,7 @@ same-length : tie.Need-same-length
 same-length c = search needs
 
 returns : tie.Need-returns
-returns c = value-put (some (list [])) (list []) _ _ _ _ 0 refl (record { is-valid = tt; is-text = refl }) (c .before .before .put-list .ensures) refl (omega arith)
+returns c = value-put (gives (list [])) (list []) _ _ _ _ 0 refl (record { is-valid = tt; is-text = refl }) (c .before .before .put-list .ensures) refl (omega arith)
 
 pub put-empty-spec : {M : Type 1} → statement M
 put-empty-spec = tie.close (tie.spec put-list-requires same-length returns)

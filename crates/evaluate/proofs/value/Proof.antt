@@ -3,17 +3,25 @@
 use mathlib.Core.Path.{_≡_, sym, subst}
 use Rattle.language.specs.Text.{Text}
 use Rattle.language.specs.Syntax.{Expr}
-use Rattle.language.specs.Values as Values
-use Rattle.syntax.proofs.Said.{single-meant, empty-meant, record-meant, single-safe, record-safe}
-use Rattle.evaluate.specs.Results.{Valued}
-use Rattle.evaluate.specs.declared.result.Evaluated.{Evaluated}
+use Rattle.language.specs.Values.{Session}
+use Rattle.language.specs.Expressions.{value}
+use Rattle.syntax.proofs.Said.{single-meant, empty-meant, record-meant, lower-meant, call-meant, single-safe, record-safe, lower-safe, call-safe}
+use Rattle.evaluated.specs.Results.{Valued}
+use Rattle.evaluated.specs.declared.Evaluated.{Evaluated}
 use borrow.Author.Needs.{needs}
 use Rattle.evaluate.proofs.value.Statement.{statement}
 use Rattle.evaluate.proofs.value.Tie as tie
+use Rattle.evaluate.proofs.value.Reads as reads
+use Rattle.evaluate.proofs.value.Lts as lts
+use Rattle.evaluate.proofs.call.put_call.Reads as put-call-reads
+use Rattle.evaluate.proofs.call.put_lower.Reads as put-lower-reads
+use Rattle.evaluate.proofs.operand.put_operand.Reads as put-operand-reads
+use Rattle.evaluate.proofs.put_empty.Reads as put-empty-reads
+use Rattle.evaluate.proofs.record.put_fields.Reads as put-fields-reads
 
 -- the same expression, by another name
-valued-at : (r : Evaluated) (s : Values.Session) (out : Text) {x y : Expr} → x ≡ y → Valued r (Values.value s y) out → Valued r (Values.value s x) out
-valued-at r s out e h = subst (λ (z : Expr). Valued r (Values.value s z) out) (sym e) h
+valued-at : (r : Evaluated) (s : Session) (out : Text) {x y : Expr} → x ≡ y → Valued r (value s y) out → Valued r (value s x) out
+valued-at r s out e h = subst (λ (z : Expr). Valued r (value s z) out) (sym e) h
 
 enum-known-e : tie.Need-enum-known-e
 enum-known-e c = search needs
@@ -21,7 +29,8 @@ enum-known-e c = search needs
 put-operand-requires : tie.Need-put-operand-requires
 put-operand-requires c κs =
     let start = c .before .before .before .before .before .before .before .before .before .before .before in
-    let P = start .pre in (P .0, (single-safe (start .args .text .now) (start .args .e) (P .1 .0 .0) (c .before .before .e .given .0 .0) (c .before .before .e .given .1), P .1 .1 .out-size))
+    let P = start .pre in
+    (P .0, (single-safe (start .args .text .now) (start .args .e) (P .1 .0 .0) (c .before .before .e .given .0 .0) (c .before .before .e .given .1), P .1 .1 .out-size))
 
 enum-told : tie.Need-enum-told
 enum-told c = search needs
@@ -35,7 +44,28 @@ enum-known-e-2 c = search needs
 put-fields-requires : tie.Need-put-fields-requires
 put-fields-requires c κs =
     let start = c .before .before .before .before .before .before .before .before .before .before .before .before in
-    let P = start .pre in (P .0, ((record-safe (start .args .text .now) (start .args .e) (P .1 .0 .0) (c .before .before .before .e2 .given .0 .0) (c .before .before .before .e2 .given .1), P .1 .0 .1), P .1 .1))
+    let P = start .pre in
+    (P .0, ((record-safe (start .args .text .now) (start .args .e) (P .1 .0 .0) (c .before .before .before .e2 .given .0 .0) (c .before .before .before .e2 .given .1), P .1 .0 .1), P .1 .1))
+
+enum-known-e-3 : tie.Need-enum-known-e-3
+enum-known-e-3 c = search needs
+
+put-lower-requires : tie.Need-put-lower-requires
+put-lower-requires c κs =
+    let start = c .before .before .before .before .before .before .before .before .before .before .before in
+    let P = start .pre in
+    (P .0, (lower-safe (start .args .text .now) (start .args .e) (P .1 .0 .0) (c .before .before .e3 .given .0 .0) (c .before .before .e3 .given .1), P .1 .1 .out-size))
+
+enum-known-e-4 : tie.Need-enum-known-e-4
+enum-known-e-4 c = search needs
+
+put-call-requires : tie.Need-put-call-requires
+put-call-requires c κs =
+    let start = c .before .before .before .before .before .before .before .before .before .before .before in
+    let P = start .pre in
+    let g = c .before .before .e4 .given in
+    let S = call-safe (start .args .text .now) (start .args .e) (P .1 .0 .0) (g .0 .0) (g .0 .1 .0) (g .0 .1 .1 .0) (g .1) in
+    (P .0, (S .0, (S .1 .0, S .1 .1, P .1 .1 .out-size)))
 
 same-length : tie.Need-same-length
 same-length c = search needs
@@ -70,6 +100,26 @@ returns-3 c s x S m =
     let F = record-meant (start .args .text .now) (start .args .e) (back-8 .e2 .given .0 .0) x (back-8 .e2 .given .1) m in
     valued-at (C .result) s (C .last .1 .1 .1 .1 .1 .1 .1 .1 .0) (F .is-record) (C .ensures s (F .bindings) (F .others) S (F .here))
 
+same-length-5 : tie.Need-same-length-5
+same-length-5 c = search needs
+
+returns-4 : tie.Need-returns-4
+returns-4 c s x S m =
+    let back-5 = c .before .before .before .before .before in
+    let start = back-5 .before .before .before .before .before .before .before .before .before in
+    let C = c .before .before .put-lower in
+    valued-at (C .result) s (C .last .1 .1 .1 .1 .1 .1 .1 .1 .0) (lower-meant (start .args .text .now) (start .args .e) (back-5 .e3 .given .0 .0) x (back-5 .e3 .given .1) m) (C .ensures s S)
+
+same-length-6 : tie.Need-same-length-6
+same-length-6 c = search needs
+
+returns-5 : tie.Need-returns-5
+returns-5 c s x S m =
+    let start = c .before .before .before .before .before .before .before .before .before .before .before .before .before .before in
+    let C = c .before .before .put-call in
+    let g = c .before .before .before .before .before .e4 .given in
+    valued-at (C .result) s (C .last .1 .1 .1 .1 .1 .1 .1 .1 .1 .1 .0) (call-meant (start .args .text .now) (start .args .e) (g .0 .0) (g .0 .1 .0) (g .0 .1 .1 .0) x (g .1) m) (C .ensures s S)
+
 pub value-spec : {M : Type 1} → statement M
 value-spec =
     tie.close
@@ -80,10 +130,18 @@ value-spec =
     put-empty-requires
     enum-known-e-2
     put-fields-requires
+    enum-known-e-3
+    put-lower-requires
+    enum-known-e-4
+    put-call-requires
     same-length
     returns
     same-length-2
     returns-2
     same-length-3
     same-length-4
-    returns-3)
+    returns-3
+    same-length-5
+    returns-4
+    same-length-6
+    returns-5)

@@ -1,4 +1,4 @@
--- `replacing::foreach` meets its contract. What was prepared says how it ends, or what list there is to replace.
+-- `foreach::foreach` meets its contract. What was prepared says how it ends, or what list there is to replace.
 -- Assumes nothing.
 use mathlib.Core.Path.{_≡_, subst}
 use mathlib.Core.Option.{some}

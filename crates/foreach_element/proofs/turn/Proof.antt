@@ -6,25 +6,28 @@ use native.Mathlib.Omega.{arith}
 use mathlib.Core.List.{[], _∷_, _++_}
 use lib.ListN.{length, take}
 use lib.Seq.{length-take-le}
+use Rattle.language.specs.Text.{Text}
 use Rattle.language.specs.State.{Element, single}
 use Rattle.language.specs.Syntax.{Expr}
 use Rattle.language.specs.Values.{Session}
-use Rattle.language.specs.Values as Values
+use Rattle.language.specs.Expressions as Expressions
+use Rattle.language.specs.Commands.{withElement}
 use Rattle.language.proofs.StateText.Clean.{name-length}
 use Rattle.text.specs.Meaning.{part}
 use Rattle.store.specs.Held.{Variables}
 use Rattle.values.specs.Encoding.{Holds}
-use Rattle.evaluate.proofs.LastLocal.{withLast}
-use Rattle.evaluate.specs.Results.{Valued}
+use Rattle.evaluated.specs.Results.{Valued}
 use Rattle.foreach_element.specs.Turning.{Turning}
-use Rattle.foreach_element.proofs.LightLists.{light-last}
-use Rattle.foreach_element.proofs.Lasting.{with-last, without-last, made-of}
+use Rattle.foreach_element.proofs.Lasting.{with-last, without-last}
 use borrow.Author.Needs.{needs}
 use Rattle.foreach_element.proofs.turn.Statement.{statement}
 use Rattle.foreach_element.proofs.turn.Tie as tie
 
 abbrev Turns : (c : tie.Start) → Session → Expr → Type 0
-Turns c s x = let a = c .args in Turning s x (a .shared .now) (a .slots .now) (a .count) (a .locals .now) (a .len) (a .lslots .now) (a .lcount) (a .text .now) (a .y) (a .e)
+Turns c s x = let a = c .args in Turning s x (a .shared .now) (a .slots .now) (a .count) (a .locals .now) (a .len) (a .lslots .now) (a .lcount) (a .text .now) (a .e)
+
+abbrev y-of : tie.Start → Text
+y-of c = part (c .args .text .now) (c .args .y)
 
 -- the function's start, as these places see it
 abbrev start-after-add-variable : tie.After-add-variable → tie.Start
@@ -35,7 +38,7 @@ start-after-value c = c .before .before .before .before .before .before .before 
 
 -- the locals with y last, in any session that the texts hold
 held : (c : tie.After-add-variable) (s : Session) (x : Expr) (a : Element) → Turns (start-after-add-variable c) s x → Holds (single a) (start-after-add-variable c .args .element .now)
-    → Variables (s .locals ++ (record { name = part (start-after-add-variable c .args .text .now) (start-after-add-variable c .args .y); value = single a } ∷ [])) (take (c .add-variable .result) (c .add-variable .last .0))
+    → Variables (s .locals ++ (record { name = y-of (start-after-add-variable c); value = single a } ∷ [])) (take (c .add-variable .result) (c .add-variable .last .0))
     (start-after-add-variable c .args .lcount + 1) (c .add-variable .last .1 .1 .0)
 held c s x a I h =
     let start = start-after-add-variable c in
@@ -51,12 +54,12 @@ longer c = omega (arith, c .add-variable .ensures .0)
 
 -- what was evaluated, in any session that the texts hold
 valued : (c : tie.After-value) (s : Session) (x : Expr) (a : Element) → Turns (start-after-value c) s x → Holds (single a) (start-after-value c .args .element .now)
-    → Valued (c .value .result) (Values.value (withLast s (part (start-after-value c .args .text .now) (start-after-value c .args .y)) a) x) (c .value .last .1 .1 .1 .1 .1 .1 .1 .1 .0)
+    → Valued (c .value .result) (Expressions.value (withElement s (y-of (start-after-value c)) a) x) (c .value .last .1 .1 .1 .1 .1 .1 .1 .1 .0)
 valued c s x a I h =
     let back-9 = c .before .before .before .before .before .before .before .before .before in
     let start = back-9 .before .before .before .before .before .before .before .before .before .before .before .before in
-    c .value .ensures (withLast s (part (start .args .text .now) (start .args .y)) a) x
-    (with-last I a (back-9 .add-variable .last .0) (back-9 .add-variable .result) (back-9 .add-variable .last .1 .1 .0) (held back-9 s x a I h) (start .pre .0 .y-named) (h .is-valid)) (I .meant)
+    c .value .ensures (withElement s (y-of start) a) x
+    (with-last I (y-of start) a (back-9 .add-variable .last .0) (back-9 .add-variable .result) (back-9 .add-variable .last .1 .1 .0) (held back-9 s x a I h) (start .pre .0 .y-named) (h .is-valid)) (I .meant)
 
 sub-add-variable : tie.Need-sub-add-variable
 sub-add-variable c =
@@ -77,7 +80,7 @@ add-variable-requires : tie.Need-add-variable-requires
 add-variable-requires c κs =
     let start = c .before .before .before .before .before .before .before .before .before .before .before in
     let P = start .pre in
-    let n = name-length (part (start .args .text .now) (start .args .y)) (P .0 .y-named) in
+    let n = name-length (y-of start) (P .0 .y-named) in
     (omega (arith, P .1 .0 .2), omega (arith, P .1 .0 .2, P .0 .locals-short, P .1 .0 .1, n .1), P .0 .slots-room)
 
 slice-reshare-prefix-value : tie.Need-slice-reshare-prefix-value
@@ -99,9 +102,9 @@ value-requires c κs =
     let E = P .1 .0 .0 in (
       record {
         session =
-            withLast (P .0 .session) (part (start .args .text .now) (start .args .y)) (E .element);
+            withElement (P .0 .session) (y-of start) (E .element);
         scope =
-            with-last (P .0 .turning) (E .element) (back-8 .add-variable .last .0) (back-8 .add-variable .result) (back-8 .add-variable .last .1 .1 .0) (held back-8 (P .0 .session) (P .0 .says .expression) (E .element) (P .0 .turning) (E .held)) (P .0 .y-named) (E .held .is-valid);
+            with-last (P .0 .turning) (y-of start) (E .element) (back-8 .add-variable .last .0) (back-8 .add-variable .result) (back-8 .add-variable .last .1 .1 .0) (held back-8 (P .0 .session) (P .0 .says .expression) (E .element) (P .0 .turning) (E .held)) (P .0 .y-named) (E .held .is-valid);
       },
       ((P .0 .says, P .0 .text-short), P .1 .1),
     )
@@ -111,7 +114,7 @@ settled-requires c κs =
     let start = c .before .before .before .before .before .before .before .before .before .before .before .before .before .before .before .before .before .before .before .before .before .before .before .before .before .before in
     let P = start .pre in
     let E = P .1 .0 .0 in
-    record { value = Values.value (withLast (P .0 .session) (part (start .args .text .now) (start .args .y)) (E .element)) (P .0 .says .expression); valued = valued (c .before .before .before .before .before) (P .0 .session) (P .0 .says .expression) (E .element) (P .0 .turning) (E .held) }
+    record { value = Expressions.value (withElement (P .0 .session) (y-of start) (E .element)) (P .0 .says .expression); valued = valued (c .before .before .before .before .before) (P .0 .session) (P .0 .says .expression) (E .element) (P .0 .turning) (E .held) }
 
 same-length : tie.Need-same-length
 same-length c = search needs
@@ -130,9 +133,8 @@ returns c =
     let back-6 = c .before .before .before .before .before .before in
     let back-15 = back-6 .before .before .before .before .before .before .before .before .before in
     let start = back-15 .before .before .before .before .before .before .before .before .before .before .before .before in (
-      λ s x a I h. made-of I a (back-15 .add-variable .last .0) (back-15 .add-variable .result) (back-15 .add-variable .last .1 .1 .0) (held back-15 s x a I h) (c .settled .result) _
-          (c .settled .ensures _ (valued back-6 s x a I h) (light-last s (part (start .args .text .now) (start .args .y)) a (I .is-light) x)),
-      λ s x I. let E = start .pre .1 .0 .0 in without-last I (E .element) (back-15 .add-variable .last .0) (back-15 .add-variable .result) (back-15 .add-variable .last .1 .1 .0) (held back-15 s x (E .element) I (E .held)) (short back-15) (longer back-15),
+      λ s x a I h. c .settled .ensures _ (valued back-6 s x a I h),
+      λ s x I. let E = start .pre .1 .0 .0 in without-last I (y-of start) (E .element) (back-15 .add-variable .last .0) (back-15 .add-variable .result) (back-15 .add-variable .last .1 .1 .0) (held back-15 s x (E .element) I (E .held)) (short back-15) (longer back-15),
     )
 
 pub turn-spec : {M : Type 1} → statement M

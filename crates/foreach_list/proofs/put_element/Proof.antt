@@ -1,12 +1,9 @@
--- `replacing::list::put_element` meets its contract. What is too heavy stays so; a light list has room for its text.
+-- `foreach_list::put_element` meets its contract. What is too heavy stays so; a light list has room for its text.
 -- Assumes nothing.
 use mathlib.Core.Path.{sym}
 use native.Mathlib.Omega.{arith}
 use lib.Seq.{length-take-le}
-use mathlib.Core.List.{[], _∷_, _++_}
-use Rattle.language.specs.State.{list}
-use Rattle.foreach_element.proofs.Drafting.{heavy-drafted}
-use Rattle.foreach_list.proofs.Growing.{too-heavy, fits, grown}
+use Rattle.foreach_list.proofs.Growing.{fits, grown-heavy, grown}
 use borrow.Author.Needs.{needs}
 use Rattle.foreach_list.proofs.put_element.Statement.{statement}
 use Rattle.foreach_list.proofs.put_element.Tie as tie
@@ -20,7 +17,7 @@ add-weight-2 c =
     omega (arith, start .pre .0 .drafted .small, start .pre .1 .drafted .small)
 
 returns : tie.Need-returns
-returns c es e D E = heavy-drafted (list (es ++ (e ∷ []))) _ (too-heavy D E (c .if1 .taken))
+returns c f es a D E = grown-heavy f es a D E _ (c .if1 .taken)
 
 slice-aggregate-copy-in : tie.Need-slice-aggregate-copy-in
 slice-aggregate-copy-in c =
@@ -36,7 +33,7 @@ same-length : tie.Need-same-length
 same-length c = search needs
 
 returns-2 : tie.Need-returns-2
-returns-2 c es e D E = grown D E (c .before .before .before .before .before .if1 .left) _ _ (c .before .before .copy-in .ensures)
+returns-2 c f es a D E = grown f es a D E _ _ (c .before .before .before .before .before .if1 .left) (c .before .before .copy-in .ensures)
 
 pub put-element-spec : {M : Type 1} → statement M
 put-element-spec =

@@ -1,4 +1,4 @@
--- `replacing::list::replace_all` meets its contract. The invariant: the elements before `at` are replaced, and the others stand from there on. The measure is what is left of the list's text.
+-- `foreach_list::replace_all` meets its contract. The invariant: the elements before `at` are replaced, and the others stand from there on. The measure is what is left of the list's text.
 -- Assumes nothing.
 use mathlib.Core.Path.{_≡_, refl, subst, _∙_}
 use Prim.Native.Nat.{_-_, _≤_}
@@ -16,7 +16,7 @@ use Rattle.values.specs.Answers.{Nexts}
 use Rattle.values.proofs.Listing.{Stepped, stepped}
 use Rattle.evaluate.specs.Drafts.{Lent}
 use Rattle.foreach_element.specs.declared.Made.{Made}
-use Rattle.foreach_element.specs.Drafts.{Gives, MadeOf}
+use Rattle.foreach_element.specs.Drafts.{Drafted, MadeOf}
 use Rattle.foreach_element.specs.Turning.{Turning}
 use Rattle.foreach_list.proofs.Looping.{Reached, reached-start, some-rest, some-list, reached-end, reached-fails, reached-on, still, part-length}
 use Rattle.foreach_list.proofs.replace_all.Statement.{statement}
@@ -25,8 +25,8 @@ use Rattle.foreach_list.proofs.replace_all.Tie as tie
 abbrev Inv-loop : tie.InvT-loop
 Inv-loop shared slots count locals₀ len lslots₀ lcount text y e elements value₀ out₀ labels₀ at₀ d₀ locals lslots value out labels at d =
     Lent value labels × (32768 ≤ length out)
-    × ((s : Session) (x : Expr) → Turning s x shared slots count locals₀ len lslots₀ lcount text y e → Turning s x shared slots count locals len lslots lcount text y e)
-    × ((s : Session) (x : Expr) (es : List Element) → Turning s x shared slots count locals₀ len lslots₀ lcount text y e → Holds (list es) elements
+    × ((s : Session) (x : Expr) → Turning s x shared slots count locals₀ len lslots₀ lcount text e → Turning s x shared slots count locals len lslots lcount text e)
+    × ((s : Session) (x : Expr) (es : List Element) → Turning s x shared slots count locals₀ len lslots₀ lcount text e → Holds (list es) elements
     → Reached (replaced s (part text y) x) es elements at out d)
     × (length locals ≡ length locals₀) × (length lslots ≡ length lslots₀) × (length value ≡ length value₀) × (length out ≡ length out₀) × (length labels ≡ length labels₀)
 
@@ -35,7 +35,7 @@ abbrev μ-loop : tie.MeasureT-loop
     length elements - at
 
 abbrev Turns : (c : tie.Start Inv-loop μ-loop) → Session → Expr → Type 0
-Turns c s x = let a = c .args in Turning s x (a .shared .now) (a .slots .now) (a .count) (a .locals .now) (a .len) (a .lslots .now) (a .lcount) (a .text .now) (a .y) (a .e)
+Turns c s x = let a = c .args in Turning s x (a .shared .now) (a .slots .now) (a .count) (a .locals .now) (a .len) (a .lslots .now) (a .lcount) (a .text .now) (a .e)
 
 -- the function's start, as these places see it
 abbrev start-at-loop : tie.At-loop Inv-loop μ-loop → tie.Start Inv-loop μ-loop
@@ -93,7 +93,7 @@ turned c s x es I R r e =
 
 given : (c : tie.After-made Inv-loop μ-loop) (s : Session) (x : Expr) (es : List Element) (I : Turns (start-after-made c) s x)
     (R : Goes (c .before .before .before .before .before .before .before .before .before .before .before .before .before .before .before .before .before .before .before .before) s x es)
-    → Gives single (replaced s (part (start-after-made c .args .text .now) (start-after-made c .args .y)) x
+    → Drafted single (replaced s (part (start-after-made c .args .text .now) (start-after-made c .args .y)) x
     (steps (c .before .before .before .before .before .before .before .before .before .before .before .before .before .before .before .before .before) s x es R .element))
     (c .before .before .before .before .before .before .before .before .before .before .turn .last .1 .1 .1 .1 .1 .1 .1 .1 .1 .1 .1 .0) (c .made .given .0 .0)
 given c s x es I R =
@@ -246,7 +246,7 @@ put-element-requires c κs =
     let start = back-23 .before .before .before .before .before .before .before .before .before .before .before .before .before .before .before in
     let P = start .pre in
     let G = given (c .before .before .before) (P .0 .session) (P .0 .says .expression) (P .1 .0 .0 .elements) (P .0 .turning) (some back-23) in
-    (some-list _ _ _ _ _ _ (some back-23), record { element = G .result; drafted = G .drafted }, back-23 .loop .inv .1)
+    (some-list _ _ _ _ _ _ (some back-23), record { outcome = _; drafted = G }, back-23 .loop .inv .1)
 
 loop-less : tie.Need-loop-less Inv-loop μ-loop
 loop-less c =
@@ -270,9 +270,10 @@ loop-again c =
       λ s x I. back-16 .turn .ensures .1 s x (L .inv .2 s x I),
       λ s x es I h.
           let R = L .inv .3 s x es I h in
-          let G = given back-6 s x es I R in
-          reached-on (replaced s (part (start .args .text .now) (start .args .y)) x) es (start .args .elements .now) (L .at) (L .out) (L .d) R
-          (back-23 .next .given .0 .0) (steps back-23 s x es R) (G .result) _ _ (G .is-result) (c .before .before .put-element .ensures (R .done) (G .result) (R .drafted) (G .drafted)),
+          let f = replaced s (part (start .args .text .now) (start .args .y)) x in
+          let N = steps back-23 s x es R in
+          reached-on f es (start .args .elements .now) (L .at) (L .out) (L .d) R (back-23 .next .given .0 .0) N _ _
+          (c .before .before .put-element .ensures f (R .gone) (N .element) (R .drafted) (given back-6 s x es I R)),
       omega (arith, L .inv .4, K .1 .1 .1 .0),
       omega (arith, L .inv .5, K .1 .1 .1 .1 .1 .0),
       omega (arith, L .inv .6, K .1 .1 .1 .1 .1 .1 .1 .1 .1 .1 .1 .0),

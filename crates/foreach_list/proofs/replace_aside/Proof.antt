@@ -1,4 +1,4 @@
--- `replacing::list::replace_aside` meets its contract. The copy holds the same locals, and what it leaves of their slots holds for them too.
+-- `foreach_list::replace_aside` meets its contract. The copy holds the same locals, and what it leaves of their slots holds for them too.
 -- Assumes nothing.
 use mathlib.Core.Path.{refl, sym, _∙_}
 use Prim.Native.Nat.{ℕ}
@@ -15,7 +15,7 @@ use Rattle.foreach_list.proofs.replace_aside.Statement.{statement}
 use Rattle.foreach_list.proofs.replace_aside.Tie as tie
 
 abbrev Turns : (c : tie.Start) → Session → Expr → Type 0
-Turns c s x = let a = c .args in Turning s x (a .shared .now) (a .slots .now) (a .count) (a .locals .now) (a .len) (a .lslots .now) (a .lcount) (a .text .now) (a .y) (a .e)
+Turns c s x = let a = c .args in Turning s x (a .shared .now) (a .slots .now) (a .count) (a .locals .now) (a .len) (a .lslots .now) (a .lcount) (a .text .now) (a .e)
 
 -- the function's start, as these places see it
 abbrev start-after-copy : tie.After-copy → tie.Start
@@ -23,7 +23,7 @@ start-after-copy c = c .before .before .before .before .before .before .before .
 
 -- the copy holds the same locals
 aside : (c : tie.After-copy) (s : Session) (x : Expr) → Turns (start-after-copy c) s x
-    → let a = (start-after-copy c) .args in Turning s x (a .shared .now) (a .slots .now) (a .count) (c .copy .last .0) (a .len) (a .lslots .now) (a .lcount) (a .text .now) (a .y) (a .e)
+    → let a = (start-after-copy c) .args in Turning s x (a .shared .now) (a .slots .now) (a .count) (c .copy .last .0) (a .len) (a .lslots .now) (a .lcount) (a .text .now) (a .e)
 aside c s x I =
     let start = start-after-copy c in
     let a = start .args in elsewhere I (c .copy .last .0) (copied-front _ (a .locals .now) (a .len) (start .pre .1 .0 .2) (c .copy .last .0) (c .copy .ensures))

@@ -1,10 +1,7 @@
--- `replacing::list::start` meets its contract. A list's first line.
+-- `foreach_list::start` meets its contract. A list's first line.
 -- Assumes nothing.
 use mathlib.Core.Path.{refl}
-use native.Mathlib.Omega.{arith}
-use mathlib.Core.List.{[]}
-use Rattle.language.specs.State.{list}
-use Rattle.foreach_list.proofs.Growing.{put-drafted}
+use Rattle.foreach_list.proofs.Growing.{empty-drafted}
 use borrow.Author.Needs.{needs}
 use Rattle.foreach_list.proofs.start.Statement.{statement}
 use Rattle.foreach_list.proofs.start.Tie as tie
@@ -16,7 +13,7 @@ same-length : tie.Need-same-length
 same-length c = search needs
 
 returns : tie.Need-returns
-returns c = put-drafted (list []) _ _ _ _ 0 (record { is-valid = tt; is-text = refl }) (c .before .before .put-list .ensures) refl (omega arith)
+returns c = empty-drafted _ _ _ _ (record { is-valid = tt; is-text = refl }) (c .before .before .put-list .ensures)
 
 pub start-spec : {M : Type 1} → statement M
 start-spec = tie.close (tie.spec put-list-requires same-length returns)

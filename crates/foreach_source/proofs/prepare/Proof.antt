@@ -6,12 +6,12 @@ use native.Mathlib.Omega.{arith}
 use borrow.Author.Tests.{not-true, not-false}
 use Rattle.language.specs.Text.{Text}
 use Rattle.language.specs.Values.{Session}
-use Rattle.language.specs.Commands.{isFilled}
+use Rattle.language.specs.Commands.{elements, isFilled}
 use Rattle.text.specs.Meaning.{part}
 use Rattle.session.specs.Sessions.{Slices, slices, Running}
 use Rattle.lookup.proofs.Looking.{scoped, sending}
 use Rattle.foreach_source.specs.declared.Source.{Source}
-use Rattle.foreach_source.specs.Sources.{source, forbidden, Sourced, Copied}
+use Rattle.foreach_source.specs.Sources.{forbidden, Sourced, Copied}
 use Rattle.foreach_source.proofs.Sourcing.{not-filled, filled}
 use Rattle.foreach_source.proofs.Denying.{denied-list, not-evaluated, evaluated-by}
 use borrow.Author.Needs.{needs}
@@ -43,26 +43,26 @@ may c s R =
 found : (c : tie.After-copy-list) (s : Session)
     → let start = c .before .before .before .before .before .before .before .before .before .before .before .before .before .before in
     Runs start s → (r : Source) → c .copy-list .result ≡ r
-    → Sourced r (source s (y-of start) (x-of start)) (c .copy-list .last .1 .1 .1 .1 .1 .1 .1 .1 .0)
+    → Sourced r (elements s (y-of start) (x-of start)) (c .copy-list .last .1 .1 .1 .1 .1 .1 .1 .1 .0)
 found c s R r e =
     let back-14 = c .before .before .before .before .before .before .before .before .before .before .before .before .before .before in
     let start = back-14 in
-    subst (λ (q : Source). Sourced q (source s (y-of start) (x-of start)) (c .copy-list .last .1 .1 .1 .1 .1 .1 .1 .1 .0)) e
+    subst (λ (q : Source). Sourced q (elements s (y-of start) (x-of start)) (c .copy-list .last .1 .1 .1 .1 .1 .1 .1 .1 .0)) e
     (c .copy-list .ensures s (scoped s (start .args .l) (lent start) R))
 
 copied : (c : tie.After-found) (s : Session)
     → let start = c .before .before .before .before .before .before .before .before .before .before .before .before .before .before .before .before .before .before in
     Runs start s
-    → Copied (source s (y-of start) (x-of start)) (c .before .before .before .before .copy-list .last .1 .1 .1 .1 .1 .1 .1 .1 .0) (c .found .given .0 .0)
+    → Copied (elements s (y-of start) (x-of start)) (c .before .before .before .before .copy-list .last .1 .1 .1 .1 .1 .1 .1 .1 .0) (c .found .given .0 .0)
 copied c s R = found (c .before .before .before .before) s R _ (c .found .given .1)
 
 evaluated : (c : tie.Else2) (s : Session)
     → let start = c .before .before .before .before .before .before .before .before .before .before .before .before .before .before .before .before .before .before .before .before in
-    Runs start s → isFilled (source s (y-of start) (x-of start)) ≡ true
+    Runs start s → isFilled (elements s (y-of start) (x-of start)) ≡ true
 evaluated c s R =
     let back-20 = c .before .before .before .before .before .before .before .before .before .before .before .before .before .before .before .before .before .before .before .before in
     let start = back-20 in
-    filled (source s (y-of start) (x-of start)) _ _ (copied (c .before .before) s R) (c .if2 .left)
+    filled (elements s (y-of start) (x-of start)) _ _ (copied (c .before .before) s R) (c .if2 .left)
 
 sub-may-replace : tie.Need-sub-may-replace
 sub-may-replace c = search needs
@@ -118,7 +118,7 @@ returns-3 c s u R m =
     let back-8 = c .before .before .before .before .before .before .before .before in
     let start = back-8 .before .before .before .before .before .before .before .before .before .before .before .before in
     let C = copied (c .before .before) s R in
-    (not-evaluated s (y-of start) (x-of start) u (may back-8 s R) (not-filled (source s (y-of start) (x-of start)) _ _ C (c .if2 .taken)), C)
+    (not-evaluated s (y-of start) (x-of start) u (may back-8 s R) (not-filled (elements s (y-of start) (x-of start)) _ _ C (c .if2 .taken)), C)
 
 may-read-requires : tie.Need-may-read-requires
 may-read-requires c κs =

@@ -4,17 +4,20 @@ use mathlib.Core.Bool.{Bool, true, false, _&&_, _||_, not}
 use mathlib.Core.Option.{Option, none, some}
 use mathlib.Core.List.{List, [], _∷_, _++_, map}
 use lib.Dec.{T}
-use Rattle.language.specs.Text.{Text, if_then_else_, _>>=_, _orElse_, all, each, present}
+use Rattle.language.specs.Text.{Text, if_then_else_, _orElse_, all, present}
 use Rattle.language.specs.Syntax.{Name, rights, Command, create-principal, change-password, set, append-to, local, foreach, set-delegation, delete-delegation, default-delegator, exit, return, Program}
 use Rattle.language.specs.State.{Value, list, Assertion, valueIn, put}
-use Rattle.language.specs.Values.{Session, isShared, isLocal, isDefined, isPrincipal, lookup, asList, value}
-use Rattle.language.specs.Commands.{withStore, withLocals, withVariables, enterAll, withPrincipal, entering, withdrawing, assertionsOn, targets, delegations, granted, assign, replaced, extend, Effect, effect, denied, Step, refused, went, step}
+use Rattle.language.specs.Outcomes.{eachOf}
+use Rattle.language.specs.Values.{Session, isShared, isLocal, isDefined, isPrincipal, lookup, asList, listOf}
+use Rattle.language.specs.Expressions.{value}
+use Rattle.language.specs.Commands.{withStore, withLocals, withVariables, enterAll, withPrincipal, entering, withdrawing, assertionsOn, targets, delegations, granted, assign, elements, replaced, extend, Effect, effect, denied, Step, refused, went, step}
 use Rattle.language.specs.Run.{End, refusal, completed, after, next, perform, Login, unknown, mistaken, right, login, begin, runAs, run}
 use Rattle.language.specs.Programs.{parse}
 use Rattle.language.specs.Events.{Event, enters, withdraws, events, eventsThen, eventsOf, afterEvent, afterEvents}
 use Rattle.language.specs.History.{Call, send, ask, Book, bookAfter, isWrong, entered, bookOf, completedEvents, programEvents, callEvents, historyOf, Reaches, here, onward}
 use Rattle.language.proofs.Logic.Tests.{true-of}
-use Rattle.language.proofs.Logic.Outcomes.{Where, anything, bind-where, given-where}
+use Rattle.language.proofs.Logic.Outcomes.{Where, bind-where, if-where}
+use Rattle.language.proofs.Logic.Giving.{Giving, giving-any, bind-giving, bind-from, provided-giving}
 use Rattle.language.proofs.Meaning.ValidRuns.{Went, verdict-went}
 
 -- ---- lists of events
@@ -63,38 +66,38 @@ assign-defined : (s : Session) (x : Name) (v : Value) → T (isDefined s x) → 
 assign-defined s x v d =
     assign-enters s x v ∙ ap (λ b. afterEvents (s .store .assertions) (if b then [] else map enters (granted s x))) (true-of (isDefined s x) d)
 
-listed : (s : Session) (x : Name) → Where (λ es. T (isDefined s x)) (lookup s x >>= asList)
+listed : (s : Session) (x : Name) → Where (λ es. T (isDefined s x)) (listOf s x)
 listed s x = bind-where (λ v. T (isDefined s x)) (λ es. T (isDefined s x)) (lookup s x) asList (lookup-defined s x) as-list
   where
     as-list : (v : Value) → T (isDefined s x) → Where (λ es. T (isDefined s x)) (asList v)
     as-list (Value.single e) d = tt
     as-list (list es) d = d
 
-pub effect-enters : (s : Session) (c : Command) → Where (Enters s (events s c)) (effect s c)
+pub effect-enters : (s : Session) (c : Command) → Giving (Enters s (events s c)) (effect s c)
 effect-enters s (create-principal p t) =
-    given-where (Enters s (events s (create-principal p t))) (not (isPrincipal s p)) _
+    provided-giving (Enters s (events s (create-principal p t))) (not (isPrincipal s p)) _
     (λ h. after-entering (s .store .assertions) (delegations rights (withPrincipal (s .store) p t) (s .store .delegator) p))
-effect-enters s (change-password p t) = given-where (Enters s []) (isPrincipal s p) _ (λ h. refl)
+effect-enters s (change-password p t) = provided-giving (Enters s []) (isPrincipal s p) _ (λ h. refl)
 effect-enters s (set x e) =
-    bind-where (λ v. Unit {0}) (Enters s (events s (set x e))) (value s e) _ (anything (value s e)) (λ v h. assign-enters s x v)
+    bind-giving (λ v. Unit {0}) (Enters s (events s (set x e))) (value s e) _ (giving-any (value s e)) (λ v h. assign-enters s x v)
 effect-enters s (append-to x e) =
-    bind-where (λ v. Unit {0}) (Enters s []) (value s e) _ (anything (value s e)) (λ v h.
-    bind-where (λ es. T (isDefined s x)) (Enters s []) (lookup s x >>= asList) _ (listed s x) (λ es d. assign-defined s x (list (extend es v)) d))
+    bind-from (λ es. T (isDefined s x)) (Enters s []) (listOf s x) _ (listed s x) (λ es d.
+    bind-giving (λ v. Unit {0}) (Enters s []) (value s e) _ (giving-any (value s e)) (λ v h. assign-defined s x (list (extend es v)) d))
 effect-enters s (local x e) =
-    bind-where (λ v. Unit {0}) (Enters s []) (value s e) _ (anything (value s e)) (λ v h. given-where (Enters s []) (not (isDefined s x)) _ (λ n. refl))
+    provided-giving (Enters s []) (not (isDefined s x)) _ (λ n. bind-giving (λ v. Unit {0}) (Enters s []) (value s e) _ (giving-any (value s e)) (λ v h. refl))
 effect-enters s (foreach y x e) =
-    given-where (Enters s []) (not (isDefined s y)) _ (λ n.
-    bind-where (λ es. T (isDefined s x)) (Enters s []) (lookup s x >>= asList) _ (listed s x) (λ es d.
-    bind-where (λ fs. Unit {0}) (Enters s []) (each (replaced s y e) es) _ (anything (each (replaced s y e) es)) (λ fs h. assign-defined s x (list fs) d)))
+    bind-from (λ es. T (isDefined s x)) (Enters s []) (elements s y x) _
+    (if-where (λ es. T (isDefined s x)) (isDefined s y) none (listOf s x) (λ n. tt) (λ n. listed s x)) (λ es d.
+    bind-giving (λ fs. Unit {0}) (Enters s []) (eachOf (replaced s y e) es) _ (giving-any (eachOf (replaced s y e) es)) (λ fs h. assign-defined s x (list fs) d))
 effect-enters s (set-delegation t q r p) =
-    given-where (Enters s (events s (set-delegation t q r p))) (isPrincipal s p && isPrincipal s q && all (isShared s) (targets (s .store) t q)) _
+    provided-giving (Enters s (events s (set-delegation t q r p))) (isPrincipal s p && isPrincipal s q && all (isShared s) (targets (s .store) t q)) _
     (λ h. after-entering (s .store .assertions) (assertionsOn (targets (s .store) t q) q r p))
 effect-enters s (delete-delegation t q r p) =
-    given-where (Enters s (events s (delete-delegation t q r p))) (isPrincipal s p && isPrincipal s q && all (isShared s) (targets (s .store) t q)) _
+    provided-giving (Enters s (events s (delete-delegation t q r p))) (isPrincipal s p && isPrincipal s q && all (isShared s) (targets (s .store) t q)) _
     (λ h. after-withdrawing (s .store .assertions) (assertionsOn (targets (s .store) t q) q r p))
-effect-enters s (default-delegator p) = given-where (Enters s []) (isPrincipal s p) _ (λ h. refl)
+effect-enters s (default-delegator p) = provided-giving (Enters s []) (isPrincipal s p) _ (λ h. refl)
 effect-enters s exit = refl
-effect-enters s (return e) = bind-where (λ v. Unit {0}) (Enters s []) (value s e) _ (anything (value s e)) (λ v h. refl)
+effect-enters s (return e) = bind-giving (λ v. Unit {0}) (Enters s []) (value s e) _ (giving-any (value s e)) (λ v h. refl)
 
 step-enters : (s : Session) (c : Command) → Went (Enters s (events s c)) (step s c)
 step-enters s c = verdict-went (Enters s (events s c)) (denied s c) (effect s c) (effect-enters s c)

@@ -3,6 +3,8 @@ use mathlib.Core.Path.{_≡_, refl, ap₂, subst}
 use mathlib.Core.Logic.{_⊎_, inl, inr}
 use mathlib.Core.Bool.{Bool, true, false, _&&_, _||_, not}
 use mathlib.Core.List.{List, [], _∷_, _++_, map}
+use Prim.Native.Nat.{ℕ, zero, suc}
+use lib.ListN.{take, drop}
 use lib.Dec.{T, T-not, not-T, eqb, eqb→eq, eqb-refl}
 use Rattle.language.specs.Text.{Text, _==_, any, all, member, distinct}
 use Rattle.language.specs.Syntax.{Right, same}
@@ -142,6 +144,18 @@ all-append f [] m h k = k
 all-append f (a ∷ l) m h k =
     let (h₁, h₂) = both (f a) (all f l) h in
     and (f a) (all f (l ++ m)) h₁ (all-append f l m h₂ k)
+
+pub all-take : {A : Type 0} (f : A → Bool) (n : ℕ) (l : List A) → T (all f l) → T (all f (take n l))
+all-take f zero l h = tt
+all-take f (suc n) [] h = tt
+all-take f (suc n) (a ∷ l) h =
+    let (h₁, h₂) = both (f a) (all f l) h in
+    and (f a) (all f (take n l)) h₁ (all-take f n l h₂)
+
+pub all-drop : {A : Type 0} (f : A → Bool) (n : ℕ) (l : List A) → T (all f l) → T (all f (drop n l))
+all-drop f zero l h = h
+all-drop f (suc n) [] h = tt
+all-drop f (suc n) (a ∷ l) h = all-drop f n l (both (f a) (all f l) h .1)
 
 pub any-append : {A : Type 0} (f : A → Bool) (l m : List A) → T (any f (l ++ m)) → T (any f l) ⊎ T (any f m)
 any-append f [] m h = inr h

@@ -12,11 +12,13 @@ use Rattle.language.specs.Syntax.{Command, create-principal, change-pass
 use Rattle.language.specs.State.{Store}
 use Rattle.language.specs.Output.{returning}
 use Rattle.language.specs.Valid.{validStore}
-use Rattle.language.specs.Values.{Session, value}
+use Rattle.language.specs.Outcomes.{gives}
+use Rattle.language.specs.Values.{Session}
+use Rattle.language.specs.Expressions.{value}
 use Rattle.language.specs.Commands.{Effect, effect, denied, Step, refused, went, step}
 use Rattle.language.specs.Run.{End, refusal, completed, after, next, perform, Login, unknown, mistaken, right, login, begin, runAs, run, lineCount}
 use Rattle.language.proofs.Logic.Tests.{both}
-use Rattle.language.proofs.Logic.Outcomes.{Where, where-map, bind-where}
+use Rattle.language.proofs.Logic.Giving.{Giving, giving-map, bind-giving}
 use Rattle.language.proofs.Parsing.ValidPrograms.{validCommand, validProgram}
 use Rattle.language.proofs.Meaning.ValidValues.{Good, IsValid, value-valid}
 use Rattle.language.proofs.Meaning.ValidRuns.{Ready, Done, Went, verdict-went, step-done, begin-ready, commands-valid}
@@ -26,10 +28,10 @@ use Rattle.language.proofs.Meaning.Printed.{count-append, returning-one
 abbrev One : Effect → Type 0
 One f = lineCount (f .line) ≡ 1
 
-said : (s : Session) (c : Command) → T (not (isReturn c)) → Where One (effect s c)
-said s c h = where-map (Says c) One (effect s c) (λ f e. ap lineCount e ∙ status-one c) (says s c h)
+said : (s : Session) (c : Command) → T (not (isReturn c)) → Giving One (effect s c)
+said s c h = giving-map (Says c) One (effect s c) (λ f e. ap lineCount e ∙ status-one c) (says s c h)
 
-one-line : (s : Session) → Good s → (c : Command) → T (validCommand c) → Where One (effect s c)
+one-line : (s : Session) → Good s → (c : Command) → T (validCommand c) → Giving One (effect s c)
 one-line s g (create-principal p t) h = said s (create-principal p t) tt
 one-line s g (change-password p t) h = said s (change-password p t) tt
 one-line s g (set x e) h = said s (set x e) tt
@@ -41,7 +43,7 @@ one-line s g (delete-delegation t q r p) h = said s (delete-delegation t q r p) 
 one-line s g (default-delegator p) h = said s (default-delegator p) tt
 one-line s g exit h = said s exit tt
 one-line s g (return e) h =
-    bind-where IsValid One (value s e) (λ v. some (record { after = s; values = v ∷ []; line = returning v })) (value-valid s g e h) (λ v i. returning-one v i)
+    bind-giving IsValid One (value s e) (λ v. gives (record { after = s; line = returning v })) (value-valid s g e h) (λ v i. returning-one v i)
 
 -- a command that is done prints one line
 pub line-one : (s : Session) → Ready s → (c : Command) → T (validCommand c) → (f : Effect) → step s c ≡ went f → lineCount (f .line) ≡ 1

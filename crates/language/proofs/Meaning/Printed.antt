@@ -8,17 +8,20 @@ use mathlib.Core.Bool.{Bool, true, false, _&&_, not}
 use mathlib.Core.List.{List, [], _∷_, _++_, map}
 use lib.ListN.{length}
 use lib.Dec.{T, ltb, eqb}
-use Rattle.language.specs.Text.{Text, bytes, if_then_else_, all, each, distinct, _>>=_}
+use Rattle.language.specs.Text.{Text, bytes, if_then_else_, all, distinct}
 use Rattle.language.specs.Syntax.{Command, create-principal, change-password, set, append-to, local, foreach, set-delegation, delete-delegation, default-delegator, exit, return}
 use Rattle.language.specs.Identifiers.{isName, isString}
 use Rattle.language.specs.State.{Field, Element, string, fields, Value, single, list}
 use Rattle.language.specs.Output.{quote, commas, fieldJson, elementJson, valueJson, status, returning}
 use Rattle.language.specs.Valid.{validField, validElement, validValue}
-use Rattle.language.specs.Values.{Session, isPrincipal, isDefined, isShared, lookup, asList, value}
-use Rattle.language.specs.Commands.{replaced, targets, Effect, effect, denied, went, step}
+use Rattle.language.specs.Outcomes.{eachOf}
+use Rattle.language.specs.Values.{Session, isPrincipal, isDefined, isShared, listOf}
+use Rattle.language.specs.Expressions.{value}
+use Rattle.language.specs.Commands.{elements, replaced, targets, Effect, effect, denied, went, step}
 use Rattle.language.specs.Run.{lineCount}
 use Rattle.language.proofs.Logic.Tests.{both, three}
-use Rattle.language.proofs.Logic.Outcomes.{Where, anything, bind-where, given-where}
+use Rattle.language.proofs.Logic.Outcomes.{anything}
+use Rattle.language.proofs.Logic.Giving.{Giving, giving-any, bind-giving, bind-from, provided-giving}
 use Rattle.language.proofs.StateText.Lines.{isClean}
 use Rattle.language.proofs.StateText.Clean.{string-clean, name-clean}
 use Rattle.language.proofs.Logic.Lists.{sum-append}
@@ -115,24 +118,23 @@ word (return e) = "RETURNING"
 abbrev pub Says : Command → Effect → Type 0
 Says c f = f .line ≡ status (word c)
 
-pub says : (s : Session) (c : Command) → T (not (isReturn c)) → Where (Says c) (effect s c)
-says s (create-principal p t) h = given-where (Says (create-principal p t)) (not (isPrincipal s p)) _ (λ k. refl)
-says s (change-password p t) h = given-where (Says (change-password p t)) (isPrincipal s p) _ (λ k. refl)
-says s (set x e) h = bind-where (λ v. Unit {0}) (Says (set x e)) (value s e) _ (anything (value s e)) (λ v k. refl)
+pub says : (s : Session) (c : Command) → T (not (isReturn c)) → Giving (Says c) (effect s c)
+says s (create-principal p t) h = provided-giving (Says (create-principal p t)) (not (isPrincipal s p)) _ (λ k. refl)
+says s (change-password p t) h = provided-giving (Says (change-password p t)) (isPrincipal s p) _ (λ k. refl)
+says s (set x e) h = bind-giving (λ v. Unit {0}) (Says (set x e)) (value s e) _ (giving-any (value s e)) (λ v k. refl)
 says s (append-to x e) h =
-    bind-where (λ v. Unit {0}) (Says (append-to x e)) (value s e) _ (anything (value s e)) (λ v k.
-    bind-where (λ v. Unit {0}) (Says (append-to x e)) (lookup s x >>= asList) _ (anything (lookup s x >>= asList)) (λ v k. refl))
+    bind-from (λ es. Unit {0}) (Says (append-to x e)) (listOf s x) _ (anything (listOf s x)) (λ es k.
+    bind-giving (λ v. Unit {0}) (Says (append-to x e)) (value s e) _ (giving-any (value s e)) (λ v k. refl))
 says s (local x e) h =
-    bind-where (λ v. Unit {0}) (Says (local x e)) (value s e) _ (anything (value s e)) (λ v k. given-where (Says (local x e)) (not (isDefined s x)) _ (λ k. refl))
+    provided-giving (Says (local x e)) (not (isDefined s x)) _ (λ k. bind-giving (λ v. Unit {0}) (Says (local x e)) (value s e) _ (giving-any (value s e)) (λ v k. refl))
 says s (foreach y x e) h =
-    given-where (Says (foreach y x e)) (not (isDefined s y)) _ (λ k.
-    bind-where (λ v. Unit {0}) (Says (foreach y x e)) (lookup s x >>= asList) _ (anything (lookup s x >>= asList)) (λ es k.
-    bind-where (λ v. Unit {0}) (Says (foreach y x e)) (each (replaced s y e) es) _ (anything (each (replaced s y e) es)) (λ v k. refl)))
+    bind-from (λ es. Unit {0}) (Says (foreach y x e)) (elements s y x) _ (anything (elements s y x)) (λ es k.
+    bind-giving (λ fs. Unit {0}) (Says (foreach y x e)) (eachOf (replaced s y e) es) _ (giving-any (eachOf (replaced s y e) es)) (λ fs k. refl))
 says s (set-delegation t q r p) h =
-    given-where (Says (set-delegation t q r p)) (isPrincipal s p && isPrincipal s q && all (isShared s) (targets (s .store) t q)) _ (λ k. refl)
+    provided-giving (Says (set-delegation t q r p)) (isPrincipal s p && isPrincipal s q && all (isShared s) (targets (s .store) t q)) _ (λ k. refl)
 says s (delete-delegation t q r p) h =
-    given-where (Says (delete-delegation t q r p)) (isPrincipal s p && isPrincipal s q && all (isShared s) (targets (s .store) t q)) _ (λ k. refl)
-says s (default-delegator p) h = given-where (Says (default-delegator p)) (isPrincipal s p) _ (λ k. refl)
+    provided-giving (Says (delete-delegation t q r p)) (isPrincipal s p && isPrincipal s q && all (isShared s) (targets (s .store) t q)) _ (λ k. refl)
+says s (default-delegator p) h = provided-giving (Says (default-delegator p)) (isPrincipal s p) _ (λ k. refl)
 says s exit h = refl
 says s (return e) h = absurd h
 

@@ -1,18 +1,21 @@
 -- A valid command leaves a good session, whatever it does.
 use mathlib.Core.Bool.{Bool, true, false, _&&_, not}
-use mathlib.Core.Option.{some}
+use mathlib.Core.Option.{none, some}
 use mathlib.Core.List.{List, [], _∷_, map}
 use lib.Dec.{T, T-not}
-use Rattle.language.specs.Text.{if_then_else_, _>>=_, _==_, all, each, present}
+use Rattle.language.specs.Text.{if_then_else_, _==_, all, present}
 use Rattle.language.specs.Syntax.{Name, Right, rights, Command, create-principal, change-password, set, append-to, local, foreach, set-delegation, delete-delegation, default-delegator, exit, return}
 use Rattle.language.specs.State.{Element, Value, single, list, Principal, Variable, Assertion, Store, admin, anyone, named, valueIn, put}
 use Rattle.language.specs.Identifiers.{isIdentifier, isName, isString}
 use Rattle.language.specs.Valid.{hasPassword, validOrder, validElement, validAssertion}
-use Rattle.language.specs.Values.{Session, isShared, isLocal, isDefined, isPrincipal, lookup, asList, value}
-use Rattle.language.specs.Commands.{withStore, withLocals, withPrincipals, withVariables, withDelegator, closed, enterAll, withdrawAll, assertionsOn, targets, created, changed, granted, assign, extend, replaced, Effect, effect}
+use Rattle.language.specs.Outcomes.{eachOf}
+use Rattle.language.specs.Values.{Session, isShared, isLocal, isDefined, isPrincipal, lookup, asList, listOf}
+use Rattle.language.specs.Expressions.{value}
+use Rattle.language.specs.Commands.{withStore, withLocals, withPrincipals, withVariables, withDelegator, closed, enterAll, withdrawAll, assertionsOn, targets, created, changed, granted, assign, extend, elements, replaced, Effect, effect}
 use Rattle.language.proofs.Parsing.ValidPrograms.{validExpr, validCommand}
 use Rattle.language.proofs.Logic.Tests.{both, and, three, and-three, all-append}
-use Rattle.language.proofs.Logic.Outcomes.{Where, bind-where, given-where, each-where}
+use Rattle.language.proofs.Logic.Outcomes.{Where, bind-where, if-where}
+use Rattle.language.proofs.Logic.Giving.{Giving, bind-giving, bind-from, provided-giving, eachOf-giving}
 use Rattle.language.proofs.StateText.Shape.{Shape}
 use Rattle.language.proofs.StateText.Clean.{identifier-name}
 use Rattle.language.proofs.Meaning.ValidValues.{holding, Good, IsValid, list-valid, lookup-valid, value-valid, replaced-valid}
@@ -72,46 +75,47 @@ module _ (s : Session) (g : Good s) where
           (enter-shape (withVariables (s .store) (put x v (s .store .variables))) (put-shape (s .store) (g .store-shape) x v h k) (granted s x)
           (granted-valid x (put x v (s .store .variables)) (put-there x v (s .store .variables)))) (g .sender-known)
 
-  pub effect-good : (c : Command) → T (validCommand c) → Where Keeps (effect s c)
+  list-good : (x : Name) → Where (λ es. T (all validElement es)) (listOf s x)
+  list-good x = bind-where IsValid (λ es. T (all validElement es)) (lookup s x) asList (lookup-valid s g x) list-valid
+
+  pub effect-good : (c : Command) → T (validCommand c) → Giving Keeps (effect s c)
   effect-good (create-principal p t) h =
       let (i, k) = both (isIdentifier p) (isString t) h in
-      given-where Keeps (not (isPrincipal s p)) _ (λ n.
+      provided-giving Keeps (not (isPrincipal s p)) _ (λ n.
       with-store (created (s .store) p t) (created-shape (s .store) (g .store-shape) p t (identifier-name p i) k (T-not (isPrincipal s p) n))
       (added-keeps (s .store .principals) (record { name = p; password = some t }) (s .sender) (g .sender-known)))
   effect-good (change-password p t) h =
       let (i, k) = both (isIdentifier p) (isString t) h in
-      given-where Keeps (isPrincipal s p) _ (λ n.
+      provided-giving Keeps (isPrincipal s p) _ (λ n.
       with-store (withPrincipals (s .store) (map (changed p t) (s .store .principals))) (changed-shape (s .store) (g .store-shape) p t k)
       (changed-keeps p t (s .store .principals) (s .sender) (g .sender-known)))
   effect-good (set x e) h =
       let (i, k) = both (isIdentifier x) (validExpr e) h in
-      bind-where IsValid Keeps (value s e) _ (value-valid s g e k) (λ v l. assign-good x v (identifier-name x i) l)
+      bind-giving IsValid Keeps (value s e) _ (value-valid s g e k) (λ v l. assign-good x v (identifier-name x i) l)
   effect-good (append-to x e) h =
       let (i, k) = both (isIdentifier x) (validExpr e) h in
-      bind-where IsValid Keeps (value s e) _ (value-valid s g e k) (λ v l.
-      bind-where (λ es. T (all validElement es)) Keeps (lookup s x >>= asList) _
-      (bind-where IsValid (λ es. T (all validElement es)) (lookup s x) asList (lookup-valid s g x) list-valid) (λ es m.
+      bind-from (λ es. T (all validElement es)) Keeps (listOf s x) _ (list-good x) (λ es m.
+      bind-giving IsValid Keeps (value s e) _ (value-valid s g e k) (λ v l.
       assign-good x (list (extend es v)) (identifier-name x i) (extend-valid es v m l)))
   effect-good (local x e) h =
       let (i, k) = both (isIdentifier x) (validExpr e) h in
-      bind-where IsValid Keeps (value s e) _ (value-valid s g e k) (λ v l. given-where Keeps (not (isDefined s x)) _ (λ n. put-local x v l))
+      provided-giving Keeps (not (isDefined s x)) _ (λ n. bind-giving IsValid Keeps (value s e) _ (value-valid s g e k) (λ v l. put-local x v l))
   effect-good (foreach y x e) h =
       let (j, i, k) = three (isIdentifier y) (isIdentifier x) (validExpr e) h in
-      given-where Keeps (not (isDefined s y)) _ (λ n.
-      bind-where (λ es. T (all validElement es)) Keeps (lookup s x >>= asList) _
-      (bind-where IsValid (λ es. T (all validElement es)) (lookup s x) asList (lookup-valid s g x) list-valid) (λ es m.
-      bind-where _ Keeps (each (replaced s y e) es) _
-      (each-where (replaced s y e) validElement validElement (replaced-valid s g y e k) es m) (λ fs r. assign-good x (list fs) (identifier-name x i) (r .0))))
+      bind-from (λ es. T (all validElement es)) Keeps (elements s y x) _
+      (if-where (λ es. T (all validElement es)) (isDefined s y) none (listOf s x) (λ n. tt) (λ n. list-good x)) (λ es m.
+      bind-giving (λ fs. T (all validElement fs)) Keeps (eachOf (replaced s y e) es) _
+      (eachOf-giving (replaced s y e) validElement validElement (replaced-valid s g y e k) es m) (λ fs r. assign-good x (list fs) (identifier-name x i) r))
   effect-good (set-delegation t q r p) h =
-      given-where Keeps (isPrincipal s p && isPrincipal s q && all (isShared s) (targets (s .store) t q)) _ (λ n.
+      provided-giving Keeps (isPrincipal s p && isPrincipal s q && all (isShared s) (targets (s .store) t q)) _ (λ n.
       let (kp, kq, kx) = three (isPrincipal s p) (isPrincipal s q) (all (isShared s) (targets (s .store) t q)) n in
       with-store (enterAll (s .store) (assertionsOn (targets (s .store) t q) q r p))
       (enter-shape (s .store) (g .store-shape) (assertionsOn (targets (s .store) t q) q r p) (on-valid (s .store) (targets (s .store) t q) q r p kx kq kp)) (g .sender-known))
   effect-good (delete-delegation t q r p) h =
-      given-where Keeps (isPrincipal s p && isPrincipal s q && all (isShared s) (targets (s .store) t q)) _ (λ n.
+      provided-giving Keeps (isPrincipal s p && isPrincipal s q && all (isShared s) (targets (s .store) t q)) _ (λ n.
       with-store (withdrawAll (s .store) (assertionsOn (targets (s .store) t q) q r p))
       (withdraw-shape (s .store) (g .store-shape) (assertionsOn (targets (s .store) t q) q r p)) (g .sender-known))
   effect-good (default-delegator p) h =
-      given-where Keeps (isPrincipal s p) _ (λ n. with-store (withDelegator (s .store) p) (delegator-shape (s .store) (g .store-shape) p n) (g .sender-known))
+      provided-giving Keeps (isPrincipal s p) _ (λ n. with-store (withDelegator (s .store) p) (delegator-shape (s .store) (g .store-shape) p n) (g .sender-known))
   effect-good exit h = with-store (closed (s .store)) (closed-shape (s .store) (g .store-shape)) (g .sender-known)
-  effect-good (return e) h = bind-where IsValid Keeps (value s e) _ (value-valid s g e h) (λ v l. g)
+  effect-good (return e) h = bind-giving IsValid Keeps (value s e) _ (value-valid s g e h) (λ v l. g)

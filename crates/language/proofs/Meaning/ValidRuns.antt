@@ -7,18 +7,20 @@ use mathlib.Core.Option.{Option, none, some}
 use mathlib.Core.List.{List, [], _∷_}
 use lib.ListN.{length}
 use lib.Dec.{T, T-not, not-T, leb, leb→le, le→leb, ltb, ltb→lt, nltb→le}
-use Rattle.language.specs.Text.{Text, if_then_else_, any, all, present}
+use Rattle.language.specs.Text.{Text, if_then_else_, all, present}
 use Rattle.language.specs.Syntax.{Command, Program}
 use Rattle.language.specs.State.{Principal, Store, State, named, fresh}
-use Rattle.language.specs.Weight.{limit, valueWeight, storeWeight}
+use Rattle.language.specs.Weight.{limit, storeWeight}
 use Rattle.language.specs.Identifiers.{isIdentifier, isString}
 use Rattle.language.specs.Valid.{wellFormed, validStore, valid}
+use Rattle.language.specs.Outcomes.{Outcome, gives, fails, fills}
 use Rattle.language.specs.Values.{Session}
 use Rattle.language.specs.Commands.{Effect, effect, denied, heavy, sessionWeight, Step, refused, went, FULL, verdict, step}
 use Rattle.language.specs.Run.{End, refusal, completed, after, next, perform, Login, unknown, mistaken, right, loginAs, login, begin, runAs, run, counted, left}
 use Rattle.language.proofs.Parsing.ValidPrograms.{validCommand, endsOnce, validProgram}
-use Rattle.language.proofs.Logic.Tests.{both, and, right-of}
+use Rattle.language.proofs.Logic.Tests.{both, and}
 use Rattle.language.proofs.Logic.Outcomes.{Where}
+use Rattle.language.proofs.Logic.Giving.{Giving}
 use Rattle.language.proofs.StateText.Shape.{shape, formed}
 use Rattle.language.proofs.Meaning.ValidValues.{Good}
 use Rattle.language.proofs.Meaning.ValidCommands.{Keeps, effect-good}
@@ -38,7 +40,7 @@ Done (went f) = Ready (f .after)
 light : (f : Effect) → T (not (heavy f)) → storeWeight (f .after .store) ≤ limit
 light f h =
     let k : sessionWeight (f .after) ≤ limit = nltb→le limit (sessionWeight (f .after)) (not-T (ltb limit (sessionWeight (f .after))) (λ t.
-    T-not (heavy f) h (right-of (any (λ v. ltb limit (valueWeight v)) (f .values)) (ltb limit (sessionWeight (f .after))) t))) in
+    T-not (heavy f) h t)) in
     omega (arith, k)
 
 -- what holds of an effect holds of a command done, and then it is not too heavy
@@ -46,10 +48,11 @@ abbrev pub Went : (Effect → Type 0) → Step → Type 0
 Went P (refused r) = Unit {0}
 Went P (went f) = P f × T (not (heavy f))
 
-pub verdict-went : (P : Effect → Type 0) (b : Bool) (o : Option Effect) → Where P o → Went P (verdict b o)
+pub verdict-went : (P : Effect → Type 0) (b : Bool) (o : Outcome Effect) → Giving P o → Went P (verdict b o)
 verdict-went P true o h = tt
-verdict-went P false none h = tt
-verdict-went P false (some f) h = go (heavy f) refl
+verdict-went P false fails h = tt
+verdict-went P false fills h = tt
+verdict-went P false (gives f) h = go (heavy f) refl
   where
     go : (b : Bool) → heavy f ≡ b → Went P (if b then refused FULL else went f)
     go true e = tt

@@ -1,21 +1,29 @@
--- The value of a valid expression is valid.
-use mathlib.Core.Path.{_≡_, sym, subst}
-use mathlib.Core.Bool.{Bool}
+-- The value of a valid expression is valid, and not too heavy.
+use mathlib.Core.Path.{_≡_, refl, sym, subst}
+use Prim.Native.Nat.{ℕ, _+_, _≤_}
+use native.Mathlib.Omega.{arith}
+use mathlib.Core.Bool.{Bool, true, false, _&&_, _||_, not}
 use mathlib.Core.Option.{none, some}
 use mathlib.Core.List.{List, [], _∷_, map}
-use lib.ListN.{length}
-use lib.Dec.{T, ltb}
+use lib.ListN.{length, take, drop}
+use lib.Dec.{T, leb, leb→le, le→leb, ltb, nltb→le, lit≤}
 use Rattle.language.specs.Syntax as E
-use Rattle.language.specs.Text.{_==_, all, each, distinct, present}
-use Rattle.language.specs.Syntax.{Name, Operand, name, dot, quoted, Binding, Expr, nothing}
+use Rattle.language.specs.Text.{Text, if_then_else_, _==_, any, all, each, distinct, present}
+use Rattle.language.specs.Bytes.{_is_, _∈_, between, letter, digit, space, newline, foreign, mark, marks, inString, stringByte}
+use Rattle.language.specs.Syntax.{Name, Operand, name, dot, quoted, Binding, Function, split, concat, Expr, nothing}
 use Rattle.language.specs.State.{Field, Element, string, fields, Value, single, list, Variable, named, valueIn}
 use Rattle.language.specs.Identifiers.{isIdentifier, isName, isString}
+use Rattle.language.specs.Weight.{limit, valueWeight}
 use Rattle.language.specs.Valid.{validField, validFields, validElement, validValue, validVariable}
-use Rattle.language.specs.Values.{Session, lookup, asFields, asString, asList, asElement, textOf, operandValue, fieldValue, value}
-use Rattle.language.specs.Commands.{withLocals, replaced}
+use Rattle.language.specs.Outcomes.{gives, fills, from}
+use Rattle.language.specs.Values.{Session, lookup, asFields, asString, asList, asElement, textOf, operandValue, fieldValue, recordValue}
+use Rattle.language.specs.Functions.{lowerByte, lowercase, cut, onStrings, apply}
+use Rattle.language.specs.Expressions.{isHeavy, weighed, value}
+use Rattle.language.specs.Commands.{withElement, replaced}
 use Rattle.language.proofs.Parsing.ValidPrograms.{validOperand, validBinding, validExpr}
-use Rattle.language.proofs.Logic.Tests.{both, and, and-three, three, all-map}
+use Rattle.language.proofs.Logic.Tests.{both, and, and-three, three, all-map, map-all, all-append, all-take, all-drop}
 use Rattle.language.proofs.Logic.Outcomes.{Where, bind-where, if-where, orElse-where, each-where}
+use Rattle.language.proofs.Logic.Giving.{Giving, giving-map, bind-giving, from-giving, bind-from}
 use Rattle.language.proofs.StateText.Shape.{Shape}
 use Rattle.language.proofs.StateText.Clean.{identifier-name}
 
@@ -65,6 +73,62 @@ text-valid (f ∷ fs) y h =
     if-where (λ t. T (isString t)) (f .label == y) (some (f .text)) (textOf fs y)
     (λ t. both (isName (f .label)) (isString (f .text)) h₁ .1) (λ t. text-valid fs y h₂)
 
+-- ---- functions
+
+small-string : (b : ℕ) → T (between "a" "z" b) → T (stringByte b)
+small-string b h = go (between "a" "z" b) h
+  where
+    go : (c : Bool) → T c → T (inString (if c || between "A" "Z" b then letter
+        else if between "0" "9" b then digit else if b is " " then space else if b is "\n" then newline else if b ∈ marks then mark b else foreign))
+    go true t = tt
+    go false t = absurd t
+
+lower-string : (b : ℕ) → T (stringByte b) → T (stringByte (lowerByte b))
+lower-string b h = go (between "A" "Z" b) refl
+  where
+    go : (c : Bool) → between "A" "Z" b ≡ c → T (stringByte (if c then b + 32 else b))
+    go true e =
+        let (l, u) = both (leb 65 b) (leb b 90) (subst T (sym e) tt) in
+        small-string (b + 32) (and (leb 97 (b + 32)) (leb (b + 32) 122) (le→leb 97 (b + 32) (omega (arith, leb→le 65 b l))) (le→leb (b + 32) 122 (omega (arith, leb→le b 90 u))))
+    go false e = h
+
+-- a string in small letters is a string
+pub lower-valid : (t : Text) → T (isString t) → T (isString (map lowerByte t))
+lower-valid t h = map-all stringByte stringByte lowerByte lower-string t h
+
+lowercase-valid : (v : Value) → IsValid v → Where IsValid (lowercase v)
+lowercase-valid v h =
+    bind-where (λ t. T (isString t)) IsValid (asString v) _ (string-valid v h) (λ t k. lower-valid t k)
+
+-- the two parts of a string are a record
+pub cut-valid : (t : Text) (n : ℕ) → T (isString t) → IsValid (cut t n)
+cut-valid t n h =
+    and (isString (take n t) && (isString (drop n t) && true)) true
+    (and (isString (take n t)) (isString (drop n t) && true) (all-take stringByte n t h) (and (isString (drop n t)) true (all-drop stringByte n t h) tt)) tt
+
+apply-valid : (f : Function) (v w : Value) → IsValid v → IsValid w → Where IsValid (apply f v w)
+apply-valid f v w h k =
+    bind-where (λ t. T (isString t)) IsValid (asString v) _ (string-valid v h) (λ t i.
+    bind-where (λ u. T (isString u)) IsValid (asString w) _ (string-valid w k) (λ u j. go f t u i j))
+  where
+    go : (f : Function) (t u : Text) → T (isString t) → T (isString u) → IsValid (onStrings f t u)
+    go split t u i j = cut-valid t (length u) i
+    go concat t u i j = all-append stringByte t u i j
+
+-- ---- weight
+
+-- a value that may stand: valid, and not too heavy
+abbrev pub Fits : Value → Type 0
+Fits v = IsValid v × (valueWeight v ≤ limit)
+
+weighed-fits : (vs : List Value) (v : Value) → IsValid v → Giving Fits (weighed vs v)
+weighed-fits vs v h = go (isHeavy v) refl (any isHeavy vs)
+  where
+    go : (b : Bool) → isHeavy v ≡ b → (c : Bool) → Giving Fits (if b || c then fills else gives v)
+    go true e c = tt
+    go false e true = tt
+    go false e false = (h, nltb→le limit (valueWeight v) (subst (λ c. T (not c)) (sym e) tt))
+
 module _ (s : Session) (g : Good s) where
   pub lookup-valid : (x : Name) → Where IsValid (lookup s x)
   lookup-valid x =
@@ -87,10 +151,8 @@ module _ (s : Session) (g : Good s) where
       bind-where (λ t. T (isString t)) (λ f. T (validField f)) (asString v) _ (string-valid v k) (λ t l.
       and (isName (b .label)) (isString t) (identifier-name (b .label) x) l))
 
-  pub value-valid : (e : Expr) → T (validExpr e) → Where IsValid (value s e)
-  value-valid (E.single o) h = operand-valid o h
-  value-valid nothing h = tt
-  value-valid (E.fields bs) h =
+  record-valid : (bs : List Binding) → T (validExpr (E.fields bs)) → Where IsValid (recordValue s bs)
+  record-valid bs h =
       let (n, all-valid) = both (ltb 0 (length bs)) (all validBinding bs) h in
       bind-where (λ fs. T (all validField fs) × (length fs ≡ length bs)) IsValid (each (fieldValue s) bs) _
       (each-where (fieldValue s) validBinding validField field-valid bs all-valid) (λ fs r.
@@ -98,18 +160,32 @@ module _ (s : Session) (g : Good s) where
       (λ d. and-three (ltb 0 (length fs)) (all validField fs) (distinct (map (λ f. f .label) fs)) (subst (λ m. T (ltb 0 m)) (sym (r .1)) n) (r .0) d)
       (λ d. tt))
 
--- foreach's y stands before the other locals
-pub replaced-valid : (s : Session) → Good s → (y : Name) (e : Expr) → T (validExpr e) → (a : Element) → T (validElement a)
-    → Where (λ b. T (validElement b)) (replaced s y e a)
-replaced-valid s g y e h a k =
-    bind-where IsValid (λ b. T (validElement b)) (value inner e) asElement (value-valid inner inner-good e h) element-valid
-  where
-    inner : Session
-    inner = withLocals s (record { name = y; value = single a } ∷ s .locals)
+  pub value-fits : (e : Expr) → T (validExpr e) → Giving Fits (value s e)
+  value-fits (E.single o) h = bind-from IsValid Fits (operandValue s o) _ (operand-valid o h) (λ v k. weighed-fits [] v k)
+  value-fits nothing h = (tt, lit≤ tt)
+  value-fits (E.fields bs) h = bind-from IsValid Fits (recordValue s bs) _ (record-valid bs h) (λ v k. weighed-fits [] v k)
+  value-fits (E.tolower o) h =
+      bind-from IsValid Fits (operandValue s o) _ (operand-valid o h) (λ v k.
+      bind-from IsValid Fits (lowercase v) _ (lowercase-valid v k) (λ r l. weighed-fits (v ∷ []) r l))
+  value-fits (E.call f o p) h =
+      let (i, j) = both (validOperand o) (validOperand p) h in
+      bind-from IsValid Fits (operandValue s o) _ (operand-valid o i) (λ v k.
+      bind-from IsValid Fits (operandValue s p) _ (operand-valid p j) (λ w m.
+      bind-from IsValid Fits (apply f v w) _ (apply-valid f v w k m) (λ r l. weighed-fits (v ∷ w ∷ []) r l)))
 
-    inner-good : Good inner
+  pub value-valid : (e : Expr) → T (validExpr e) → Giving IsValid (value s e)
+  value-valid e h = giving-map Fits IsValid (value s e) (λ v k. k .0) (value-fits e h)
+
+-- foreach's y is the last of the locals
+pub replaced-valid : (s : Session) → Good s → (y : Name) (e : Expr) → T (validExpr e) → (a : Element) → T (validElement a)
+    → Giving (λ b. T (validElement b)) (replaced s y e a)
+replaced-valid s g y e h a k =
+    bind-giving IsValid (λ b. T (validElement b)) (value (withElement s y a) e) (λ v. from (asElement v)) (value-valid (withElement s y a) inner-good e h)
+    (λ v i. from-giving (λ b. T (validElement b)) (asElement v) (element-valid v i))
+  where
+    inner-good : Good (withElement s y a)
     inner-good = record {
       store-shape = g .store-shape;
-      locals-valid = and (validElement a) (all holding (s .locals)) k (g .locals-valid);
+      locals-valid = all-append holding (s .locals) (record { name = y; value = single a } ∷ []) (g .locals-valid) (and (validElement a) true k tt);
       sender-known = g .sender-known;
     }

@@ -129,8 +129,8 @@ pair-fine b m (c ∷ cs) =
     if-fine b (c ∷ cs) ((m ∷ c ∷ []) == bytes "//") (comment (past commentByte cs)) bad (λ k. comment-fine b (c ∷ cs) (past commentByte cs)) (λ k. tt)))
 
 -- none of the marks that stand alone goes on a word
-alone : (m : ℕ) → T (m ∈ bytes "=.,{}") → T (wordByte m) → ⊥
-alone m h t = go (bytes "=.,{}") tt h
+alone : (m : ℕ) → T (m ∈ bytes "=.,{}()") → T (wordByte m) → ⊥
+alone m h t = go (bytes "=.,{}()") tt h
   where
     go : (l : Text) → T (all (λ b. not (wordByte b)) l) → T (m ∈ l) → ⊥
     go [] k h = h
@@ -149,7 +149,7 @@ lexeme-fine newline b bs e = tt
 lexeme-fine foreign b bs e = tt
 lexeme-fine (mark m) b bs e =
     if-fine b bs (m is "\"") (quotedBy (front stringByte bs) (past stringByte bs)) _ (λ k. quoted-fine b bs (past stringByte bs) (front-past stringByte bs)) (λ k.
-    if-fine b bs (m ∈ bytes "=.,{}") (token (sign (m ∷ [])) 0) (pair m bs) (λ h. (tt, zero-le, le-refl 1, λ t. absurd (alone m h t))) (λ h. pair-fine b m bs))
+    if-fine b bs (m ∈ bytes "=.,{}()") (token (sign (m ∷ [])) 0) (pair m bs) (λ h. (tt, zero-le, le-refl 1, λ t. absurd (alone m h t))) (λ h. pair-fine b m bs))
 
 -- ---- lines
 

@@ -3,28 +3,31 @@ use mathlib.Core.Path.{_≡_, refl, ap, subst, _∙_}
 use Prim.Native.Nat.{ℕ, _+_, _*_, _≤_}
 use native.Mathlib.Nat.{le-refl}
 use native.Mathlib.Omega.{arith}
-use mathlib.Core.Bool.{Bool, true, false, _&&_, not}
+use mathlib.Core.Bool.{Bool, true, _&&_, not}
 use mathlib.Core.Option.{Option, none, some}
 use mathlib.Core.List.{List, [], _∷_, _++_, map}
 use lib.ListN.{length, length-append}
-use lib.Dec.{T, T-not, not-T, ltb, nltb→le, lit≤}
-use Rattle.language.specs.Text.{Text, bytes, _>>=_, any, all, each, sum, distinct}
+use lib.Dec.{T, ltb, lit≤}
+use Rattle.language.specs.Text.{Text, bytes, all, sum, distinct}
 use Rattle.language.specs.Syntax.{Command, create-principal, change-password, set, append-to, local, foreach, set-delegation, delete-delegation, default-delegator, exit, return, Program}
 use Rattle.language.specs.State.{Field, Element, string, fields, Value, single, list, Store}
-use Rattle.language.specs.Weight.{limit, elementWeight, valueWeight}
+use Rattle.language.specs.Weight.{elementWeight, valueWeight}
 use Rattle.language.specs.Output.{quote, commas, fieldJson, elementJson, valueJson, returning}
 use Rattle.language.specs.Encode.{bufferSize}
 use Rattle.language.specs.Identifiers.{isName, isString}
 use Rattle.language.specs.Valid.{validField, validElement, validStore}
-use Rattle.language.specs.Commands.{Refusal, replaced, targets, Effect, effect, denied, heavy, sessionWeight, Step, refused, went, FULL, DENIED, FAILED, step}
-use Rattle.language.specs.Values.{Session, isPrincipal, isDefined, isShared, lookup, asList, value}
+use Rattle.language.specs.Commands.{Refusal, elements, replaced, targets, Effect, effect, denied, Step, refused, went, FULL, DENIED, FAILED, step}
+use Rattle.language.specs.Outcomes.{eachOf}
+use Rattle.language.specs.Values.{Session, isPrincipal, isDefined, isShared, listOf}
+use Rattle.language.specs.Expressions.{value}
 use Rattle.language.specs.Run.{End, refusal, completed, after, next, perform, Login, unknown, mistaken, right, login, begin, runAs, run, refusalLine, output}
 use Rattle.language.specs.Programs.{parse}
 use Rattle.language.proofs.Parsing.ValidPrograms.{validCommand, isEnding, endsOnce}
-use Rattle.language.proofs.Logic.Tests.{both, three, left-of}
-use Rattle.language.proofs.Logic.Outcomes.{Where, anything, bind-where, given-where}
+use Rattle.language.proofs.Logic.Tests.{both, three}
+use Rattle.language.proofs.Logic.Outcomes.{Where, anything}
+use Rattle.language.proofs.Logic.Giving.{Giving, giving-any, bind-giving, bind-from, provided-giving}
 use Rattle.language.proofs.StateText.Clean.{name-length}
-use Rattle.language.proofs.Meaning.ValidValues.{Good, IsValid, value-valid}
+use Rattle.language.proofs.Meaning.ValidValues.{Good, IsValid, Fits, value-fits}
 use Rattle.language.proofs.Meaning.ValidRuns.{Ready, Done, Went, verdict-went, step-done, begin-ready, commands-valid, ends-valid}
 use Rattle.language.proofs.Parsing.Parsing.{commandRoom, Parsed, parsed}
 
@@ -78,24 +81,23 @@ Short c f = 8 * length (f .line) ≤ 17 * commandRoom c
 abbrev pub lastLine : ℕ
 lastLine = 28707
 
-inner-line : (s : Session) (c : Command) → T (not (isEnding c)) → Where (Short c) (effect s c)
-inner-line s (create-principal p t) h = given-where (Short (create-principal p t)) (not (isPrincipal s p)) _ (λ k. lit≤ tt)
-inner-line s (change-password p t) h = given-where (Short (change-password p t)) (isPrincipal s p) _ (λ k. lit≤ tt)
-inner-line s (set x e) h = bind-where (λ v. Unit {0}) (Short (set x e)) (value s e) _ (anything (value s e)) (λ v k. lit≤ tt)
+inner-line : (s : Session) (c : Command) → T (not (isEnding c)) → Giving (Short c) (effect s c)
+inner-line s (create-principal p t) h = provided-giving (Short (create-principal p t)) (not (isPrincipal s p)) _ (λ k. lit≤ tt)
+inner-line s (change-password p t) h = provided-giving (Short (change-password p t)) (isPrincipal s p) _ (λ k. lit≤ tt)
+inner-line s (set x e) h = bind-giving (λ v. Unit {0}) (Short (set x e)) (value s e) _ (giving-any (value s e)) (λ v k. lit≤ tt)
 inner-line s (append-to x e) h =
-    bind-where (λ v. Unit {0}) (Short (append-to x e)) (value s e) _ (anything (value s e)) (λ v k.
-    bind-where (λ v. Unit {0}) (Short (append-to x e)) (lookup s x >>= asList) _ (anything (lookup s x >>= asList)) (λ v k. lit≤ tt))
+    bind-from (λ es. Unit {0}) (Short (append-to x e)) (listOf s x) _ (anything (listOf s x)) (λ es k.
+    bind-giving (λ v. Unit {0}) (Short (append-to x e)) (value s e) _ (giving-any (value s e)) (λ v k. lit≤ tt))
 inner-line s (local x e) h =
-    bind-where (λ v. Unit {0}) (Short (local x e)) (value s e) _ (anything (value s e)) (λ v k. given-where (Short (local x e)) (not (isDefined s x)) _ (λ k. lit≤ tt))
+    provided-giving (Short (local x e)) (not (isDefined s x)) _ (λ k. bind-giving (λ v. Unit {0}) (Short (local x e)) (value s e) _ (giving-any (value s e)) (λ v k. lit≤ tt))
 inner-line s (foreach y x e) h =
-    given-where (Short (foreach y x e)) (not (isDefined s y)) _ (λ k.
-    bind-where (λ v. Unit {0}) (Short (foreach y x e)) (lookup s x >>= asList) _ (anything (lookup s x >>= asList)) (λ es k.
-    bind-where (λ v. Unit {0}) (Short (foreach y x e)) (each (replaced s y e) es) _ (anything (each (replaced s y e) es)) (λ v k. lit≤ tt)))
+    bind-from (λ es. Unit {0}) (Short (foreach y x e)) (elements s y x) _ (anything (elements s y x)) (λ es k.
+    bind-giving (λ fs. Unit {0}) (Short (foreach y x e)) (eachOf (replaced s y e) es) _ (giving-any (eachOf (replaced s y e) es)) (λ fs k. lit≤ tt))
 inner-line s (set-delegation t q r p) h =
-    given-where (Short (set-delegation t q r p)) (isPrincipal s p && isPrincipal s q && all (isShared s) (targets (s .store) t q)) _ (λ k. lit≤ tt)
+    provided-giving (Short (set-delegation t q r p)) (isPrincipal s p && isPrincipal s q && all (isShared s) (targets (s .store) t q)) _ (λ k. lit≤ tt)
 inner-line s (delete-delegation t q r p) h =
-    given-where (Short (delete-delegation t q r p)) (isPrincipal s p && isPrincipal s q && all (isShared s) (targets (s .store) t q)) _ (λ k. lit≤ tt)
-inner-line s (default-delegator p) h = given-where (Short (default-delegator p)) (isPrincipal s p) _ (λ k. lit≤ tt)
+    provided-giving (Short (delete-delegation t q r p)) (isPrincipal s p && isPrincipal s q && all (isShared s) (targets (s .store) t q)) _ (λ k. lit≤ tt)
+inner-line s (default-delegator p) h = provided-giving (Short (default-delegator p)) (isPrincipal s p) _ (λ k. lit≤ tt)
 inner-line s exit h = absurd h
 inner-line s (return e) h = absurd h
 
@@ -104,7 +106,7 @@ returning-length v =
     length-append (bytes "{\"status\":\"RETURNING\",\"output\":" ++ valueJson v) (bytes "}\n")
     ∙ ap (λ n. n + 2) (length-append (bytes "{\"status\":\"RETURNING\",\"output\":") (valueJson v)) ∙ omega arith
 
-ending-line : (s : Session) → Good s → (c : Command) → T (validCommand c) → T (isEnding c) → Where (λ f. T (not (heavy f)) → length (f .line) ≤ lastLine) (effect s c)
+ending-line : (s : Session) → Good s → (c : Command) → T (validCommand c) → T (isEnding c) → Giving (λ f. length (f .line) ≤ lastLine) (effect s c)
 ending-line s g (create-principal p t) h k = absurd k
 ending-line s g (change-password p t) h k = absurd k
 ending-line s g (set x e) h k = absurd k
@@ -114,13 +116,9 @@ ending-line s g (foreach y x e) h k = absurd k
 ending-line s g (set-delegation t q r p) h k = absurd k
 ending-line s g (delete-delegation t q r p) h k = absurd k
 ending-line s g (default-delegator p) h k = absurd k
-ending-line s g exit h k = λ l. lit≤ tt
+ending-line s g exit h k = lit≤ tt
 ending-line s g (return e) h k =
-    bind-where IsValid (λ f. T (not (heavy f)) → length (f .line) ≤ lastLine) (value s e) _ (value-valid s g e h) (λ v i l.
-    let w : valueWeight v ≤ limit = nltb→le limit (valueWeight v) (not-T (ltb limit (valueWeight v)) (λ t.
-    T-not (heavy (record { after = s; values = v ∷ []; line = returning v })) l
-    (left-of (any (λ v. ltb limit (valueWeight v)) (v ∷ [])) (ltb limit (sessionWeight s)) (left-of (ltb limit (valueWeight v)) false t)))) in
-    omega (arith, w, returning-length v, value-json v i))
+    bind-giving Fits (λ f. length (f .line) ≤ lastLine) (value s e) _ (value-fits s g e h) (λ v i. omega (arith, i .1, returning-length v, value-json v (i .0)))
 
 pub inner-short : (s : Session) (c : Command) (f : Effect) → T (not (isEnding c)) → step s c ≡ went f → 8 * length (f .line) ≤ 17 * commandRoom c
 inner-short s c f h e = subst (Went (Short c)) e (verdict-went (Short c) (denied s c) (effect s c) (inner-line s c h)) .0
@@ -145,13 +143,11 @@ widen m n h (completed lines t) k = omega arith
 perform-short : (cs : List Command) (s : Session) → Ready s → T (all validCommand cs) → T (endsOnce cs) → EndsShort (allowed cs) (perform s cs)
 perform-short [] s r h e = absurd e
 perform-short (c ∷ []) s r h e =
-    go (step s c) (verdict-went (λ f. T (not (heavy f)) → length (f .line) ≤ lastLine) (denied s c) (effect s c) (ending-line s (r .is-good) c (both (validCommand c) true h .0) e))
+    go (step s c) (verdict-went (λ f. length (f .line) ≤ lastLine) (denied s c) (effect s c) (ending-line s (r .is-good) c (both (validCommand c) true h .0) e))
   where
-    go : (k : Step) → Went (λ f. T (not (heavy f)) → length (f .line) ≤ lastLine) k → EndsShort (allowed (c ∷ [])) (next k (λ t. perform t []))
+    go : (k : Step) → Went (λ f. length (f .line) ≤ lastLine) k → EndsShort (allowed (c ∷ [])) (next k (λ t. perform t []))
     go (refused r) w = tt
-    go (went f) (w, l) =
-        let n : length (f .line) ≤ lastLine = w l in
-        omega (arith, n, length-append (f .line) [])
+    go (went f) (w, l) = omega (arith, w, length-append (f .line) [])
 perform-short (c ∷ d ∷ cs) s r h e =
     let (h₁, h₂) = both (validCommand c) (all validCommand (d ∷ cs)) h in
     let (e₁, e₂) = both (not (isEnding c)) (endsOnce (d ∷ cs)) e in

@@ -7,15 +7,15 @@ use mathlib.Core.List.{List, [], _∷_}
 use lib.ListN.{length}
 use lib.Dec.{T, ltb, lt→ltb, lit≤}
 use Rattle.language.specs.Text.{bytes, all}
-use Rattle.language.specs.Tokens.{Token}
-use Rattle.language.specs.Syntax.{Name, Right, read, write, append, delegate, Operand, name, dot, quoted, Binding, Expr, single, nothing, fields}
+use Rattle.language.specs.Tokens.{Token, sign, ident, text, wrong}
+use Rattle.language.specs.Syntax.{Name, Right, read, write, append, delegate, Operand, name, dot, quoted, Binding, Function, Expr, single, nothing, fields, tolower, call}
 use Rattle.language.specs.Syntax.{Target, every, only, Command, create-principal, change-password, set, append-to, local, foreach, set-delegation, delete-delegation, default-delegator, exit, return}
 use Rattle.language.specs.Identifiers.{isIdentifier, isString}
-use Rattle.language.specs.Grammar.{Reader, _>>=_, _>>_, anyOperand, anyFields, anyExpression, anyRight, anyTarget, setForm, anyCommand, anyEnding, anyLogin, spent, whole}
+use Rattle.language.specs.Grammar.{Reader, _>>=_, _>>_, anyOperand, anyFields, functionOf, ahead, anyFunction, anyCall, anyExpression, anyRight, anyTarget, setForm, anyCommand, anyEnding, anyLogin, spent, whole}
 use Rattle.language.proofs.Parsing.ValidPrograms.{validOperand, validBinding, validExpr, validTarget, validCommand, isEnding}
 use Rattle.language.proofs.Logic.Tests.{both, and, and-three}
 use Rattle.language.proofs.Logic.Outcomes.{Where}
-use Rattle.language.proofs.Parsing.Lexing.{validToken, room}
+use Rattle.language.proofs.Parsing.Lexing.{validToken, isWordToken, room, room-after}
 use Rattle.language.proofs.Parsing.Readers.{Reads, give-reads, choice-reads, bind-reads, Any, the-reads, name-reads, then-the, then-name, then-string}
 
 -- ---- expressions
@@ -54,11 +54,35 @@ fields-reads (suc n) = go (fields-reads n)
 abbrev ValidExpr : Expr → Type 0
 ValidExpr e = T (validExpr e)
 
+function-reads : Reads Any (λ f. 0) false false 0 anyFunction
+function-reads = record { reads = go }
+  where
+    Read : List Token → Function × List Token → Type 0
+    Read ts r = Any (r .0) × T (all validToken (r .1)) × (0 + room false (r .1) ≤ room false ts + 0)
+
+    go : (ts : List Token) → T (all validToken ts) → Where (Read ts) (anyFunction ts)
+    go [] v = tt
+    go (sign u ∷ ts) v = found (functionOf u)
+      where
+        found : (o : Option Function) → Where (Read (sign u ∷ ts)) (ahead o ts)
+        found none = tt
+        found (some f) = (tt, v, omega (arith, room-after (isWordToken (sign u)) ts .0))
+    go (ident u ∷ ts) v = tt
+    go (text u ∷ ts) v = tt
+    go (wrong ∷ ts) v = tt
+
+call-reads : Reads ValidExpr (λ e. 1) false false 0 anyCall
+call-reads =
+    choice-reads (then-the (bytes "tolower") (then-the (bytes "(") (then-operand (λ o h. then-the (bytes ")") (give-reads (tolower o) h (lit≤ tt))))))
+    (bind-reads function-reads (λ f u. then-the (bytes "(") (then-operand (λ o h. then-the (bytes ",") (then-operand (λ p k. then-the (bytes ")")
+    (give-reads (call f o p) (and (validOperand o) (validOperand p) h k) (lit≤ tt))))))))
+
 expression-reads : Reads ValidExpr (λ e. 1) false false 0 anyExpression
 expression-reads =
     choice-reads (then-the (bytes "[]") (give-reads nothing tt (lit≤ tt)))
     (choice-reads (then-the (bytes "{") (bind-reads all-fields (λ bs h. give-reads (fields bs) h (lit≤ tt))))
-    (then-operand (λ o h. give-reads (single o) h (lit≤ tt))))
+    (choice-reads call-reads
+    (then-operand (λ o h. give-reads (single o) h (lit≤ tt)))))
   where
     all-fields : Reads ValidFields (λ bs. 0) false false 0 (λ ts. anyFields (length ts) ts)
     all-fields = record { reads = λ ts v. fields-reads (length ts) .reads ts v }

@@ -20,6 +20,8 @@ abbrev pub validExpr : Expr → Bool
 validExpr (E.single o) = validOperand o
 validExpr nothing = true
 validExpr (E.fields bs) = ltb 0 (length bs) && all validBinding bs
+validExpr (E.tolower o) = validOperand o
+validExpr (E.call f o p) = validOperand o && validOperand p
 
 abbrev pub validTarget : Target → Bool
 validTarget every = true

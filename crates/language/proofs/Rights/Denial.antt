@@ -10,6 +10,7 @@ use Rattle.language.specs.Text.{if_then_else_, any, member, present}
 use Rattle.language.specs.Syntax.{Name, Right, Command}
 use Rattle.language.specs.State.{Store, admin, stands}
 use Rattle.language.specs.Chains.{Chain, chainLength, has}
+use Rattle.language.specs.Outcomes.{Outcome, gives, fails, fills}
 use Rattle.language.specs.Values.{Session}
 use Rattle.language.specs.Commands.{needs, met, reserved, denied, effect, Effect, heavy, verdict, step, Step, refused, went, DENIED, FAILED, FULL}
 use Rattle.language.specs.Events.{In, first, later}
@@ -96,16 +97,17 @@ IsDenied (refused FAILED) = ⊥
 IsDenied (refused FULL) = ⊥
 IsDenied (went f) = ⊥
 
-verdict-denied : (b : Bool) (o : Option Effect) → IsDenied (verdict b o) → T b
+verdict-denied : (b : Bool) (o : Outcome Effect) → IsDenied (verdict b o) → T b
 verdict-denied true o h = tt
-verdict-denied false none h = absurd h
-verdict-denied false (some f) h = go (heavy f) h
+verdict-denied false fails h = absurd h
+verdict-denied false fills h = absurd h
+verdict-denied false (gives f) h = go (heavy f) h
   where
     go : (b : Bool) → IsDenied (if b then refused FULL else went f) → ⊥
     go true h = h
     go false h = h
 
-denied-verdict : (b : Bool) (o : Option Effect) → T b → verdict b o ≡ refused DENIED
+denied-verdict : (b : Bool) (o : Outcome Effect) → T b → verdict b o ≡ refused DENIED
 denied-verdict true o t = refl
 denied-verdict false o t = absurd t
 

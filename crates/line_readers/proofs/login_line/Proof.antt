@@ -8,7 +8,7 @@ use Rattle.tokens.specs.Readers.{nextMeant, NextPlaced, foundMeant, FoundPlaced
 use Rattle.tokens.proofs.Reading.{told, known}
 use borrow.Author.Tests.{not-true, not-false}
 use Rattle.language.specs.Grammar.{spent}
-use Rattle.line_readers.proofs.Wholes.{not-spent, all-spent, login-is}
+use Rattle.line_readers.proofs.Wholes.{login-tokens, not-spent, all-spent, login-is}
 use mathlib.Core.Option.{some}
 use Rattle.language.specs.Grammar.{Opening}
 use Rattle.text.specs.Meaning.{part}
@@ -33,7 +33,7 @@ returns c =
     let t = now (a .text) in
     let ts = lex (drop (a .at) t) in
     let e1 = told (nextMeant t) (c .before .before .expect .ensures .0) (c .enum-told .given .1) in
-    (rw (e1), tt)
+    (rw (login-tokens t (a .at), e1), tt)
 
 slice-aggregate-expect-2 : tie.Need-slice-aggregate-expect-2
 slice-aggregate-expect-2 c = search needs
@@ -62,7 +62,7 @@ returns-2 c =
     let ts = lex (drop (a .at) t) in
     let e1 = told (nextMeant t) (back-7 .expect .ensures .0) (c .before .before .before .before .before .one .given .1) in
     let e2 = told (nextMeant t) (c .before .before .expect2 .ensures .0) (c .enum-told2 .given .1) in
-    (rw (e1, e2), tt)
+    (rw (login-tokens t (a .at), e1, e2), tt)
 
 name-at-requires : tie.Need-name-at-requires
 name-at-requires c κs =
@@ -94,7 +94,7 @@ returns-3 c =
     let e1 = told (nextMeant t) (back-11 .expect .ensures .0) (back-9 .one .given .1) in
     let e2 = told (nextMeant t) (back-6 .expect2 .ensures .0) (c .before .before .before .before .two .given .1) in
     let e3 = told (foundMeant t) (c .before .before .name-at .ensures .0) (c .enum-told3 .given .1) in
-    (rw (e1, e2, e3), tt)
+    (rw (login-tokens t (a .at), e1, e2, e3), tt)
 
 slice-aggregate-expect-3 : tie.Need-slice-aggregate-expect-3
 slice-aggregate-expect-3 c = search needs
@@ -135,7 +135,7 @@ returns-4 c =
     let e2 = told (nextMeant t) (back-11 .expect2 .ensures .0) (back-9 .two .given .1) in
     let e3 = told (foundMeant t) (back-7 .name-at .ensures .0) (c .before .before .before .before .before .name .given .1) in
     let e4 = told (nextMeant t) (c .before .before .expect3 .ensures .0) (c .enum-told4 .given .1) in
-    (rw (e1, e2, e3, e4), tt)
+    (rw (login-tokens t (a .at), e1, e2, e3, e4), tt)
 
 string-at-requires : tie.Need-string-at-requires
 string-at-requires c κs =
@@ -179,7 +179,7 @@ returns-5 c =
     let e3 = told (foundMeant t) (back-11 .name-at .ensures .0) (back-9 .name .given .1) in
     let e4 = told (nextMeant t) (back-6 .expect3 .ensures .0) (c .before .before .before .before .three .given .1) in
     let e5 = told (foundMeant t) (c .before .before .string-at .ensures .0) (c .enum-told5 .given .1) in
-    (rw (e1, e2, e3, e4, e5), tt)
+    (rw (login-tokens t (a .at), e1, e2, e3, e4, e5), tt)
 
 slice-aggregate-expect-4 : tie.Need-slice-aggregate-expect-4
 slice-aggregate-expect-4 c = search needs
@@ -232,7 +232,7 @@ returns-6 c =
     let e4 = told (nextMeant t) (back-11 .expect3 .ensures .0) (back-9 .three .given .1) in
     let e5 = told (foundMeant t) (back-7 .string-at .ensures .0) (c .before .before .before .before .before .string .given .1) in
     let e6 = told (nextMeant t) (c .before .before .expect4 .ensures .0) (c .enum-told6 .given .1) in
-    (rw (e1, e2, e3, e4, e5, e6), tt)
+    (rw (login-tokens t (a .at), e1, e2, e3, e4, e5, e6), tt)
 
 ends-at-requires : tie.Need-ends-at-requires
 ends-at-requires c κs =
@@ -281,7 +281,7 @@ returns-7 c =
     let e4 = told (nextMeant t) (back-14 .expect3 .ensures .0) (back-12 .three .given .1) in
     let e5 = told (foundMeant t) (back-10 .string-at .ensures .0) (back-8 .string .given .1) in
     let e6 = told (nextMeant t) (c .before .before .before .before .before .expect4 .ensures .0) (c .before .before .before .four .given .1) in
-    (sym (ap spent (login-is ts e1 e2 e3 e4 e5 e6) ∙ not-spent (some o) (lex (drop (c .before .before .before .four .given .0 .0) t)) (sym (c .before .ends-at .ensures) ∙ not-true (c .before .ends-at .result) (c .if1 .taken))), tt)
+    (sym (login-tokens t (a .at) ∙ ap spent (login-is ts e1 e2 e3 e4 e5 e6) ∙ not-spent (some o) (lex (drop (c .before .before .before .four .given .0 .0) t)) (sym (c .before .ends-at .ensures) ∙ not-true (c .before .ends-at .result) (c .if1 .taken))), tt)
 
 returns-8 : tie.Need-returns-8
 returns-8 c =
@@ -313,7 +313,7 @@ returns-8 c =
     let p4 = known (NextPlaced t (back-17 .name .given .0 .1 .0)) (back-14 .expect3 .ensures .1) (back-12 .three .given .1) in
     let p5 = known (FoundPlaced t (back-12 .three .given .0 .0)) (back-10 .string-at .ensures .1) (back-8 .string .given .1) in
     let p6 = known (NextPlaced t (back-8 .string .given .0 .1 .0)) (back-5 .expect4 .ensures .1) (c .before .before .before .four .given .1) in
-    (sym (ap spent (login-is ts e1 e2 e3 e4 e5 e6) ∙ all-spent (some o) (lex (drop (c .before .before .before .four .given .0 .0) t)) (sym (c .before .ends-at .ensures) ∙ not-false (c .before .ends-at .result) (c .if1 .left))), (omega arith, omega arith))
+    (sym (login-tokens t (a .at) ∙ ap spent (login-is ts e1 e2 e3 e4 e5 e6) ∙ all-spent (some o) (lex (drop (c .before .before .before .four .given .0 .0) t)) (sym (c .before .ends-at .ensures) ∙ not-false (c .before .ends-at .result) (c .if1 .left))), (omega arith, omega arith))
 
 pub login-line-spec : {M : Type 1} → statement M
 login-line-spec =

@@ -1,32 +1,33 @@
 -- `lookup::may_append` meets its contract. Write will do, or else append.
 -- Assumes nothing.
-use mathlib.Core.Path.{refl, ap, _∙_}
-use mathlib.Core.Bool.{Bool, not, _||_}
+use mathlib.Core.Path.{refl, sym, ap, _∙_}
+use mathlib.Core.Bool.{Bool, _||_}
 use Rattle.language.specs.Syntax.{write, append}
-use Rattle.text.specs.Meaning.{part}
-use Rattle.lookup.proofs.Looking.{denied-append, denied-first}
+use Rattle.permits.specs.Permits.{allowedOn}
+use Rattle.lookup.proofs.Looking.{either-right}
 use borrow.Author.Needs.{needs}
 use Rattle.lookup.proofs.may_append.Statement.{statement}
 use Rattle.lookup.proofs.may_append.Tie as tie
+use Rattle.lookup.proofs.may_append.Reads as reads
+use Rattle.lookup.proofs.may_append.Lts as lts
+use Rattle.lookup.proofs.may_do.Reads as may-do-reads
 
-may-use-requires : tie.Need-may-use-requires
-may-use-requires c κs = search needs
+may-do-requires : tie.Need-may-do-requires
+may-do-requires c κs = search needs
 
 returns : tie.Need-returns
-returns c s y S m =
+returns c s S =
     let start = c .before .before .before .before .before .before in
-    let a = start .args in
-    denied-first s (part (a .text .now) (a .x)) y (c .before .may-use .result) (c .before .may-use .ensures s y write S m refl) (c .if1 .taken)
+    let a = start .args in ap (λ (b : Bool). b || allowedOn s append (a .name .now)) (sym (c .if1 .taken) ∙ c .before .may-do .ensures s write S refl)
 
-may-use-requires-2 : tie.Need-may-use-requires-2
-may-use-requires-2 c κs = search needs
+may-do-requires-2 : tie.Need-may-do-requires-2
+may-do-requires-2 c κs = search needs
 
 returns-2 : tie.Need-returns-2
-returns-2 c s y S m =
+returns-2 c s S =
     let start = c .before .before .before .before .before .before .before in
     let a = start .args in
-    denied-append s (part (a .text .now) (a .x)) y (c .before .before .may-use .result) (c .may-use2 .result) (c .before .before .may-use .ensures s y write S m refl) (c .may-use2 .ensures s y append S m refl)
-    ∙ ap (λ (z : Bool). not (z || c .may-use2 .result)) (c .before .if1 .left)
+    either-right (allowedOn s write (a .name .now)) (allowedOn s append (a .name .now)) (c .before .before .may-do .result) (c .may-do2 .result) (c .before .before .may-do .ensures s write S refl) (c .before .if1 .left) (c .may-do2 .ensures s append S refl)
 
 pub may-append-spec : {M : Type 1} → statement M
-may-append-spec = tie.close (tie.spec may-use-requires returns may-use-requires-2 returns-2)
+may-append-spec = tie.close (tie.spec may-do-requires returns may-do-requires-2 returns-2)

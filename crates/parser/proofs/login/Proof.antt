@@ -4,14 +4,12 @@ use mathlib.Core.List.{List}
 use native.Mathlib.Omega.{arith}
 use borrow.Author.Needs.{needs}
 use denote.Ref.{now}
-use lib.ListN.{drop}
-use Rattle.language.specs.Text.{_>>=_}
-use Rattle.language.specs.Tokens.{Token, lex}
+use Rattle.language.specs.Text.{Text, _>>=_}
 use Rattle.language.specs.Programs.{program, parse}
 use Rattle.tokens.proofs.Reading.{told, known}
 use Rattle.program_lines.specs.declared.Step.{Step}
 use Rattle.program_lines.specs.declared.Step.the-variants as StepIs
-use Rattle.program_lines.specs.Lines.{lexedFrom, stepMeant, StepPlaced}
+use Rattle.program_lines.specs.Lines.{writtenFrom, lineFrom, stepMeant, StepPlaced}
 use Rattle.line_readers.specs.WholeLines.{loginMeant, LoginWithin}
 use Rattle.parser.proofs.Bodies.{parse-long, parse-is, no-login, with-login}
 use Rattle.parser.proofs.login.Statement.{statement}
@@ -20,7 +18,7 @@ use Rattle.parser.proofs.login.Tie as tie
 parsed : (c : tie.After-next-line) (r : Step) → c .next-line .result ≡ r → parse (now (c .before .before .before .args .text)) ≡ (stepMeant (now (c .before .before .before .args .text)) r >>= program)
 parsed c r is =
     let t = now (c .before .before .before .args .text) in
-    parse-is t (omega arith) ∙ ap (λ (z : Option (List (List Token))). z >>= program) (c .next-line .ensures .0 ∙ ap (stepMeant t) is)
+    parse-is t (omega arith) ∙ ap (λ (z : Option (List Text)). z >>= program) (c .next-line .ensures .0 ∙ ap (stepMeant t) is)
 
 -- the function's start, as these places see it
 abbrev start-after-step : tie.After-step → tie.Start
@@ -53,7 +51,7 @@ returns-2 c =
     let start = back-6 .before .before .before in
     let t = now (start .args .text) in
     let g = c .before .before .before .before .step .given in
-    (parsed back-6 _ (g .1) ∙ no-login (lex (drop (g .0 .0) t)) (lexedFrom t (g .0 .1 .0)) (told (loginMeant t) (c .before .before .login-line .ensures .0) (c .enum-told .given .1)), tt)
+    (parsed back-6 _ (g .1) ∙ no-login (lineFrom t (g .0 .0)) (writtenFrom t (g .0 .1 .0)) (told (loginMeant t) (c .before .before .login-line .ensures .0) (c .enum-told .given .1)), tt)
 
 enum-told-2 : tie.Need-enum-told-2
 enum-told-2 c = search needs
@@ -71,7 +69,7 @@ returns-3 c =
     let x = c .before .before .before .login-line in
     let k = c .before .first .given in
     let p = known (LoginWithin t) (x .ensures .1) (k .1) in (
-      parsed back-7 _ (g .1) ∙ with-login (lex (drop (g .0 .0) t)) (lexedFrom t (g .0 .1 .0)) (told (loginMeant t) (x .ensures .0) (k .1)),
+      parsed back-7 _ (g .1) ∙ with-login (lineFrom t (g .0 .0)) (writtenFrom t (g .0 .1 .0)) (told (loginMeant t) (x .ensures .0) (k .1)),
       (p .0, p .1, placed back-5 .2, omega arith),
     )
 

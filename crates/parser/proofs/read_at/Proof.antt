@@ -5,21 +5,18 @@ use native.Mathlib.Omega.{arith}
 use borrow.Author.Needs.{needs}
 use borrow.Author.Tests.{not-true, not-false}
 use denote.Ref.{now}
-use lib.ListN.{drop}
-use Rattle.language.specs.Text.{_>>=_}
-use Rattle.language.specs.Tokens.{Token, lex}
-use Rattle.language.specs.Grammar.{whole, anyCommand}
-use Rattle.language.specs.Programs.{body}
+use Rattle.language.specs.Text.{Text, _>>=_}
+use Rattle.language.specs.Programs.{commandLine, body}
 use Rattle.tokens.proofs.Reading.{told, known}
 use Rattle.program_lines.specs.declared.Step.{Step}
 use Rattle.program_lines.specs.declared.Step.the-variants as StepIs
-use Rattle.program_lines.specs.Lines.{lexedFrom, stepMeant, StepPlaced}
+use Rattle.program_lines.specs.Lines.{writtenFrom, lineFrom, stepMeant, StepPlaced}
 use Rattle.line_readers.specs.WholeLines.{lineReadMeant, LineWithin}
 use Rattle.parser.proofs.Firsts.{first-command, first-ending, no-stars, neither}
 use Rattle.parser.proofs.read_at.Statement.{statement}
 use Rattle.parser.proofs.read_at.Tie as tie
 
-after-comments : (c : tie.After-next-line) (r : Step) → c .next-line .result ≡ r → lexedFrom (now (c .before .before .args .text)) (c .before .before .args .at) ≡ stepMeant (now (c .before .before .args .text)) r
+after-comments : (c : tie.After-next-line) (r : Step) → c .next-line .result ≡ r → writtenFrom (now (c .before .before .args .text)) (c .before .before .args .at) ≡ stepMeant (now (c .before .before .args .text)) r
 after-comments c r is = c .next-line .ensures .0 ∙ ap (stepMeant (now (c .before .before .args .text))) is
 
 -- the function's start, as these places see it
@@ -34,7 +31,7 @@ placed c =
     let start = start-after-step c in
     known (StepPlaced (now (start .args .text)) (start .args .at)) (c .before .before .next-line .ensures .1) (c .step .given .1)
 
-no-command : (c : tie.After-enum-told) → whole anyCommand (lex (drop (c .before .before .before .before .step .given .0 .0) (now (start-after-enum-told c .args .text)))) ≡ none
+no-command : (c : tie.After-enum-told) → commandLine (lineFrom (now (start-after-enum-told c .args .text)) (c .before .before .before .before .step .given .0 .0)) ≡ none
 no-command c =
     let start = start-after-enum-told c in
     told (lineReadMeant (now (start .args .text))) (c .before .before .command-line .ensures .0) (c .enum-told .given .1)
@@ -127,10 +124,10 @@ returns-4 c =
     (known (LineWithin t) (y .ensures .1) (k .1)) (told (lineReadMeant t) (y .ensures .0) (k .1)) (sym (x .ensures) ∙ not-false (x .result) (c .if1 .left))
 
 returns-5 : tie.Need-returns-5
-returns-5 c = ap (λ (z : Option (List (List Token))). z >>= body) (after-comments (c .before .before) _ (c .enum-told3 .given .1))
+returns-5 c = ap (λ (z : Option (List Text)). z >>= body) (after-comments (c .before .before) _ (c .enum-told3 .given .1))
 
 returns-6 : tie.Need-returns-6
-returns-6 c = ap (λ (z : Option (List (List Token))). z >>= body) (after-comments (c .before .before) _ (c .enum-told4 .given .1))
+returns-6 c = ap (λ (z : Option (List Text)). z >>= body) (after-comments (c .before .before) _ (c .enum-told4 .given .1))
 
 pub read-at-spec : {M : Type 1} → statement M
 read-at-spec =

@@ -1,9 +1,7 @@
 use mathlib.Core.Path.{sym, ap, _∙_}
 use borrow.Author.Needs.{needs}
 use denote.Ref.{now}
-use lib.ListN.{drop}
-use Rattle.language.specs.Tokens.{lex}
-use Rattle.program_lines.specs.Lines.{lexedFrom, stepMeant}
+use Rattle.program_lines.specs.Lines.{writtenFrom, lineFrom, stepMeant}
 use Rattle.parser.specs.Bodies.{isEmpty}
 use Rattle.parser.proofs.Bodies.{ahead-more}
 use Rattle.parser.proofs.stars_at.Statement.{statement}
@@ -25,7 +23,7 @@ returns : tie.Need-returns
 returns c =
     let t = now (c .before .before .before .before .args .text) in
     let g = c .enum-told .given in
-    sym (ap isEmpty (c .before .before .next-line .ensures .0 ∙ ap (stepMeant t) (g .1)) ∙ ahead-more (lex (drop (g .0 .0) t)) (lexedFrom t (g .0 .1 .0)))
+    sym (ap isEmpty (c .before .before .next-line .ensures .0 ∙ ap (stepMeant t) (g .1)) ∙ ahead-more (lineFrom t (g .0 .0)) (writtenFrom t (g .0 .1 .0)))
 
 returns-2 : tie.Need-returns-2
 returns-2 c = sym (ap isEmpty (c .before .before .next-line .ensures .0 ∙ ap (stepMeant (now (c .before .before .before .before .args .text))) (c .enum-told2 .given .1)))

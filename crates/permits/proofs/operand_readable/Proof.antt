@@ -3,7 +3,7 @@
 use mathlib.Core.Path.{refl, ap, subst, _∙_}
 use native.Mathlib.Omega.{arith}
 use Rattle.language.specs.Syntax.{read}
-use Rattle.language.specs.Values.{operandNames}
+use Rattle.language.specs.Expressions.{operandNames}
 use Rattle.text.specs.Meaning.{Within, part}
 use Rattle.syntax.specs.declared.Operand.{Operand}
 use Rattle.syntax.specs.Values.{operandMeant, OperandWithin}

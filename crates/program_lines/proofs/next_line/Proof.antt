@@ -5,13 +5,13 @@ use borrow.Author.Needs.{needs}
 use denote.Ref.{now}
 use lib.ListN.{length}
 use Rattle.tokens.proofs.Reading.{known}
-use Rattle.program_lines.specs.Lines.{lexedFrom, lineMeant, LinePlaced}
+use Rattle.program_lines.specs.Lines.{writtenFrom, lineMeant, LinePlaced}
 use Rattle.program_lines.proofs.next_line.Statement.{statement}
 use Rattle.program_lines.proofs.next_line.Tie as tie
 
 abbrev Inv-loop : tie.InvT-loop
 Inv-loop text at p₀ p =
-    (at ≤ p) × (p ≤ length text) × (lexedFrom text at ≡ lexedFrom text p)
+    (at ≤ p) × (p ≤ length text) × (writtenFrom text at ≡ writtenFrom text p)
 
 abbrev μ-loop : tie.MeasureT-loop
 μ-loop text at p₀ p =

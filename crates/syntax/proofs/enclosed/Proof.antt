@@ -7,7 +7,8 @@ use Rattle.text.specs.Meaning.{part}
 use Rattle.tokens.specs.Readers.{nextMeant, NextPlaced}
 use Rattle.syntax.specs.Values.{recordAt}
 use Rattle.tokens.proofs.Reading.{told, known}
-use Rattle.syntax.proofs.Expressions.{fields-there, empty-list, no-enclosed, no-record, one-record}
+use Rattle.syntax.proofs.Expressions.{fields-there, empty-list, no-record, one-record, expr-later}
+use Rattle.syntax.proofs.Calls.{call-only}
 use borrow.Author.Needs.{needs}
 use Rattle.syntax.proofs.enclosed.Statement.{statement}
 use Rattle.syntax.proofs.enclosed.Tie as tie
@@ -34,7 +35,7 @@ returns c =
     let t = now (a .text) in
     let brace = sym (c .before .before .before .before .is-sign .ensures) ∙ c .before .before .before .if1 .taken in
     let e = told (nextMeant t) (c .before .before .record-end .ensures .0) (c .enum-told .given .1) in
-    (sym (no-record (part t (a .mark)) (lex (drop (a .at) t)) brace e), λ from h. tt)
+    (sym (no-record (part t (a .word)) (lex (drop (a .at) t)) brace e), λ from h. tt)
 
 returns-2 : tie.Need-returns-2
 returns-2 c =
@@ -44,7 +45,7 @@ returns-2 c =
     let brace = sym (c .before .before .before .before .before .is-sign .ensures) ∙ c .before .before .before .before .if1 .taken in
     let e = told (nextMeant t) (c .before .before .before .record-end .ensures .0) (c .before .last .given .1) in
     let p = known (NextPlaced t (a .at)) (c .before .before .before .record-end .ensures .1) (c .before .last .given .1) in
-    (sym (one-record (part t (a .mark)) (lex (drop (a .at) t)) brace e), λ from h. ((start .pre .0, fields-there (recordAt t (a .at)) e), omega arith, omega arith))
+    (sym (one-record (part t (a .word)) (lex (drop (a .at) t)) brace e), λ from h. ((start .pre .0, fields-there (recordAt t (a .at)) e), omega arith, omega arith))
 
 slice-aggregate-is-sign-2 : tie.Need-slice-aggregate-is-sign-2
 slice-aggregate-is-sign-2 c = search needs
@@ -57,15 +58,20 @@ returns-3 c =
     let start = c .before .before .before .before .before .before .before in
     let a = start .args in
     let t = now (a .text) in
-    (sym (empty-list (part t (a .mark)) (lex (drop (a .at) t)) (sym (c .before .is-sign2 .ensures) ∙ c .if2 .taken)), λ from h. (tt, h, start .pre .0))
+    (sym (empty-list (part t (a .word)) (lex (drop (a .at) t)) (sym (c .before .is-sign2 .ensures) ∙ c .if2 .taken)), λ from h. (tt, h, start .pre .0))
+
+called-requires : tie.Need-called-requires
+called-requires c κs = search needs
 
 returns-4 : tie.Need-returns-4
 returns-4 c =
-    let start = c .before .before .before .before .before .before .before in
+    let start = c .before .before .before .before .before .before .before .before in
     let a = start .args in
     let t = now (a .text) in
-    let brace = sym (c .before .before .before .before .is-sign .ensures) ∙ c .before .before .before .if1 .left in
-    (sym (no-enclosed (part t (a .mark)) (lex (drop (a .at) t)) brace (sym (c .before .is-sign2 .ensures) ∙ c .if2 .left)), λ from h. tt)
+    let r = c .called in
+    let brace = sym (c .before .before .before .before .before .is-sign .ensures) ∙ c .before .before .before .before .if1 .left in
+    let bracket = sym (c .before .before .is-sign2 .ensures) ∙ c .before .if2 .left in
+    (r .ensures .0 ∙ sym (call-only (part t (a .word)) (lex (drop (a .at) t)) brace bracket), λ from h. expr-later t from (a .at) (r .result) h (r .ensures .1))
 
 pub enclosed-spec : {M : Type 1} → statement M
 enclosed-spec =
@@ -81,4 +87,5 @@ enclosed-spec =
     slice-aggregate-is-sign-2
     is-sign-requires-2
     returns-3
+    called-requires
     returns-4)

@@ -6,7 +6,7 @@ use native.Mathlib.Omega.{arith}
 use Rattle.text.specs.Meaning.{Within}
 use Rattle.values.specs.Answers.{textAt, Placed}
 use Rattle.values.specs.declared.Found.{Found}
-use Rattle.evaluate.specs.Results.{MaybeString}
+use Rattle.evaluated.specs.Results.{MaybeString}
 use Rattle.evaluate.proofs.Drafting.{part-short, extends-as}
 use borrow.Author.Needs.{needs}
 use Rattle.evaluate.proofs.draft.add_found.Statement.{statement}

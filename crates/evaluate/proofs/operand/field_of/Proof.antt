@@ -3,7 +3,7 @@
 use mathlib.Core.Path.{sym, ap, _∙_}
 use mathlib.Core.Option.{Option}
 use Rattle.language.specs.State.{Value}
-use Rattle.evaluate.specs.Results.{fieldIn}
+use Rattle.evaluated.specs.Results.{fieldIn}
 use Rattle.evaluate.proofs.Found.{nothing-read, something-read, value-text}
 use Rattle.evaluate.proofs.operand.field_of.Statement.{statement}
 use Rattle.evaluate.proofs.operand.field_of.Tie as tie

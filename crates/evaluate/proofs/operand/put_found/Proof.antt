@@ -5,7 +5,8 @@ use native.Mathlib.Omega.{arith}
 use Rattle.text.specs.Meaning.{Within}
 use Rattle.values.specs.Answers.{textAt, Placed}
 use Rattle.values.specs.declared.Found.{Found}
-use Rattle.evaluate.specs.Results.{MaybeString, Valued, stringValue}
+use Rattle.evaluated.specs.Weighed.{byWeight}
+use Rattle.evaluated.specs.Results.{MaybeString, Valued, stringValue}
 use borrow.Author.Needs.{needs}
 use Rattle.evaluate.proofs.operand.put_found.Statement.{statement}
 use Rattle.evaluate.proofs.operand.put_found.Tie as tie
@@ -46,10 +47,10 @@ returns : tie.Need-returns
 returns c =
     let back-6 = c .before .before .before .before .before .before in
     let start = back-6 .before .before .before .before in
-    subst (λ (f : Found). Valued (c .before .before .put-text .result) (stringValue (textAt (start .args .value .now) f)) (c .before .before .put-text .last .1 .0)) (sym (back-6 .found .given .1)) (c .before .before .put-text .ensures)
+    subst (λ (f : Found). Valued (c .before .before .put-text .result) (byWeight (stringValue (textAt (start .args .value .now) f))) (c .before .before .put-text .last .1 .0)) (sym (back-6 .found .given .1)) (c .before .before .put-text .ensures)
 
 returns-2 : tie.Need-returns-2
-returns-2 c = ap (λ (f : Found). stringValue (textAt (c .before .before .before .before .args .value .now) f)) (c .enum-told .given .1)
+returns-2 c = ap (λ (f : Found). byWeight (stringValue (textAt (c .before .before .before .before .args .value .now) f))) (c .enum-told .given .1)
 
 pub put-found-spec : {M : Type 1} → statement M
 put-found-spec =

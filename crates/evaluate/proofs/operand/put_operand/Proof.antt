@@ -12,7 +12,8 @@ use Rattle.syntax.specs.declared.Operand.{Operand}
 use Rattle.syntax.specs.Values.{operandMeant, OperandWithin}
 use Rattle.store.proofs.Holders.{some-variables}
 use Rattle.evaluate.specs.Scopes.{Scope, ReadAs}
-use Rattle.evaluate.specs.Results.{MaybeString, Valued, stringValue}
+use Rattle.evaluated.specs.Weighed.{byWeight}
+use Rattle.evaluated.specs.Results.{MaybeString, Valued, stringValue}
 use Rattle.evaluate.proofs.Found.{read-name, field-read, dot-value, valued-as}
 use borrow.Author.Needs.{needs}
 use Rattle.evaluate.proofs.operand.put_operand.Statement.{statement}
@@ -163,7 +164,7 @@ returns-2 c s S =
     let y = part (start .args .text .now) (back-9 .v2 .given .0 .1 .0) in
     let e = ap stringValue (c .before .before .before .before .field-of .ensures .0 (lookup s x) (dot-read back-6 s S)) ∙ dot-value s x y in
     valued-as (c .before .before .put-found .result) s (start .args .text .now) (c .before .before .put-found .last .1 .1 .0) (back-9 .v2 .given .1)
-    (subst (λ (o : Option Value). Valued (c .before .before .put-found .result) o (c .before .before .put-found .last .1 .1 .0)) e (c .before .before .put-found .ensures))
+    (subst (λ (o : Option Value). Valued (c .before .before .put-found .result) (byWeight o) (c .before .before .put-found .last .1 .1 .0)) e (c .before .before .put-found .ensures))
 
 same-length-3 : tie.Need-same-length-3
 same-length-3 c = search needs

@@ -1,14 +1,14 @@
 -- `evaluate::operand::put_text` meets its contract. A light string fits.
 -- Assumes nothing.
-use mathlib.Core.Path.{refl}
 use Rattle.language.specs.State.{string, single}
-use Rattle.evaluate.proofs.Putting.{string-put}
+use Rattle.evaluated.proofs.Weighing.{weighed-heavy}
+use Rattle.evaluated.proofs.Putting.{string-put}
 use borrow.Author.Needs.{needs}
 use Rattle.evaluate.proofs.operand.put_text.Statement.{statement}
 use Rattle.evaluate.proofs.operand.put_text.Tie as tie
 
 returns : tie.Need-returns
-returns c = record { value = single (string (c .before .before .before .args .text .now)); is-value = refl; heavy = c .if1 .taken }
+returns c = weighed-heavy (single (string (c .before .before .before .args .text .now))) (c .if1 .taken)
 
 put-string-requires : tie.Need-put-string-requires
 put-string-requires c κs = search needs

@@ -1,7 +1,7 @@
 -- `evaluate::operand::string_of` meets its contract. Nothing read is no string; else it is as the value says.
 -- Assumes nothing.
 use mathlib.Core.Path.{sym, ap, _∙_}
-use Rattle.evaluate.specs.Results.{stringIn}
+use Rattle.evaluated.specs.Results.{stringIn}
 use Rattle.evaluate.proofs.Found.{nothing-read, something-read, value-text}
 use Rattle.evaluate.proofs.operand.string_of.Statement.{statement}
 use Rattle.evaluate.proofs.operand.string_of.Tie as tie

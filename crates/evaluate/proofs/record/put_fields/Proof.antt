@@ -16,7 +16,8 @@ use Rattle.syntax.specs.declared.FieldRead.the-variants as FieldIs
 use Rattle.syntax.specs.Values.{operandMeant, recordAt, withField, fieldMeant, FieldPlaced}
 use Rattle.tokens.proofs.Reading.{no-some}
 use Rattle.evaluate.specs.Scopes.{Scope}
-use Rattle.evaluate.specs.Results.{Valued, stringIn}
+use Rattle.evaluated.specs.Weighed.{byWeight}
+use Rattle.evaluated.specs.Results.{Valued, stringIn}
 use Rattle.evaluate.specs.Drafts.{Lent, Extends}
 use Rattle.evaluate.specs.declared.draft.Added.{Added}
 use Rattle.evaluate.specs.declared.draft.Added.the-variants as AddedIs
@@ -154,9 +155,9 @@ returns-2 c s bs us S e =
     let F = back-10 in
     let g = F .field .given .0 in
     let A = back-6 in
-    whole-record s bs us ∙ ap (finish s []) (sym e)
+    ap byWeight (whole-record s bs us ∙ ap (finish s []) (sym e)
     ∙ ends s (start .args .text .now) (start .args .at) (l .p) (l .out) (l .labels) (l .d) (l .inv .2 s S) (head F) (g .1 .1 .0) (g .1 .1 .1 .0) (read-here F) (A .add-field .last .1 .1 .1 .1 .1 .1 .1 .1 .1 .0)
-    (A .add-field .last .1 .1 .1 .1 .1 .1 .1 .1 .1 .1 .0) (extended A s S AddedIs.No (c .enum-told2 .given .1))
+    (A .add-field .last .1 .1 .1 .1 .1 .1 .1 .1 .1 .1 .0) (extended A s S AddedIs.No (c .enum-told2 .given .1)))
 
 finished-requires : tie.Need-finished-requires Inv-loop μ-loop
 finished-requires c κs = search needs
@@ -187,7 +188,7 @@ returns-3 c s bs us S e =
     let D = c .before .before .before .added .given in
     let W = is-whole s (start .args .text .now) (start .args .at) (l .p) (l .out) (l .labels) (l .d) (l .inv .2 s S) (head F) (g .1 .1 .0) (g .1 .1 .1 .0) (read-here F) (A .add-field .last .1 .1 .1 .1 .1 .1 .1 .1 .1 .0)
     (A .add-field .last .1 .1 .1 .1 .1 .1 .1 .1 .1 .1 .0) (D .0 .0) (extended A s S (AddedIs.Done (D .0 .0)) (D .1)) (not-true (g .1 .1 .0) (c .before .if1 .taken)) in
-    subst (λ (o : Option Value). Valued (c .finished .result) o (A .add-field .last .1 .1 .1 .1 .1 .1 .1 .1 .1 .0)) (sym (whole-record s bs us ∙ ap (finish s []) (sym e) ∙ W .is-value))
+    subst (λ (o : Option Value). Valued (c .finished .result) (byWeight o) (A .add-field .last .1 .1 .1 .1 .1 .1 .1 .1 .1 .0)) (sym (whole-record s bs us ∙ ap (finish s []) (sym e) ∙ W .is-value))
     (c .finished .ensures (W .written) (A .add-field .last .1 .1 .1 .1 .1 .1 .1 .1 .1 .0) (A .add-field .last .1 .1 .1 .1 .1 .1 .1 .1 .1 .1 .0) (W .drafted) (W .some-field))
 
 loop-less : tie.Need-loop-less Inv-loop μ-loop

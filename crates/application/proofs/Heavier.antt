@@ -1,0 +1,75 @@
+-- What a function comes to, by the lengths of its strings.
+-- Assumes nothing.
+use mathlib.Core.Path.{_≡_, ap, _∙_}
+use Prim.Native.Nat.{_+_, _-_, _≤_, _<_}
+use native.Mathlib.Omega.{arith}
+use mathlib.Core.Bool.{Bool, true, false, _||_}
+use mathlib.Core.Option.{some}
+use mathlib.Core.List.{List, [], _∷_, _++_, map}
+use lib.ListN.{length, length-append, length-map, take, drop, take-append-drop}
+use borrow.Author.Tests.{lt-ltb, le-ltb}
+use Rattle.language.specs.Text.{Text, if_then_else_, any}
+use Rattle.language.specs.Syntax.{split, concat}
+use Rattle.language.specs.State.{Value, single, string}
+use Rattle.language.specs.Weight.{limit, valueWeight}
+use Rattle.language.specs.Outcomes.{Outcome, gives, fills}
+use Rattle.language.specs.Functions.{lowerByte, cut}
+use Rattle.language.specs.Expressions.{isHeavy, weighed}
+use Rattle.language.proofs.Logic.Tests.{or-true}
+use Rattle.application.specs.Applied.{loweredTo, appliedTo}
+
+module _ (vs : List Value) (v : Value) where
+  -- too heavy by the result, or by an argument
+  result-heavy : limit < valueWeight v → weighed vs v ≡ fills
+  result-heavy h = ap (λ (b : Bool). if_then_else_ {A = Outcome Value} (b || any isHeavy vs) fills (gives v)) (lt-ltb limit (valueWeight v) h)
+
+  argument-heavy : any isHeavy vs ≡ true → weighed vs v ≡ fills
+  argument-heavy h = ap (λ (b : Bool). if_then_else_ {A = Outcome Value} b fills (gives v)) (ap (λ (b : Bool). isHeavy v || b) h ∙ or-true (isHeavy v))
+
+  all-light : valueWeight v ≤ limit → any isHeavy vs ≡ false → weighed vs v ≡ gives v
+  all-light h k = λ i. if_then_else_ {A = Outcome Value} (le-ltb limit (valueWeight v) h i || k i) fills (gives v)
+
+light-string : (t : Text) → length t ≤ limit → isHeavy (single (string t)) ≡ false
+light-string t h = le-ltb limit (length t) h
+
+-- ---- tolower
+
+module _ (t : Text) where
+  pub lower-heavy : limit < length t → loweredTo (some t) ≡ fills
+  lower-heavy h = result-heavy (single (string t) ∷ []) (single (string (map lowerByte t))) (omega (arith, h, length-map t lowerByte))
+
+  pub lower-light : length t ≤ limit → loweredTo (some t) ≡ gives (single (string (map lowerByte t)))
+  lower-light h =
+      all-light (single (string t) ∷ []) (single (string (map lowerByte t))) (omega (arith, h, length-map t lowerByte))
+      (ap (λ (b : Bool). b || false) (light-string t h))
+
+-- ---- two arguments
+
+module _ (t u : Text) where
+  pub second-heavy : (v : Value) → limit < length u → weighed (single (string t) ∷ single (string u) ∷ []) v ≡ fills
+  second-heavy v h =
+      argument-heavy (single (string t) ∷ single (string u) ∷ []) v
+      (ap (λ (b : Bool). isHeavy (single (string t)) || (b || false)) (lt-ltb limit (length u) h) ∙ or-true (isHeavy (single (string t))))
+
+  light-arguments : length t ≤ limit → length u ≤ limit → any isHeavy (single (string t) ∷ single (string u) ∷ []) ≡ false
+  light-arguments h k = λ i. light-string t h i || (light-string u k i || false)
+
+  -- split: the parts are as long as the text
+  pub cut-weighs : valueWeight (cut t (length u)) ≡ length t + 8
+  cut-weighs =
+      let e : length (take (length u) t ++ drop (length u) t) ≡ length t = ap length (take-append-drop (length u) t) in
+      omega (arith, e, length-append (take (length u) t) (drop (length u) t))
+
+  pub split-heavy : limit - 8 < length t → appliedTo split (some t) (some u) ≡ fills
+  split-heavy h = result-heavy (single (string t) ∷ single (string u) ∷ []) (cut t (length u)) (omega (arith, h, cut-weighs))
+
+  pub split-light : length t ≤ limit - 8 → length u ≤ limit → appliedTo split (some t) (some u) ≡ gives (cut t (length u))
+  split-light h k = all-light (single (string t) ∷ single (string u) ∷ []) (cut t (length u)) (omega (arith, h, cut-weighs)) (light-arguments (omega (arith, h)) k)
+
+  -- concat
+  pub concat-heavy : limit < length t + length u → appliedTo concat (some t) (some u) ≡ fills
+  concat-heavy h = result-heavy (single (string t) ∷ single (string u) ∷ []) (single (string (t ++ u))) (omega (arith, h, length-append t u))
+
+  pub concat-light : length t + length u ≤ limit → appliedTo concat (some t) (some u) ≡ gives (single (string (t ++ u)))
+  concat-light h =
+      all-light (single (string t) ∷ single (string u) ∷ []) (single (string (t ++ u))) (omega (arith, h, length-append t u)) (light-arguments (omega (arith, h)) (omega (arith, h)))

@@ -1,0 +1,2 @@
+-- Laws of what a function comes to.
+pub mod Heavier

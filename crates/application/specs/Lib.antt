@@ -1,0 +1,2 @@
+-- What a function comes to.
+pub mod Applied

@@ -1,0 +1,3 @@
+-- Laws of answers of the evaluation.
+pub mod Weighing
+pub mod Putting

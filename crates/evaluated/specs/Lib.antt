@@ -1,0 +1,3 @@
+-- What an answer of the evaluation says of an expression.
+pub mod Weighed
+pub mod Results

@@ -1,0 +1,2 @@
+-- Laws of the functions on strings.
+pub mod Bytewise

@@ -1,0 +1,82 @@
+-- Laws of calls: what the grammar makes of a keyword that names a function, and of what stands in the parentheses after it.
+-- Assumes nothing.
+use mathlib.Core.Path.{_≡_, refl, sym, ap, _∙_}
+use mathlib.Core.Option.{none, some}
+use mathlib.Core.List.{List, _∷_}
+use mathlib.Core.Bool.{Bool, true, false}
+use Rattle.language.specs.Text.{Text, bytes, _==_}
+use Rattle.language.specs.Tokens.{Token, sign}
+use Rattle.language.specs.Syntax.{Operand, Function, split, concat, tolower, call}
+use Rattle.language.specs.Grammar.{the, anyOperand, functionOf, anyCall, anyExpression}
+use Rattle.text.proofs.Words.{same-true}
+use Rattle.tokens.proofs.Reading.{no-some, orElse-none}
+
+-- ---- the keyword w
+module _ (w : Text) where
+  pub is-split : (w == bytes "split") ≡ true → functionOf w ≡ some split
+  is-split q = rw q
+
+  pub is-concat : (w == bytes "split") ≡ false → (w == bytes "concat") ≡ true → functionOf w ≡ some concat
+  is-concat p q = rw (p, q)
+
+  pub no-function : (w == bytes "split") ≡ false → (w == bytes "concat") ≡ false → functionOf w ≡ none
+  no-function p q = rw (p, q)
+
+  -- a function of two values is not `tolower`
+  not-lower : (f : Function) → functionOf w ≡ some f → (w == bytes "tolower") ≡ false
+  not-lower f e = go (w == bytes "tolower") refl
+    where
+      go : (t : Bool) → (w == bytes "tolower") ≡ t → t ≡ false
+      go true q = no-some (sym (ap functionOf (same-true w (bytes "tolower") q)) ∙ e)
+      go false q = refl
+
+  module _ (us : List Token) where
+    pub lower-call : (w == bytes "tolower") ≡ true → anyCall (sign (bytes "tolower") ∷ us) ≡ anyCall (sign w ∷ us)
+    lower-call q = sym (ap (λ (v : Text). anyCall (sign v ∷ us)) (same-true w (bytes "tolower") q))
+
+    pub no-call : (w == bytes "tolower") ≡ false → functionOf w ≡ none → anyCall (sign w ∷ us) ≡ none
+    no-call p q = rw (p, q)
+
+    -- what starts neither a record nor the empty list is a call
+    pub call-only : (w == bytes "{") ≡ false → (w == bytes "[]") ≡ false → anyExpression (sign w ∷ us) ≡ anyCall (sign w ∷ us)
+    call-only p q = rw (p, q) (orElse-none (anyCall (sign w ∷ us)))
+
+-- ---- past `tolower`
+module _ (us : List Token) where
+  pub lower-not-open : the "(" us ≡ none → anyCall (sign (bytes "tolower") ∷ us) ≡ none
+  lower-not-open e = rw e
+
+  module _ {vs : List Token} (e₁ : the "(" us ≡ some (tt, vs)) where
+    pub lower-no-value : anyOperand vs ≡ none → anyCall (sign (bytes "tolower") ∷ us) ≡ none
+    lower-no-value e₂ = rw (e₁, e₂)
+
+    module _ {v : Operand} {ws : List Token} (e₂ : anyOperand vs ≡ some (v, ws)) where
+      pub lower-not-closed : the ")" ws ≡ none → anyCall (sign (bytes "tolower") ∷ us) ≡ none
+      lower-not-closed e₃ = rw (e₁, e₂, e₃)
+
+      pub lower-read : {xs : List Token} → the ")" ws ≡ some (tt, xs) → anyCall (sign (bytes "tolower") ∷ us) ≡ some (tolower v, xs)
+      lower-read e₃ = rw (e₁, e₂, e₃)
+
+-- ---- past a function of two values
+module _ (w : Text) (f : Function) (is : functionOf w ≡ some f) (us : List Token) where
+  pub not-open : the "(" us ≡ none → anyCall (sign w ∷ us) ≡ none
+  not-open e = rw (not-lower w f is, is, e)
+
+  module _ {vs : List Token} (e₁ : the "(" us ≡ some (tt, vs)) where
+    pub no-first : anyOperand vs ≡ none → anyCall (sign w ∷ us) ≡ none
+    no-first e₂ = rw (not-lower w f is, is, e₁, e₂)
+
+    module _ {v : Operand} {ws : List Token} (e₂ : anyOperand vs ≡ some (v, ws)) where
+      pub no-comma : the "," ws ≡ none → anyCall (sign w ∷ us) ≡ none
+      no-comma e₃ = rw (not-lower w f is, is, e₁, e₂, e₃)
+
+      module _ {xs : List Token} (e₃ : the "," ws ≡ some (tt, xs)) where
+        pub no-second : anyOperand xs ≡ none → anyCall (sign w ∷ us) ≡ none
+        no-second e₄ = rw (not-lower w f is, is, e₁, e₂, e₃, e₄)
+
+        module _ {u : Operand} {ys : List Token} (e₄ : anyOperand xs ≡ some (u, ys)) where
+          pub not-closed : the ")" ys ≡ none → anyCall (sign w ∷ us) ≡ none
+          not-closed e₅ = rw (not-lower w f is, is, e₁, e₂, e₃, e₄, e₅)
+
+          pub call-read : {zs : List Token} → the ")" ys ≡ some (tt, zs) → anyCall (sign w ∷ us) ≡ some (call f v u, zs)
+          call-read e₅ = rw (not-lower w f is, is, e₁, e₂, e₃, e₄, e₅)
