@@ -44,3 +44,23 @@ fn keywords() {
     }
     assert!(is_name("admin") && is_name("anyone") && is_name("if"));
 }
+
+/// What a program of admin's prints that returns an expression.
+fn returned(expression: &str) -> String {
+    let mut server = Server::make(b"p").expect("a good password");
+    let program = format!("as principal admin password \"p\" do\nreturn {expression}\n***");
+    let report = server.run(program.as_bytes()).expect("a right call");
+    String::from_utf8_lossy(report.output).into_owned()
+}
+
+#[test]
+fn functions() {
+    let page = page();
+    let (_, after) = page.split_once("so they are printed by `return`").expect("the text before the table");
+    let rows: Vec<&str> = after.lines().skip_while(|line| !line.starts_with("| `")).take_while(|line| line.starts_with("| `")).collect();
+    assert!(rows.len() > 3, "no table of calls");
+    for row in rows {
+        let (call, value) = row.trim_matches(['|', ' ', '`']).split_once("` | `").expect("a call and what it gives");
+        assert_eq!(returned(call), format!("{{\"status\":\"RETURNING\",\"output\":{value}}}\n"), "{call}");
+    }
+}

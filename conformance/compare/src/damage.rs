@@ -43,7 +43,7 @@ const KEYWORDS: [&str; 31] = [
 ];
 
 /// Bytes that a rule tells from others, and their neighbours.
-const BYTES: &[u8] = b"\0\x01\x08\t\n\x0b\r\x1f !\"#*+,-./019:;<=>?@AFLNOPRSVZ[\\^_`adrwz{|}~\x7f\x80\xff";
+const BYTES: &[u8] = b"\0\x01\x08\t\n\x0b\r\x1f !\"#'()*+,-./019:;<=>?@AFLNOPRSVZ[\\^_`adrwz{|}~\x7f\x80\xff";
 
 fn lines(text: &[u8]) -> Vec<Bytes> {
     text[..text.len() - 1].split(|byte| *byte == b'\n').map(<[u8]>::to_vec).collect()

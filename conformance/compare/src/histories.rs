@@ -9,6 +9,7 @@ pub const VARIABLES: [&str; 6] = ["list", "x", "r", "queue", "song", "y"];
 const LOCALS: [&str; 3] = ["l", "m", "x"];
 const RIGHTS: [&str; 4] = ["read", "write", "append", "delegate"];
 const LABELS: [&str; 3] = ["a", "b", "key"];
+const FUNCTIONS: [&str; 3] = ["split", "concat", "tolower"];
 
 fn one<'a>(random: &mut Random, words: &[&'a str]) -> &'a str {
     words[random.below(words.len())]
@@ -57,30 +58,93 @@ fn operand(random: &mut Random, world: World) -> String {
     }
 }
 
+/// So many letters, some of which tolower changes.
+fn letters(count: usize) -> String {
+    format!("\"{}\"", "Moon ".chars().cycle().take(count).collect::<String>())
+}
+
+/// What a function is called with: mostly a string, often another value or a name that is none, rarely what is no value at all.
+fn argument(random: &mut Random, world: World) -> String {
+    match random.below(48) {
+        0 => letters(8_150 + random.below(80)),
+        1 | 2 => letters(4_060 + random.below(60)),
+        3..=8 => operand(random, world),
+        9..=11 => one(random, &["list", "queue", "r", "nosuch", "r.nosuch", "song.a"]).to_string(),
+        12 => one(random, &["[]", "{a=\"1\"}", "", "(x)"]).to_string(),
+        13 => call(random, world),
+        14..=20 => one(random, &["r.a", "r.key"]).to_string(),
+        21..=30 => one(random, &["x", "song", "l"]).to_string(),
+        _ => string(random),
+    }
+}
+
+/// A call with a result that weighs 8,192, or a little more or less.
+fn call_at_the_limit(random: &mut Random) -> String {
+    let more = random.below(4);
+    match random.below(3) {
+        0 => format!("concat({},{})", letters(4_095), letters(4_095 + more)),
+        1 => format!("split({},{})", letters(8_182 + more), string(random)),
+        _ => format!("tolower({})", letters(8_190 + more)),
+    }
+}
+
+/// Mostly with as many arguments as the function takes, and between parentheses.
+fn call(random: &mut Random, world: World) -> String {
+    if random.below(60) == 0 {
+        return call_at_the_limit(random);
+    }
+    let function = one(random, &FUNCTIONS);
+    let count = match random.below(24) {
+        0 => random.below(4),
+        _ if function == "tolower" => 1,
+        _ => 2,
+    };
+    let arguments = (0..count).map(|_| argument(random, world)).collect::<Vec<String>>().join(",");
+    match random.below(80) {
+        0 => format!("{function} {arguments}"),
+        1 => format!("{function}({arguments}"),
+        2 => format!("({function}({arguments}))"),
+        _ => format!("{function}({arguments})"),
+    }
+}
+
+fn field(random: &mut Random, world: World) -> String {
+    match random.below(96) {
+        0 => call(random, world),
+        1..=32 => operand(random, world),
+        _ => string(random),
+    }
+}
+
 fn expression(random: &mut Random, world: World) -> String {
-    match random.below(10) {
+    match random.below(13) {
         0 | 1 => "[]".to_string(),
         2 | 3 => {
             let fields: Vec<String> = (0..1 + random.below(3))
                 .map(|at| {
                     let label = if random.below(12) == 0 { "a" } else { LABELS[at] };
-                    let value = if random.below(3) == 0 { operand(random, world) } else { string(random) };
-                    format!("{label}={value}")
+                    format!("{label}={}", field(random, world))
                 })
                 .collect();
             format!("{{{}}}", fields.join(","))
         }
+        4..=6 => call(random, world),
         _ => operand(random, world),
     }
 }
 
-/// What foreach replaces by: y is its element.
+/// What foreach replaces by: y1 is its element.
 fn replacement(random: &mut Random, world: World) -> String {
-    match random.below(6) {
+    match random.below(12) {
         0 | 1 => "y1".to_string(),
         2 => "{a=y1.a,b=\"0\"}".to_string(),
         3 => "{key=y1}".to_string(),
         4 => string(random),
+        5 => format!("{}(y1,{})", one(random, &["split", "concat"]), argument(random, world)),
+        6 => format!("{}({},y1.a)", one(random, &["split", "concat"]), argument(random, world)),
+        7 => one(random, &["tolower(y1)", "tolower(y1.a)", "split(y1.a,y1.a)"]).to_string(),
+        // Too heavy for one element, where a later one may be no string.
+        8 => format!("{}({},{})", one(random, &["split", "concat"]), one(random, &["y1", "y1.a"]), letters(8_185 + random.below(16))),
         _ => expression(random, world),
     }
 }

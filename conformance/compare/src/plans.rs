@@ -79,9 +79,9 @@ const WORD: &[u8] = b"abcdefghijklmnopqrstuvwxyzABCDEFGHIJKLMNOPQRSTUVWXYZ012345
 const STRING: &[u8] = b"abcdefghijklmnopqrstuvwxyzABCDEFGHIJKLMNOPQRSTUVWXYZ0123456789_ ,;.?!-";
 
 /// Names that are easy to mistake for others: keywords with more or less of them, and some with the same print.
-const NAMES: [&str; 20] = [
+const NAMES: [&str; 22] = [
     "rosa", "queue", "x", "y", "admi", "admins", "anyon", "anyones", "a9_", "Set", "sets", "al", "alls", "Aa", "BB", "AaAa",
-    "AaBB", "BBAa", "BBBB", "wit",
+    "AaBB", "BBAa", "BBBB", "wit", "splits", "tolowe",
 ];
 
 fn run(random: &mut Random, bytes: &[u8], length: usize) -> Bytes {

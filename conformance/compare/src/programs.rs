@@ -46,14 +46,46 @@ fn operand(random: &mut Random) -> String {
     }
 }
 
+/// A call of a function, with gaps. Rarely it has another number of arguments than the function takes, a call for an argument, or a
+/// parenthesis too few or too many.
+fn call(random: &mut Random) -> String {
+    let function = one(random, &["split", "concat", "tolower"]);
+    let count = match random.below(20) {
+        0 => random.below(4),
+        _ if function == "tolower" => 1,
+        _ => 2,
+    };
+    let arguments: Vec<String> = (0..count)
+        .map(|_| {
+            let argument = if random.below(40) == 0 { call(random) } else { operand(random) };
+            format!("{}{argument}{}", gap(random), gap(random))
+        })
+        .collect();
+    let arguments = arguments.join(",");
+    match random.below(60) {
+        0 => format!("{function} {arguments}"),
+        1 => format!("{function}({arguments}"),
+        2 => format!("({function}({arguments}))"),
+        _ => format!("{function}{}({arguments})", gap(random)),
+    }
+}
+
+fn field(random: &mut Random) -> String {
+    match random.below(80) {
+        0 => call(random),
+        _ => operand(random),
+    }
+}
+
 fn expression(random: &mut Random) -> String {
-    match random.below(6) {
+    match random.below(8) {
         0..=2 => operand(random),
         3 => "[]".to_string(),
+        4 | 5 => call(random),
         _ => {
             let count = 1 + random.below(3);
             let fields: Vec<String> = (0..count)
-                .map(|_| format!("{}{}{}={}{}", gap(random), name(random), gap(random), gap(random), operand(random)))
+                .map(|_| format!("{}{}{}={}{}", gap(random), name(random), gap(random), gap(random), field(random)))
                 .collect();
             format!("{{{}{}}}", fields.join(","), gap(random))
         }
@@ -88,7 +120,7 @@ fn dressed(random: &mut Random, line: String) -> String {
     format!("{before}{line}{}{comment}", gap(random))
 }
 
-/// A program that parses, unless a name in it is a keyword or too long.
+/// A program that parses, unless a name in it is a keyword or too long, or a call in it is miswritten.
 pub fn whole(random: &mut Random) -> Vec<u8> {
     let mut lines = Vec::new();
     let part = space(random);
@@ -114,7 +146,7 @@ pub fn whole(random: &mut Random) -> Vec<u8> {
 
 /// One to three bytes changed, taken out or put in, or two lines swapped.
 pub fn damage(random: &mut Random, text: &mut Vec<u8>) {
-    const BYTES: &[u8] = b" \n\t\"={}[].,->/*_:;aZ09\x00\x7f\xff";
+    const BYTES: &[u8] = b" \n\t\"={}[]().,->/*_:;aZ09\x00\x7f\xff";
     for _ in 0..1 + random.below(3) {
         let at = random.below(text.len());
         let byte = BYTES[random.below(BYTES.len())];

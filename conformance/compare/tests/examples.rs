@@ -76,3 +76,8 @@ fn short() {
 fn evening() {
     compared("evening");
 }
+
+#[test]
+fn titles() {
+    compared("titles");
+}

@@ -13,9 +13,10 @@ use compare::histories::{next, opening, World, PRINCIPALS, VARIABLES};
 use compare::random::Random;
 use compare::server::{ask, make, run, Answer};
 use model::calls;
+use model::observe::{self, FUNCTIONS, MISHAPS, PLACES, SHAPES};
 use model::text::BUFFER;
 
-/// How often each status, each kind of end, each number and each answer came.
+/// How often each status, each kind of end, each number, each answer, each form of a call and each mishap of one came.
 type Seen = BTreeMap<String, u64>;
 
 const STATUSES: [&str; 11] = [
@@ -48,8 +49,11 @@ fn statuses(seen: &mut Seen, output: &[u8]) {
     }
 }
 
-/// The same program on both sides.
+/// The same program on both sides. What became of the calls in it is told by the model.
 fn run_both(seen: &mut Seen, proved: &mut Lent, model: &mut Lent, program: &[u8]) {
+    if [&proved.state, &proved.work, &proved.output].iter().all(|lent| lent.len() == BUFFER) {
+        observe::calls(&model.state, program).iter().for_each(|told| note(seen, told));
+    }
     let answer = run(&mut proved.state, &mut proved.work, &mut proved.output, program);
     let expected = match calls::run(&mut model.state, &mut model.work, &mut model.output, program) {
         Ok(report) => {
@@ -186,7 +190,10 @@ fn histories() {
     for (key, times) in &seen {
         println!("{key}: {times}");
     }
-    for key in STATUSES.iter().chain(&ENDS).chain(&NUMBERS).chain(&ANSWERS) {
+    for key in STATUSES.iter().chain(&ENDS).chain(&NUMBERS).chain(&ANSWERS).chain(&MISHAPS).chain(&SHAPES) {
         assert!(seen.contains_key(*key), "{key} never came");
+    }
+    for (function, place) in FUNCTIONS.iter().flat_map(|function| PLACES.map(|place| (function, place))) {
+        assert!(seen.contains_key(&format!("{function} in {place}")), "{function} was never done in {place}");
     }
 }

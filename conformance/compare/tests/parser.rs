@@ -1,8 +1,11 @@
 //! The proved parser against the model, on random programs, whole and damaged: parses or not, how many commands, and of which kinds.
 
+use std::collections::BTreeMap;
+
 use compare::programs::{damage, whole};
 use compare::random::Random;
 use compare::parser::{kinds, model_kinds, Answer, ROOM};
+use model::observe::{misshapen, written, FUNCTIONS, PLACES, SHAPES};
 use model::parse::parse;
 
 const PROGRAMS: usize = 120_000;
@@ -17,6 +20,28 @@ fn compare(text: &[u8], room: &mut [u8]) -> Answer {
     proved
 }
 
+/// How often calls of functions came that are read, by function and place, and miswritten ones for which a program does not parse.
+#[derive(Default)]
+struct Calls(BTreeMap<String, usize>);
+
+impl Calls {
+    fn note(&mut self, text: &[u8]) {
+        let told = match parse(text) {
+            Some(program) => written(&program),
+            None => misshapen(text).map(str::to_string).into_iter().collect(),
+        };
+        told.into_iter().for_each(|key| *self.0.entry(key).or_default() += 1);
+    }
+
+    fn all_came(&self) {
+        println!("{:?}", self.0);
+        let read = FUNCTIONS.iter().flat_map(|function| PLACES.map(|place| format!("{function} in {place}")));
+        for key in read.chain(SHAPES.map(str::to_string)) {
+            assert!(self.0.get(&key).is_some_and(|times| *times > 100), "{key} hardly came");
+        }
+    }
+}
+
 #[test]
 fn random_programs() {
     let seed = 20_261_115;
@@ -25,11 +50,13 @@ fn random_programs() {
     let mut room = vec![0; ROOM];
     let mut seen = [0usize; 12];
     let mut refused = 0;
+    let mut calls = Calls::default();
     for at in 0..PROGRAMS {
         let mut text = whole(&mut random);
         if at % 2 == 1 {
             damage(&mut random, &mut text);
         }
+        calls.note(&text);
         match compare(&text, &mut room) {
             Answer::Parses(found) => found.iter().for_each(|kind| seen[*kind as usize] += 1),
             Answer::No => refused += 1,
@@ -39,6 +66,7 @@ fn random_programs() {
     println!("{PROGRAMS} programs: {refused} do not parse; commands by kind {:?}", &seen[1..]);
     assert!(seen[1..].iter().all(|count| *count > 1_000), "a kind that hardly came");
     assert!(refused > PROGRAMS / 10 && refused < PROGRAMS * 9 / 10);
+    calls.all_came();
 }
 
 #[test]

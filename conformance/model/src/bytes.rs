@@ -19,7 +19,7 @@ pub const fn class(byte: u8) -> Class {
         b' ' => Class::Space,
         b'\n' => Class::Newline,
         b'_' | b',' | b';' | b':' | b'.' | b'?' | b'!' | b'-' | b'>' | b'"' | b'=' | b'{'
-        | b'}' | b'[' | b']' | b'*' | b'/' => Class::Mark(byte),
+        | b'}' | b'[' | b']' | b'(' | b')' | b'*' | b'/' => Class::Mark(byte),
         _ => Class::Foreign,
     }
 }

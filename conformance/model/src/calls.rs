@@ -6,6 +6,7 @@ use crate::engine::{self, End};
 use crate::lines::Lines;
 use crate::rights::{self, Right};
 use crate::state::State;
+use crate::strings::Strings;
 use crate::text::{decode, encode, BUFFER};
 
 /// The longest first password of admin.
@@ -70,10 +71,11 @@ pub fn run(
     require(output.len() == BUFFER, Refusal::OutputSize)?;
     require(state.len() == BUFFER, Refusal::StateSize)?;
     require(work.len() == BUFFER, Refusal::WorkSize)?;
+    let strings = Strings::default();
     let (before, old_length) = decode(state).ok_or(Refusal::NotWellFormed)?;
     require(before.open, Refusal::Closed)?;
     let mut lines = Lines::new(output);
-    let (end, after) = engine::run(before, program, &mut lines);
+    let (end, after) = engine::run(before, program, &strings, &mut lines);
     lines.finish();
     if let Some(length) = after.map(|after| encode(&after, work)) {
         state[..length].copy_from_slice(&work[..length]);

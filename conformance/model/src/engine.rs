@@ -9,9 +9,10 @@ use std::rc::Rc;
 use crate::lines::{status, Lines};
 use crate::parse::parse;
 use crate::rights::{Assertion, Right, ADMIN};
-use crate::session::{Place, Session};
+use crate::session::{Place, Session, Undone};
 use crate::state::{State, HEAVIEST};
-use crate::syntax::{Command, Delegation, Expression, Foreach, Last, Target};
+use crate::strings::Strings;
+use crate::syntax::{Command, Delegation, Expression, Last, Program, Target};
 use crate::value::Value;
 
 /// How a program ended.
@@ -25,9 +26,14 @@ pub enum End {
 }
 
 /// Runs a program on an open state: the lines, how it ended and, where it was
-/// completed, the new state.
-pub fn run<'a>(state: State<'a>, program: &'a [u8], lines: &mut Lines) -> (End, Option<State<'a>>) {
-    match complete(state, program, lines) {
+/// completed, the new state. What strings it makes are kept in `strings`.
+pub fn run<'a>(
+    state: State<'a>,
+    program: &'a [u8],
+    strings: &'a Strings,
+    lines: &mut Lines,
+) -> (End, Option<State<'a>>) {
+    match complete(state, program, strings, lines) {
         Ok((end, state)) => (end, Some(state)),
         Err(undone) => {
             lines.restart();
@@ -42,27 +48,15 @@ pub fn run<'a>(state: State<'a>, program: &'a [u8], lines: &mut Lines) -> (End, 
     }
 }
 
-/// Why a program is not completed.
-enum Undone {
-    Denied,
-    Failed,
-    Full,
-}
-
 fn complete<'a>(
     state: State<'a>,
     program: &'a [u8],
+    strings: &'a Strings,
     lines: &mut Lines,
 ) -> Result<(End, State<'a>), Undone> {
     let program = parse(program).ok_or(Undone::Failed)?;
-    let sender = state
-        .principals
-        .find(program.principal)
-        .ok_or(Undone::Failed)?;
-    if state.principals.get(sender).password != Some(program.password) {
-        return Err(Undone::Denied);
-    }
-    let mut session = Session::new(state, sender);
+    let sender = login(&state, &program)?;
+    let mut session = Session::new(state, sender, strings);
     for command in &program.commands {
         session.step(command)?;
         lines.status(status(command));
@@ -73,14 +67,24 @@ fn complete<'a>(
     Ok((end, state))
 }
 
+/// The sender's number, where the name exists and the password is right.
+pub fn login(state: &State, program: &Program) -> Result<u16, Undone> {
+    let sender = state.principals.find(program.principal);
+    let sender = sender.ok_or(Undone::Failed)?;
+    if state.principals.get(sender).password != Some(program.password) {
+        return Err(Undone::Denied);
+    }
+    Ok(sender)
+}
+
 impl<'a> Session<'a> {
-    /// Every value of these commands is kept in a variable, so one that is too
-    /// heavy makes the state with its locals too heavy.
-    fn step(&mut self, command: &Command<'a>) -> Result<(), Undone> {
+    /// A command other than the last. After one that cannot be done the
+    /// session is of no use.
+    pub fn step(&mut self, command: &Command<'a>) -> Result<(), Undone> {
         if self.denied(command) {
             return Err(Undone::Denied);
         }
-        self.perform(command).ok_or(Undone::Failed)?;
+        self.perform(command)?;
         if self.weight() > HEAVIEST {
             return Err(Undone::Full);
         }
@@ -99,11 +103,7 @@ impl<'a> Session<'a> {
                 if self.unreadable(expression) {
                     return Err(Undone::Denied);
                 }
-                let value = self.evaluate(expression).ok_or(Undone::Failed)?;
-                if value.weight() > HEAVIEST {
-                    return Err(Undone::Full);
-                }
-                lines.returning(&value);
+                lines.returning(&self.evaluate(expression)?);
                 Ok(End::Returned)
             }
         }
@@ -174,36 +174,51 @@ impl<'a> Session<'a> {
         }
     }
 
-    /// Does a command that is not denied; none where it fails.
-    fn perform(&mut self, command: &Command<'a>) -> Option<()> {
-        match command {
+    /// Does a command that is not denied. What makes it fail is looked for
+    /// before the value of an expression, which may weigh too much.
+    fn perform(&mut self, command: &Command<'a>) -> Result<(), Undone> {
+        let done = match command {
             Command::CreatePrincipal(name, password) => self.create_principal(name, password),
-            Command::ChangePassword(name, password) => {
-                let number = self.state.principals.find(name)?;
-                self.state.principals.set_password(number, password);
-                Some(())
-            }
-            Command::Set(name, expression) => self.set(name, expression),
+            Command::ChangePassword(name, password) => self.change_password(name, password),
+            Command::Set(name, expression) => return self.set(name, expression),
             Command::Append(name, expression) => {
+                let place = self.list(name).ok_or(Undone::Failed)?;
                 let value = self.evaluate(expression)?;
-                let place = self.find(name)?;
                 self.append(place, value)
             }
+            Command::Local(name, _) if self.find(name).is_some() => None,
             Command::Local(name, expression) => {
                 let value = self.evaluate(expression)?;
-                if self.state.variables.find(name).is_some() {
-                    return None;
-                }
                 self.locals.add(name, value).map(|_| ())
             }
-            Command::Foreach(foreach) => self.foreach(foreach),
-            Command::SetDelegation(delegation) => self.set_delegation(delegation),
-            Command::DeleteDelegation(delegation) => self.delete_delegation(delegation),
-            Command::DefaultDelegator(name) => {
-                self.state.delegator = self.state.principals.find(name)?;
+            Command::Foreach(foreach) => {
+                let list = self.replaced(foreach)?;
+                let place = self.find(foreach.list).ok_or(Undone::Failed)?;
+                self.store(place, Value::List(Rc::new(list)));
                 Some(())
             }
-        }
+            Command::SetDelegation(delegation) => self.set_delegation(delegation),
+            Command::DeleteDelegation(delegation) => self.delete_delegation(delegation),
+            Command::DefaultDelegator(name) => self.default_delegator(name),
+        };
+        done.ok_or(Undone::Failed)
+    }
+
+    /// Where the list of this name is kept, if the name is a list's.
+    fn list(&self, name: &[u8]) -> Option<Place> {
+        let place = self.find(name)?;
+        self.value(place).list().map(|_| place)
+    }
+
+    fn change_password(&mut self, name: &[u8], password: &'a [u8]) -> Option<()> {
+        let number = self.state.principals.find(name)?;
+        self.state.principals.set_password(number, password);
+        Some(())
+    }
+
+    fn default_delegator(&mut self, name: &[u8]) -> Option<()> {
+        self.state.delegator = self.state.principals.find(name)?;
+        Some(())
     }
 
     /// What is entered here is delegated to the new principal only, so the
@@ -221,12 +236,13 @@ impl<'a> Session<'a> {
 
     /// A new variable is shared, and admin delegates every right on it to the
     /// sender.
-    fn set(&mut self, name: &'a [u8], expression: &Expression<'a>) -> Option<()> {
+    fn set(&mut self, name: &'a [u8], expression: &Expression<'a>) -> Result<(), Undone> {
         let value = self.evaluate(expression)?;
         match self.find(name) {
             Some(place) => self.store(place, value),
             None => {
-                let number = self.state.variables.add(name, value)?;
+                let number = self.state.variables.add(name, value);
+                let number = number.ok_or(Undone::Failed)?;
                 if !self.by_admin() {
                     for right in Right::ALL {
                         self.delegate(&[number], ADMIN, right, self.sender);
@@ -234,14 +250,7 @@ impl<'a> Session<'a> {
                 }
             }
         }
-        Some(())
-    }
-
-    fn foreach(&mut self, foreach: &Foreach<'a>) -> Option<()> {
-        let list = self.replaced(foreach)?;
-        let place = self.find(foreach.list)?;
-        self.store(place, Value::List(Rc::new(list)));
-        Some(())
+        Ok(())
     }
 
     fn set_delegation(&mut self, delegation: &Delegation) -> Option<()> {

@@ -4,9 +4,10 @@
 //!
 //! From the bottom up: [`bytes`] and [`names`] know the alphabets, [`syntax`],
 //! [`token`] and [`parse`] the program text, [`value`], [`state`] and [`text`]
-//! the state and its text, [`rights`] the chains, [`session`], [`evaluate`],
-//! [`lines`] and [`engine`] what a program does, and [`calls`] what the host
-//! program may call.
+//! the state and its text, [`rights`] the chains, [`strings`], [`session`],
+//! [`functions`], [`evaluate`], [`lines`] and [`engine`] what a program does,
+//! and [`calls`] what the host program may call. [`observe`] is for tests: it
+//! tells what became of the calls of functions in a program.
 
 #![forbid(unsafe_code)]
 
@@ -14,12 +15,15 @@ pub mod bytes;
 pub mod calls;
 pub mod engine;
 pub mod evaluate;
+pub mod functions;
 pub mod lines;
 pub mod names;
+pub mod observe;
 pub mod parse;
 pub mod rights;
 pub mod session;
 pub mod state;
+pub mod strings;
 pub mod syntax;
 pub mod text;
 pub mod token;

@@ -8,13 +8,15 @@ use crate::bytes::{class, Class};
 /// The longest identifier (001, Grammar).
 pub const LONGEST_NAME: usize = 255;
 
-/// 01: Keywords. Those of 001's optional features are reserved without a use.
+/// 01: Keywords. Those of 001's optional features that are not taken in are
+/// reserved without a use.
 #[derive(Clone, Copy, PartialEq, Eq, Debug)]
 pub enum Keyword {
     All,
     Append,
     As,
     Change,
+    Concat,
     Create,
     Default,
     Delegate,
@@ -32,7 +34,9 @@ pub enum Keyword {
     Replacewith,
     Return,
     Set,
+    Split,
     To,
+    Tolower,
     With,
     Write,
     Reserved,
@@ -44,6 +48,7 @@ pub fn keyword(word: &[u8]) -> Option<Keyword> {
         b"append" => Keyword::Append,
         b"as" => Keyword::As,
         b"change" => Keyword::Change,
+        b"concat" => Keyword::Concat,
         b"create" => Keyword::Create,
         b"default" => Keyword::Default,
         b"delegate" => Keyword::Delegate,
@@ -61,12 +66,12 @@ pub fn keyword(word: &[u8]) -> Option<Keyword> {
         b"replacewith" => Keyword::Replacewith,
         b"return" => Keyword::Return,
         b"set" => Keyword::Set,
+        b"split" => Keyword::Split,
         b"to" => Keyword::To,
+        b"tolower" => Keyword::Tolower,
         b"with" => Keyword::With,
         b"write" => Keyword::Write,
-        b"split" | b"concat" | b"tolower" | b"notequal" | b"equal" | b"filtereach" | b"let" => {
-            Keyword::Reserved
-        }
+        b"notequal" | b"equal" | b"filtereach" | b"let" => Keyword::Reserved,
         _ => return None,
     })
 }

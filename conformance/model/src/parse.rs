@@ -2,7 +2,9 @@
 
 use crate::names::Keyword;
 use crate::rights::Right;
-use crate::syntax::{Command, Delegation, Expression, Foreach, Last, Operand, Program, Target};
+use crate::syntax::{
+    Call, Command, Delegation, Expression, Foreach, Last, Operand, Program, Target,
+};
 use crate::token::{Scanner, Token};
 
 /// A longer program does not parse.
@@ -182,6 +184,7 @@ impl<'a> Reader<'a> {
         Some(match self.0.token()? {
             Token::EmptyList => Expression::EmptyList,
             Token::OpenBrace => Expression::Record(self.fields()?),
+            Token::Keyword(keyword) => Expression::Call(Box::new(self.call(keyword)?)),
             first => Expression::Operand(self.operand(first)?),
         })
     }
@@ -192,8 +195,7 @@ impl<'a> Reader<'a> {
         loop {
             let label = self.name()?;
             self.the(Token::Equals)?;
-            let first = self.0.token()?;
-            fields.push((label, self.operand(first)?));
+            fields.push((label, self.value()?));
             match self.0.token()? {
                 Token::Comma => {}
                 Token::CloseBrace => return Some(fields),
@@ -202,7 +204,32 @@ impl<'a> Reader<'a> {
         }
     }
 
-    /// x, x.y or a string, of which the first token has been taken.
+    /// The rest of a call of the function that the keyword names. One with
+    /// another number of arguments than the function takes does not parse.
+    fn call(&mut self, keyword: Keyword) -> Option<Call<Operand<'a>>> {
+        self.the(Token::OpenParenthesis)?;
+        let call = match keyword {
+            Keyword::Split => Call::Split(self.value()?, self.next_value()?),
+            Keyword::Concat => Call::Concat(self.value()?, self.next_value()?),
+            Keyword::Tolower => Call::Tolower(self.value()?),
+            _ => return None,
+        };
+        self.the(Token::CloseParenthesis)?;
+        Some(call)
+    }
+
+    /// 01's value: x, x.y or a string.
+    fn value(&mut self) -> Option<Operand<'a>> {
+        let first = self.0.token()?;
+        self.operand(first)
+    }
+
+    fn next_value(&mut self) -> Option<Operand<'a>> {
+        self.the(Token::Comma)?;
+        self.value()
+    }
+
+    /// A value of which the first token has been taken.
     fn operand(&mut self, first: Token<'a>) -> Option<Operand<'a>> {
         match first {
             Token::Text(text) => Some(Operand::Text(text)),

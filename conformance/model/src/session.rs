@@ -2,7 +2,16 @@
 
 use crate::rights::{self, Assertion, Right, ADMIN};
 use crate::state::{State, Variables};
+use crate::strings::{Maker, Strings};
 use crate::value::Value;
+
+/// Why a program is not completed.
+#[derive(Clone, Copy, PartialEq, Eq, Debug)]
+pub enum Undone {
+    Denied,
+    Failed,
+    Full,
+}
 
 /// Where a variable is kept.
 #[derive(Clone, Copy, PartialEq, Eq, Debug)]
@@ -11,11 +20,14 @@ pub enum Place {
     Local(u16),
 }
 
+#[derive(Clone)]
 pub struct Session<'a> {
     pub state: State<'a>,
     pub locals: Variables<'a>,
     /// The sender's number.
     pub sender: u16,
+    /// Makes strings that are no part of the state's text or of the program.
+    pub maker: Maker<'a>,
     /// What is known of the sender's rights on each shared variable.
     known: Vec<Known>,
 }
@@ -29,11 +41,12 @@ struct Known {
 }
 
 impl<'a> Session<'a> {
-    pub fn new(state: State<'a>, sender: u16) -> Session<'a> {
+    pub fn new(state: State<'a>, sender: u16, strings: &'a Strings) -> Session<'a> {
         Session {
             state,
             locals: Variables::default(),
             sender,
+            maker: Maker::new(strings),
             known: Vec::new(),
         }
     }

@@ -1,6 +1,8 @@
 //! Abstract syntax of programs (01, Program text). Names and strings are parts
 //! of the program's own bytes.
 
+use std::iter;
+
 use crate::rights::Right;
 
 #[derive(Clone, PartialEq, Eq, Debug)]
@@ -60,6 +62,36 @@ pub enum Expression<'a> {
     EmptyList,
     /// Labels with operands, as written; a label may stand twice.
     Record(Vec<(&'a [u8], Operand<'a>)>),
+    /// In a box, because most expressions are smaller and are moved about.
+    Call(Box<Call<Operand<'a>>>),
+}
+
+/// A function and what it is called with (001, String functions).
+#[derive(Clone, Copy, PartialEq, Eq, Debug)]
+pub enum Call<A> {
+    Split(A, A),
+    Concat(A, A),
+    Tolower(A),
+}
+
+impl<A> Call<A> {
+    pub fn arguments(&self) -> impl Iterator<Item = &A> {
+        let (first, second) = match self {
+            Call::Split(first, second) | Call::Concat(first, second) => (first, Some(second)),
+            Call::Tolower(only) => (only, None),
+        };
+        iter::once(first).chain(second)
+    }
+
+    /// The same function called with its arguments changed; none where one
+    /// cannot be.
+    pub fn map<'b, B>(&'b self, mut change: impl FnMut(&'b A) -> Option<B>) -> Option<Call<B>> {
+        Some(match self {
+            Call::Split(first, second) => Call::Split(change(first)?, change(second)?),
+            Call::Concat(first, second) => Call::Concat(change(first)?, change(second)?),
+            Call::Tolower(only) => Call::Tolower(change(only)?),
+        })
+    }
 }
 
 /// 01's "value": x, x.y or a string.

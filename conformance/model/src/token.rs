@@ -13,6 +13,8 @@ pub enum Token<'a> {
     Dot,
     OpenBrace,
     CloseBrace,
+    OpenParenthesis,
+    CloseParenthesis,
     /// `[]`
     EmptyList,
     /// `->`
@@ -34,6 +36,11 @@ impl<'a> Scanner<'a> {
         }
     }
 
+    /// How many bytes have been passed.
+    pub fn position(&self) -> usize {
+        self.position
+    }
+
     fn rest(&self) -> &'a [u8] {
         &self.program[self.position..]
     }
@@ -52,7 +59,9 @@ impl<'a> Scanner<'a> {
     }
 
     /// The next token, the longest that can be taken; none where the bytes
-    /// make no token or the program is at its end.
+    /// make no token or the program is at its end. Inlined, because most
+    /// callers ask for one kind of token.
+    #[inline]
     pub fn token(&mut self) -> Option<Token<'a>> {
         self.skip_spaces();
         let rest = self.rest();
@@ -66,6 +75,8 @@ impl<'a> Scanner<'a> {
                 b'.' => self.mark(1, Token::Dot),
                 b'{' => self.mark(1, Token::OpenBrace),
                 b'}' => self.mark(1, Token::CloseBrace),
+                b'(' => self.mark(1, Token::OpenParenthesis),
+                b')' => self.mark(1, Token::CloseParenthesis),
                 b'[' if rest.starts_with(b"[]") => self.mark(2, Token::EmptyList),
                 b'-' if rest.starts_with(b"->") => self.mark(2, Token::Arrow),
                 b'/' if rest.starts_with(b"//") => self.comment(),

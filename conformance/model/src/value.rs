@@ -1,6 +1,7 @@
 //! Values and what they weigh (01, Values and Weight). A string is a part of
-//! the state text or of the program, and records and lists are shared, so that
-//! copying a value copies none of its bytes.
+//! the state text, of the program or of a string that the program made, and
+//! records and lists are shared, so that copying a value copies none of its
+//! bytes.
 
 use std::rc::Rc;
 

@@ -156,7 +156,7 @@ fn wrong_expressions() {
         "x=y",
         "x?",
         "x\ty",
-        "concat(x,y)",
+        "equal(x,y)",
         "let x = y in x",
         "\u{e9}",
         "\"\u{e9}\"",

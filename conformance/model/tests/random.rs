@@ -4,10 +4,14 @@
 
 mod common;
 
+use std::collections::BTreeMap;
+
 use common::{buffer, program, Server, DIRT, FRESH, SESSION};
 use model::calls;
 use model::engine::{self, End};
 use model::lines::Lines;
+use model::observe::{self, FUNCTIONS, MISHAPS, PLACES, SHAPES};
+use model::strings::Strings;
 use model::text::{decode, encode, BUFFER};
 
 /// Numbers that look random and are the same each time.
@@ -40,12 +44,60 @@ fn operand(numbers: &mut Numbers) -> String {
     }
 }
 
+/// What a function is called with: a value, rarely a heavy one or none.
+fn argument(numbers: &mut Numbers) -> String {
+    match numbers.below(32) {
+        0 => format!("\"{}\"", "A".repeat(8_100 + numbers.below(200))),
+        1 | 2 => format!("\"{}\"", "B".repeat(4_000 + numbers.below(200))),
+        3 => "[]".to_string(),
+        4 => call(numbers),
+        _ => operand(numbers),
+    }
+}
+
+/// Mostly with as many arguments as there should be, and between parentheses.
+fn call(numbers: &mut Numbers) -> String {
+    let function = numbers.one(&FUNCTIONS);
+    let count = match numbers.below(16) {
+        0 => numbers.below(4),
+        _ if function == "tolower" => 1,
+        _ => 2,
+    };
+    let arguments: Vec<String> = (0..count).map(|_| argument(numbers)).collect();
+    let arguments = arguments.join(",");
+    match numbers.below(48) {
+        0 => format!("{function} {arguments}"),
+        1 => format!("{function}({arguments}"),
+        2 => format!("({function}({arguments}))"),
+        _ => format!("{function}({arguments})"),
+    }
+}
+
+fn field(numbers: &mut Numbers) -> String {
+    match numbers.below(48) {
+        0 => call(numbers),
+        _ => operand(numbers),
+    }
+}
+
 fn expression(numbers: &mut Numbers) -> String {
-    match numbers.below(6) {
+    match numbers.below(8) {
         0 | 1 => operand(numbers),
         2 | 3 => "[]".to_string(),
-        4 => format!("{{a={}}}", operand(numbers)),
-        _ => format!("{{a={},b={}}}", operand(numbers), operand(numbers)),
+        4 => format!("{{a={}}}", field(numbers)),
+        5 => format!("{{a={},b={}}}", field(numbers), field(numbers)),
+        _ => call(numbers),
+    }
+}
+
+/// What foreach replaces its element e by.
+fn replacement(numbers: &mut Numbers) -> String {
+    match numbers.below(6) {
+        0 => "{a=e}".to_string(),
+        1 => "split(e.a,\"s\")".to_string(),
+        2 => format!("concat(e,{})", operand(numbers)),
+        3 => "tolower(e.a)".to_string(),
+        _ => call(numbers),
     }
 }
 
@@ -59,12 +111,15 @@ fn command(numbers: &mut Numbers) -> String {
         1 => format!("change password {p} \"{p}\""),
         2..=4 => format!("set {x} = {}", expression(numbers)),
         5..=7 => format!("append to {x} with {}", expression(numbers)),
-        8 => format!("local {x} = {}", expression(numbers)),
-        9 => format!("foreach {y} in {x} replacewith {}", expression(numbers)),
-        10 => match numbers.below(2) {
-            0 => format!("foreach e in {x} replacewith {{a=e}}"),
+        8 => {
+            let x = numbers.one(&["new", "other", x]);
+            format!("local {x} = {}", expression(numbers))
+        }
+        9 => match numbers.below(2) {
+            0 => format!("foreach {y} in {x} replacewith {}", expression(numbers)),
             _ => format!("append to {x} with {x}"),
         },
+        10 => format!("foreach e in {x} replacewith {}", replacement(numbers)),
         11 => format!("delete delegation {target} {q} {right} -> {p}"),
         12 => format!("default delegator = {p}"),
         13 => format!("set delegation {target} admin {right} -> {p}"),
@@ -117,7 +172,9 @@ fn peopled() -> Server {
 fn weight_is_kept(state: &[u8], program: &str) {
     let mut output = vec![0; BUFFER];
     let (before, _) = decode(state).unwrap();
-    let (_, after) = engine::run(before, program.as_bytes(), &mut Lines::new(&mut output));
+    let strings = Strings::default();
+    let mut lines = Lines::new(&mut output);
+    let (_, after) = engine::run(before, program.as_bytes(), &strings, &mut lines);
     if let Some(after) = after {
         let mut text = vec![0; BUFFER];
         encode(&after, &mut text);
@@ -176,16 +233,33 @@ fn questions_are_answered(server: &Server) -> (usize, usize) {
     (yes, no)
 }
 
+/// How often each form of a call and each mishap came: every one must.
+fn all_came(seen: &BTreeMap<String, usize>) {
+    let forms = FUNCTIONS.iter().flat_map(|function| {
+        let told = move |place: &&str| format!("{function} in {place}");
+        PLACES.iter().map(told)
+    });
+    for key in forms.chain(MISHAPS.iter().chain(&SHAPES).map(|key| key.to_string())) {
+        let times = seen.get(&key).copied().unwrap_or(0);
+        println!("{key}: {times}");
+        assert!(times > 0, "{key} never came");
+    }
+}
+
 #[test]
 fn whole_programs() {
     let mut numbers = Numbers(0x0123_4567_89ab_cdef);
     let mut ends = [0; 5];
+    let mut seen = BTreeMap::new();
     let (mut yes, mut no) = (0, 0);
-    for _ in 0..150 {
+    for _ in 0..400 {
         let mut server = peopled();
         for _ in 0..60 {
             let program = any_program(&mut numbers);
             weight_is_kept(&server.state, &program);
+            for told in observe::calls(&server.state, program.as_bytes()) {
+                *seen.entry(told).or_default() += 1;
+            }
             let (end, _) = server.send(program.as_bytes());
             ends[end as usize] += 1;
             if end == End::Exited {
@@ -196,6 +270,7 @@ fn whole_programs() {
         yes += more_yes;
         no += more_no;
     }
+    all_came(&seen);
     // Every kind of end and of answer comes up.
     assert!(ends[End::Exited as usize] > 0, "{ends:?}");
     for end in [End::Returned, End::Denied, End::Failed, End::Full] {
@@ -217,7 +292,7 @@ fn damaged_programs() {
             match numbers.below(3) {
                 0 => bytes[at] = numbers.below(256) as u8,
                 1 => drop(bytes.remove(at)),
-                _ => bytes.insert(at, b" \n/*.,={}[]->\"_a1\t\0"[numbers.below(19)]),
+                _ => bytes.insert(at, b" \n/*.,={}[]()->\"_a1\t\0"[numbers.below(21)]),
             }
         }
         let (end, _) = server.send(&bytes);

@@ -234,11 +234,47 @@ fn query_to_the_oracle() {
 }
 
 #[test]
-fn optional_features_do_not_parse() {
+fn string_functions() {
+    let (end, text) = server().send(
+        b"as principal admin password \"admin\" do
+  set x = \"hello\"
+  set y = split(x,\"--\")
+  set z = concat(x,y.fst)
+  return { x=x, y=y.snd, z=z }
+***
+",
+    );
+    assert_eq!(end, End::Returned);
+    // 001 prints the fields in another order; 01 has that in which they are
+    // written.
+    let value = "{\"x\":\"hello\",\"y\":\"llo\",\"z\":\"hellohe\"}";
+    assert_eq!(text, statuses(&["SET"; 3]) + &returning(value));
+    // 001's rules for the three functions.
+    for (expression, value) in [
+        (
+            "split(\"hello\",\"--\")",
+            "{\"fst\":\"he\",\"snd\":\"llo\"}",
+        ),
+        ("split(\"he\",\"-----\")", "{\"fst\":\"he\",\"snd\":\"\"}"),
+        ("concat(\"hello\",\"there\")", "\"hellothere\""),
+        ("tolower(\"Hello THERE\")", "\"hello there\""),
+    ] {
+        let (_, text) = admin(&mut server(), &[&format!("return {expression}")]);
+        assert_eq!(text, returning(value), "{expression}");
+    }
+    for expression in ["split(\"s\",l)", "concat(l,\"s\")", "tolower(l)"] {
+        let last = format!("return {expression}");
+        let (end, _) = admin(&mut server(), &["local l = []", &last]);
+        assert_eq!(end, End::Failed, "{expression}");
+    }
+}
+
+#[test]
+fn other_optional_features_do_not_parse() {
     for line in [
-        "set y = split(x,\"--\")",
-        "set z = concat(x,y.fst)",
         "filtereach rec in records with equal(rec.date,\"1-1-90\")",
+        "set y = equal(x,x)",
+        "set y = notequal(x,x)",
         "set y = let z = concat(x.f1, \" \") in concat(z, x.f2)",
     ] {
         let text = program("admin", "admin", &["set x = \"hello\"", line, "return x"]);

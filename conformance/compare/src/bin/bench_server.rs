@@ -13,6 +13,7 @@ use std::time::Duration;
 use compare::server;
 use compare::timing::time;
 use model::calls;
+use model::parse::LONGEST_PROGRAM;
 use model::text::BUFFER;
 
 /// A line of the table: what is timed, and how large it is.
@@ -52,7 +53,7 @@ fn server_after(programs: &[Vec<String>]) -> Vec<u8> {
         let mut lines = lines.clone();
         lines.push("return \"\"".to_string());
         let text = program("admin", "desk", &lines);
-        assert!(text.len() <= 16_384, "a program of {} bytes", text.len());
+        assert!(text.len() <= LONGEST_PROGRAM, "a program of {} bytes", text.len());
         let report = calls::run(&mut lent.state, &mut lent.work, &mut lent.output, &text).expect("a right call");
         assert_eq!(report.end, model::engine::End::Returned, "{}", String::from_utf8_lossy(&lent.output[..report.bytes]));
     }
@@ -183,6 +184,30 @@ fn measured() -> Vec<Line> {
     lines
 }
 
+/// What a call of each function costs beside a plain `set`, which comes first: programs of one command over and over, all with the same number
+/// of commands, which is as many as fit where the command is longest.
+fn functions() -> Vec<Line> {
+    let expressions = ["y", "concat(y,\"a\")", "tolower(y)", "split(y,\"a\")"];
+    let last = "return x".to_string();
+    let longest = expressions.iter().map(|expression| format!("set x={expression}\n").len()).max().expect("an expression");
+    let count = (LONGEST_PROGRAM - program("admin", "desk", &[last.clone()]).len()) / longest;
+    let state = server_after(&[vec!["set x = \"\"".to_string(), "set y = \"Blue Moon\"".to_string()]]);
+    let line = |expression: &str| {
+        let mut commands = vec![format!("set x={expression}"); count];
+        commands.push(last.clone());
+        run_line(&format!("{count} times `set x={expression}`"), &state, &program("admin", "desk", &commands))
+    };
+    expressions.into_iter().map(line).collect()
+}
+
+/// How the line of concat stands to that of the plain `set`.
+fn relation(lines: &[Line]) -> String {
+    let (plain, concat) = (&lines[0], &lines[1]);
+    let times = concat.proved.as_secs_f64() / plain.proved.as_secs_f64();
+    let ratios = concat.ratio() / plain.ratio();
+    format!("A set with concat takes {times:.2} times a plain one; its ratio to the model is {ratios:.2} times that of the plain one.")
+}
+
 fn table(lines: &[Line], clear: Duration) -> String {
     let mut text = String::from("| work | server | model | ratio |\n|---|---|---|---|\n");
     for line in lines {
@@ -229,9 +254,12 @@ fn page(old: &str, text: &str) -> String {
 
 fn main() {
     let clear = clearing();
-    let lines = measured();
+    let mut lines = measured();
     let small = lines[0].proved.as_secs_f64() / clear.as_secs_f64();
-    let text = format!("{}\nThe session's first program takes {small:.1} times the time of clearing and copying.\n", table(&lines, clear));
+    let functions = functions();
+    let relation = relation(&functions);
+    lines.extend(functions);
+    let text = format!("{}\nThe session's first program takes {small:.1} times the time of clearing and copying. {relation}\n", table(&lines, clear));
     print!("{text}");
     if let Some(folder) = env::args().nth(1) {
         let path = Path::new(&folder).join("performance.md");
