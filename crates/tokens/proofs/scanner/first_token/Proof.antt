@@ -1,4 +1,4 @@
--- `scanner::first_token` meets its contract: a walk of its MIR, by hand. A scanner that one call returns is held in a local and passed to the next. All that the proof knows of `scan` and of `peek` is that each meets its contract.
+-- `tokens::scanner::first_token` meets its contract: a walk of its MIR, by hand. A scanner that one call returns is held in a local and passed to the next. All that the proof knows of `scan` and of `peek` is that each meets its contract.
 -- The machine value that `scan` returns is stored and passed on as it is. In a local of a body MIR erases the lifetime of the struct's type, so the value is shown to have the type at `erased`: what the struct owns does not say the lifetime's name.
 use mathlib.Core.Path.{_≡_, refl, sym, subst}
 use Prim.Native.Nat.{ℕ, _<_, _≤_, _^_}

@@ -1,4 +1,4 @@
--- `scanner::peek` meets its contract: a walk of its MIR, by hand. The struct is taken apart, and `token_at` is called on the slice and the number. All that the proof knows of `token_at` is that it meets its contract.
+-- `tokens::scanner::peek` meets its contract: a walk of its MIR, by hand. The struct is taken apart, and `token_at` is called on the slice and the number. All that the proof knows of `token_at` is that it meets its contract.
 -- The struct is Copy: what it owns is had twice, one copy is kept whole for the exit, and of the other what the text owns goes to the callee, beside the lifetime's token, which comes back.
 use mathlib.Core.Path.{_≡_, refl}
 use Prim.Native.Nat.{_<_, _≤_, _^_}

@@ -1,4 +1,4 @@
--- `scanner::scan` meets its contract: a walk of its MIR, by hand. A scanner is made of the slice and the number passed, in the result's local.
+-- `tokens::scanner::scan` meets its contract: a walk of its MIR, by hand. A scanner is made of the slice and the number passed, in the result's local.
 -- A `&[u8]` is Copy, so what it owns is had twice: once for the text at exit, and once inside the result, beside the facts of at.
 use mathlib.Core.Path.{refl}
 use Prim.Native.Nat.{ℕ, _<_, _^_}
