@@ -6,7 +6,7 @@ use refusal::Refusal;
 use validate::Parts;
 ghost use mathlib.Core.List.{List};
 ghost use Prim.Native.Nat.{ℕ};
-ghost use Rattle.language.specs.State.{State};
+ghost use Rattle.language.specs.State.{Store};
 ghost use Rattle.validate.specs.Checked.{Represents};
 ghost use Rattle.opening.specs.Logins.{SomeState};
 ghost use Rattle.admission.specs.Admissions.{Admits};
@@ -21,8 +21,8 @@ pub enum Admission {
 // is FAILED, wherever that is found out.
 pub fn admit(state: &[u8], principal_slots: &[u32], parts: Parts, program: &[u8]) -> Admission
     requires { ⌜ SomeState (now state) (now «principal_slots») parts ⌝ }
-    ensures { λ r. ⌜ ((variable-slots assertions : List ℕ) (s : State) → Represents (now (state .entry)) (now («principal_slots» .entry)) variable-slots assertions parts s
-        → Admits r (s .store) (now (program .entry))) ⌝ }
+    ensures { λ r. ⌜ ((variable-slots assertions : List ℕ) (s : Store) → Represents (now (state .entry)) (now («principal_slots» .entry)) variable-slots assertions parts s
+        → Admits r s (now (program .entry))) ⌝ }
 {
     let head = parser::login(program);
     let Head::Login {

@@ -5,16 +5,15 @@ use Prim.Native.Nat.{ℕ, _≤_, _<_}
 use native.Mathlib.Omega.{arith}
 use mathlib.Core.Option.{Option, none, some}
 use mathlib.Core.List.{List, map}
-use lib.Dec.{T, leb}
+use lib.Dec.{T}
 use lib.ListN.{length, length-map}
 use lib.Seq.{length-take-le}
 use Rattle.language.specs.Text.{Text, present}
 use Rattle.language.specs.Syntax.{Name, Right}
-use Rattle.language.specs.State.{Principal, Value, Variable, Store, lastCount, named, valueIn}
+use Rattle.language.specs.State.{Principal, Value, Variable, Store, named, valueIn}
 use Rattle.language.specs.Valid.{validStore}
 use Rattle.language.specs.Chains.{chainLength}
 use Rattle.language.specs.Calls.{wrong, lengthAnswer, question}
-use Rattle.language.proofs.Logic.Tests.{both}
 use Rattle.language.proofs.StateText.Names.{named-is, valued-is}
 use Rattle.language.proofs.StateText.RoundTrip.{decode-holds}
 use Rattle.text.specs.Parts.{part}
@@ -66,15 +65,15 @@ module _ (s : Store) (p x : Name) where
 
 module _ {t : Text} {slots-p slots-v assertions : List ℕ} {m : Parts} (u : Understood t slots-p slots-v assertions m) where
   abbrev pub store : Store
-  store = u .state .store
+  store = u .state
 
   pub store-valid : T (validStore store)
-  store-valid = both (leb (u .state .count) lastCount) (validStore store) (decode-holds t (u .state) .0 (u .decoded) .is-valid) .1
+  store-valid = decode-holds t (u .state) .0 (u .decoded) .is-valid
 
   everyone : m .principals ≡ length (principalsOf store)
   everyone = u .represents .principals .counted ∙ sym (length-map (store .principals) (λ (k : Principal). k .name))
 
-  pub few-everyone : m .principals ≤ 4096
+  pub few-everyone : m .principals ≤ 1024
   few-everyone = omega (arith, everyone, few-names store store-valid)
 
   pub few-asserted : m .asserted ≤ 2048

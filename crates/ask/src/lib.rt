@@ -15,7 +15,7 @@ pub fn right(state: &[u8], name: &[u8], variable: &[u8], right: u8) -> Answer
     if state.len() != 65536 {
         return Answer::Wrong(2);
     }
-    let mut principals = [0u32; 4096];
+    let mut principals = [0u32; 1024];
     let mut vars = [0u32; 4096];
     let mut assertions = [0u64; 2048];
     let checked = validate::check(state, &mut principals, &mut vars, &mut assertions);

@@ -38,7 +38,7 @@ pub fn decide(
 ) -> Answer
     requires { ⌜ Understood (now state) (now principals) (now vars) (now assertions) parts ⌝ }
     ensures { λ r. ⌜ ((u : Understood (now (state .entry)) (now (principals .entry)) (now (vars .entry)) (now (assertions .entry)) parts)
-        → answerMeant r ≡ question (u .state .store) (now (name .entry)) (now (variable .entry)) (rightByte right)) ⌝ }
+        → answerMeant r ≡ question (u .state) (now (name .entry)) (now (variable .entry)) (rightByte right)) ⌝ }
 {
     let principals_from = parts.principals_from;
     let principals_to = parts.principals_to;

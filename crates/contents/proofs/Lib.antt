@@ -1,2 +1,3 @@
 -- Laws of what stands in a record.
+pub mod Tabs
 pub mod Passwords

@@ -1,4 +1,4 @@
-// What a record holds: a principal's password, a variable's value, and the value of a name; a name's number, and what a principal's name weighs.
+// What a record holds: a principal's password and count, a variable's value, and the value of a name; a name's number, and what a principal's name weighs.
 use store::index::Found;
 use store::index::find;
 use store::index::nth;
@@ -6,13 +6,14 @@ use text::Span;
 ghost use mathlib.Core.Path.{_≡_};
 ghost use mathlib.Core.List.{List};
 ghost use Prim.Native.Nat.{_≤_, _<_};
-ghost use lib.ListN.{length, take};
+ghost use lib.ListN.{length, take, getD};
 ghost use Rattle.language.specs.Text.{_orElse_};
 ghost use Rattle.language.specs.State.{Principal, Variable, valueIn};
 ghost use Rattle.language.specs.Weight.{nameWeight};
+ghost use Rattle.language.specs.Encode.{tab};
 ghost use Rattle.store.specs.Held.{Principals, Variables};
 ghost use Rattle.store.specs.Rows.{Row, Rows, SomeRows, rowNames, rowAt, position};
-ghost use Rattle.contents.specs.Contents.{valueBytes, PasswordAt, ValueAt};
+ghost use Rattle.contents.specs.Contents.{valueBytes, LastTab, CountAt, PasswordAt, ValueAt};
 
 // Where a password stands.
 pub enum Password {
@@ -20,19 +21,43 @@ pub enum Password {
     Absent,
 }
 
-// The password of a principal: after the tab that follows the name, without the line's end.
+// The place after the last tab from `from` up to `to`; a tab stands at `from`.
+fn last_tab(text: &[u8], from: usize, to: usize) -> usize
+    requires { ⌜ (from < to) × (to ≤ length (now text)) × (getD (now text) from 0 ≡ tab) ⌝ }
+    ensures { λ r. ⌜ LastTab (now (text .entry)) from to r ⌝ }
+{
+    let mut i = to;
+    while text[i - 1] != b'\t' {
+        i -= 1;
+    }
+    i
+}
+
+// Where the count of a principal starts: it is the last field of the line, and no digit is a tab.
+pub fn count_at(text: &[u8], slots: &[u32], count: usize, number: usize) -> usize
+    requires { ⌜ SomeRows (now text) count (now slots) × (number < count) ⌝ }
+    ensures inside { λ r. ⌜ (0 < r) × (r ≤ length (now (text .entry))) ⌝ }
+    ensures counted { λ r. ⌜ ((ks : List Principal) → Principals ks (now (text .entry)) count (now (slots .entry)) → CountAt ks (now (text .entry)) number r) ⌝ }
+{
+    let place = nth(text, slots, count, number);
+    let from = place.start + 1;
+    let to = place.end;
+    last_tab(text, from, to)
+}
+
+// The password of a principal whose line starts with P: after the tab that follows the name, up to the tab before the count.
 pub fn password_of(text: &[u8], slots: &[u32], count: usize, number: usize) -> Password
     requires { ⌜ SomeRows (now text) count (now slots) × (number < count) ⌝ }
     ensures { λ r. ⌜ ((ks : List Principal) → Principals ks (now (text .entry)) count (now (slots .entry)) → PasswordAt ks (now (text .entry)) number r) ⌝ }
 {
     let place = nth(text, slots, count, number);
-    let mid = place.mid;
-    if text[mid] == b'\n' {
+    let first = place.start;
+    if text[first] != b'P' {
         return Password::Absent;
     }
-    let start = mid + 1;
-    let line = place.end;
-    let end = line - 1;
+    let start = place.mid + 1;
+    let digits = count_at(text, slots, count, number);
+    let end = digits - 1;
     Password::Kept { start, end }
 }
 

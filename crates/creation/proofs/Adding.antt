@@ -54,7 +54,7 @@ position-new (y ∷ l) x h = go (y == x) h (position-new l x)
 
 module _ (s : Session) (l : Layout) (b : Slices) (text : Text) (slots : List ℕ) (p t : Text) (N : New s l b text slots p t) where
   abbrev one-more : List Principal
-  one-more = s .store .principals ++ (record { name = p; password = some t } ∷ [])
+  one-more = s .store .principals ++ (record { name = p; password = some t; count = 0 } ∷ [])
 
   unknown : ¬ T (isPrincipal s p)
   unknown h = subst T (N .unknown) h
@@ -73,8 +73,8 @@ module _ (s : Session) (l : Layout) (b : Slices) (text : Text) (slots : List ℕ
       weighs-all p (another admin (subst (λ (ns : List Name). T (member admin ns)) (sym (two .1)) tt))
       (another anyone (subst (λ (ns : List Name). T (member anyone ns)) (sym (two .1)) tt))
 
-  pub added-weighs : l .weight + 1 + length p + length t ≡ sessionWeight (withStore s (withPrincipal (s .store) p t))
-  added-weighs = omega (arith, N .running .weighed, name-weight, sum-append principalWeight (s .store .principals) (record { name = p; password = some t } ∷ []))
+  pub added-weighs : l .weight + 11 + length p + length t ≡ sessionWeight (withStore s (withPrincipal (s .store) p t))
+  added-weighs = omega (arith, N .running .weighed, name-weight, sum-append principalWeight (s .store .principals) (record { name = p; password = some t; count = 0 } ∷ []))
 
   valid-parts : T (isIdentifier p) × T (isString t)
   valid-parts = both (isIdentifier p) (isString t) (N .is-valid)
@@ -87,11 +87,11 @@ module _ (s : Session) (l : Layout) (b : Slices) (text : Text) (slots : List ℕ
       subst (λ (x : Text). Principals (s .store .principals) (take (l .«principals_len») x) (l .principals) slots) (N .principals-are)
       (subst (λ (m : List ℕ). Principals (s .store .principals) (take (l .«principals_len») (b .principals)) (l .principals) m) (N .slots-are) (N .running .principals))
 
-  module _ (w : l .weight + 1 + length p + length t ≤ limit) where
-    pub added-fits : (length text ≤ 65536) × (l .«principals_len» + 4 + length p + length t ≤ length text) × (l .principals < length slots)
+  module _ (w : l .weight + 11 + length p + length t ≤ limit) where
+    pub added-fits : (length text ≤ 65536) × (l .«principals_len» + 6 + length p + length t ≤ length text) × (l .principals < length slots)
     added-fits =
-        let z : length text ≡ 20992 = ap length (sym (N .principals-are)) ∙ N .running .sized .principals-size in
-        let m : length slots ≡ 4096 = ap length (sym (N .slots-are)) ∙ N .running .sized .principal-slots-size in
+        let z : length text ≡ 11008 = ap length (sym (N .principals-are)) ∙ N .running .sized .principals-size in
+        let m : length slots ≡ 1024 = ap length (sym (N .slots-are)) ∙ N .running .sized .principal-slots-size in
         let n = name-length p added-name .0 in
         (omega (arith, z), omega (arith, z, principals-short s l b (N .running)), omega (arith, m, n, records-few s l b (N .running)))
 
@@ -100,7 +100,7 @@ module _ (s : Session) (l : Layout) (b : Slices) (text : Text) (slots : List ℕ
       is-good = record {
         store-shape = added-shape (s .store) (N .running .ready .is-good .store-shape) p t added-name (valid-parts .1) unknown;
         locals-valid = N .running .ready .is-good .locals-valid;
-        sender-known = added-keeps (s .store .principals) (record { name = p; password = some t }) (s .sender) (N .running .ready .is-good .sender-known);
+        sender-known = added-keeps (s .store .principals) (record { name = p; password = some t; count = 0 }) (s .sender) (N .running .ready .is-good .sender-known);
       };
       is-light = omega (arith, added-weighs);
     }
@@ -109,7 +109,7 @@ module _ (s : Session) (l : Layout) (b : Slices) (text : Text) (slots : List ℕ
     added-same =
         let ns : List Name = principalsOf (s .store) in
         let xs : List Name = variables (s .store) in
-        let names : map (λ k. k .name) one-more ≡ ns ++ (p ∷ []) = added-names (s .store .principals) (record { name = p; password = some t }) in
+        let names : map (λ k. k .name) one-more ≡ ns ++ (p ∷ []) = added-names (s .store .principals) (record { name = p; password = some t; count = 0 }) in
         let stays : (q : Name) → T (member q ns) → position (map (λ k. k .name) one-more) q ≡ position ns q =
         λ q m. ap (λ (l : List Name). position l q) names ∙ position-last ns (p ∷ []) q (position-lt ns q m) in
         let shape = N .running .ready .is-good .store-shape in
@@ -125,7 +125,7 @@ module _ (s : Session) (l : Layout) (b : Slices) (text : Text) (slots : List ℕ
     -- the buffers after it was added
     pub added-running : (text′ : Text) (slots′ : List ℕ) (len : ℕ) → Principals one-more (take len text′) (l .principals + 1) slots′ → len ≤ length text
         → length text′ ≡ length text → length slots′ ≡ length slots
-        → Running (withStore s (withPrincipal (s .store) p t)) (withOtherPrincipals l len (l .principals + 1) (l .weight + 1 + length p + length t)) (withPrincipalText b text′ slots′)
+        → Running (withStore s (withPrincipal (s .store) p t)) (withOtherPrincipals l len (l .principals + 1) (l .weight + 11 + length p + length t)) (withPrincipalText b text′ slots′)
     added-running text′ slots′ len H h z m =
         with-principal-text s l b (N .running) one-more added-same (record {
           held = H;

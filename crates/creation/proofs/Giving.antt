@@ -43,7 +43,7 @@ module _ (s : Session) (l : Layout) (b : Slices) (q p : ℕ) (from to : Name) (G
     every-variable = G .running .variables .counted ∙ sym (length-map (s .store .variables) (λ (v : Variable). v .name));
   }
 
-  pub few : (l .asserted ≤ length (b .assertions)) × (l .asserted ≤ 2048) × (l .principals ≤ 4096) × (l .vars ≤ 4096)
+  pub few : (l .asserted ≤ length (b .assertions)) × (l .asserted ≤ 2048) × (l .principals ≤ 1024) × (l .vars ≤ 4096)
   few =
       let R = G .running in
       let r = records-few s l b R in

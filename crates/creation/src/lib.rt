@@ -11,7 +11,7 @@ ghost use Rattle.session.specs.Sessions.{Slices, slices};
 ghost use Rattle.assertion_changes.specs.Entering.{Ends};
 ghost use Rattle.creation.specs.Creating.{withPrincipalText, New, SomeNew, delegated, Gives, SomeGives};
 
-// Adds a principal that is not there. Its name weighs its length, since admin and anyone are there.
+// Adds a principal that is not there. Its name weighs its length, since admin and anyone are there, and 10 are for its count.
 pub fn add(
     principals: &mut [u8],
     principal_slots: &mut [u32],
@@ -25,7 +25,7 @@ pub fn add(
 {
     let len = l.principals_len;
     let count = l.principals;
-    let weight = l.weight + 1 + name.len() + password.len();
+    let weight = l.weight + 11 + name.len() + password.len();
     if 8192 < weight {
         return Entered::Full;
     }

@@ -43,7 +43,7 @@ module _ (s : Session) (l : Layout) (b : Slices) (assertions : List ℕ) (R : Ru
   assertions-held = subst (Standing (s .store) (l .asserted)) (R .stood) (R .running .assertions)
 
   -- the numbers fit
-  pub few : (l .asserted ≤ length assertions) × (l .asserted ≤ 2048) × (l .principals ≤ 4096) × (l .vars ≤ 4096)
+  pub few : (l .asserted ≤ length assertions) × (l .asserted ≤ 2048) × (l .principals ≤ 1024) × (l .vars ≤ 4096)
   few = (
     assertions-held .within,
     omega (arith, assertions-few s l b (R .running), R .running .light),
@@ -51,7 +51,7 @@ module _ (s : Session) (l : Layout) (b : Slices) (assertions : List ℕ) (R : Ru
     omega (arith, records-few s l b (R .running), R .running .light),
   )
 
-  pub fits : (x : ℕ) → x < l .vars → (l .asserted ≤ length assertions) × (l .asserted ≤ 2048) × (l .principals ≤ 4096) × (x < 65536)
+  pub fits : (x : ℕ) → x < l .vars → (l .asserted ≤ length assertions) × (l .asserted ≤ 2048) × (l .principals ≤ 1024) × (x < 65536)
   fits x h = let f = few in (f .0, f .1, f .2, omega (arith, f .3, h))
 
   pub counted : Counted (s .store) assertions (l .asserted) (l .principals) (l .vars)

@@ -195,7 +195,7 @@ pub fn collect(
     q: usize,
     targets: &mut [u32],
 ) -> usize
-    requires { ⌜ (asserted ≤ length (now assertions)) × (asserted ≤ 2048) × (principals ≤ 4096) × (vars ≤ 4096) × (4096 ≤ length (now targets)) ⌝ }
+    requires { ⌜ (asserted ≤ length (now assertions)) × (asserted ≤ 2048) × (principals ≤ 1024) × (vars ≤ 4096) × (4096 ≤ length (now targets)) ⌝ }
     ensures few { λ r. ⌜ r ≤ vars ⌝ }
     ensures are { λ r. ⌜ ((s : Store) (name : Name) → Counted s (now (assertions .entry)) asserted principals vars → Numbered s name q
         → take r (now (targets .exit)) ≡ map (position (variables s)) (delegable s name)) ⌝ }

@@ -14,7 +14,7 @@ use Rattle.language.specs.Text.{Text, joined, all}
 use Rattle.language.specs.Syntax.{Name}
 use Rattle.language.specs.State.{Value, Principal, Variable}
 use Rattle.language.specs.Identifiers.{isName}
-use Rattle.language.specs.Encode.{tab, newline, variablesText}
+use Rattle.language.specs.Encode.{tab, variablesText}
 use Rattle.language.proofs.Logic.Tests.{both, and, all-append}
 use Rattle.store.specs.Held.{Principals, Variables, slot, slotsFrom}
 use Rattle.store.specs.Rows.{Row, Rows, rowText, principalRow, variableRow}
@@ -83,8 +83,8 @@ added-outside d new-d src len count r slots new-slots m l q fits left noted = re
 pub variable-written : (x o : Text) → (86 ∷ 9 ∷ (x ++ (9 ∷ []))) ++ o ≡ 86 ∷ tab ∷ (x ++ (tab ∷ o))
 variable-written x o = ap (λ (l : Text). 86 ∷ 9 ∷ l) (append-assoc x (9 ∷ []) o)
 
-pub principal-written : (x w : Text) → ((80 ∷ 9 ∷ (x ++ (9 ∷ []))) ++ w) ++ (10 ∷ []) ≡ 80 ∷ tab ∷ (x ++ (tab ∷ (w ++ (newline ∷ []))))
-principal-written x w = ap (λ (l : Text). 80 ∷ 9 ∷ l) (append-assoc (x ++ (9 ∷ [])) w (10 ∷ []) ∙ append-assoc x (9 ∷ []) (w ++ (10 ∷ [])))
+pub principal-written : (x w z : Text) → ((80 ∷ 9 ∷ (x ++ (9 ∷ []))) ++ w) ++ z ≡ 80 ∷ tab ∷ (x ++ (tab ∷ (w ++ z)))
+principal-written x w z = ap (λ (l : Text). 80 ∷ 9 ∷ l) (append-assoc (x ++ (9 ∷ [])) w z ∙ append-assoc x (9 ∷ []) (w ++ z))
 
 pub variable-added : (vs : List Variable) (x : Name) (v : Value) (t : Text) (count : ℕ) (slots : List ℕ)
     → Rows (map variableRow vs ++ (variableRow (record { name = x; value = v }) ∷ [])) t count slots → Variables (vs ++ (record { name = x; value = v } ∷ [])) t count slots
@@ -93,18 +93,15 @@ variable-added vs x v t count slots H =
     (subst (λ (l : List Row). Rows l t count slots) (sym (map-append variableRow vs (record { name = x; value = v } ∷ []))) H)
 
 pub principal-added : (ks : List Principal) (x : Name) (w : Text) (t : Text) (count : ℕ) (slots : List ℕ)
-    → Rows (map principalRow ks ++ (principalRow (record { name = x; password = some w }) ∷ [])) t count slots
-    → Principals (ks ++ (record { name = x; password = some w } ∷ [])) t count slots
+    → Rows (map principalRow ks ++ (principalRow (record { name = x; password = some w; count = 0 }) ∷ [])) t count slots
+    → Principals (ks ++ (record { name = x; password = some w; count = 0 } ∷ [])) t count slots
 principal-added ks x w t count slots H =
-    rows-principals (ks ++ (record { name = x; password = some w } ∷ [])) t count slots
-    (subst (λ (l : List Row). Rows l t count slots) (sym (map-append principalRow ks (record { name = x; password = some w } ∷ []))) H)
+    rows-principals (ks ++ (record { name = x; password = some w; count = 0 } ∷ [])) t count slots
+    (subst (λ (l : List Row). Rows l t count slots) (sym (map-append principalRow ks (record { name = x; password = some w; count = 0 } ∷ []))) H)
 
 -- what is written next
 pub written-on : (d e a b : Text) (at r : ℕ) → at ≤ length d → e ≡ over d at a → r ≡ at + length a → over e r b ≡ over d at (a ++ b)
 written-on d e a b at r h q n = (λ i. over (q i) (n i) b) ∙ over-on d a b at h
-
-pub stored-on : (d e a : Text) (at r b : ℕ) → at ≤ length d → r < length e → e ≡ over d at a → r ≡ at + length a → set e r b ≡ over d at (a ++ (b ∷ []))
-stored-on d e a at r b h l q n = set-over e r b l ∙ written-on d e a (b ∷ []) at r h q n
 
 pub head-length : (b : ℕ) (x : Text) → length (b ∷ 9 ∷ (x ++ (9 ∷ []))) ≡ 3 + length x
 head-length b x = omega (arith, length-append x (9 ∷ []))

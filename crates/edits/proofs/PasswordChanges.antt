@@ -14,13 +14,14 @@ use Rattle.language.specs.Text.{Text, joined, _==_, if_then_else_, member, dist
 use Rattle.language.specs.Syntax.{Name}
 use Rattle.language.specs.State.{Principal}
 use Rattle.language.specs.Identifiers.{isName}
-use Rattle.language.specs.Encode.{tab, newline, principalsText}
+use Rattle.language.specs.Encode.{tab, principalsText}
 use Rattle.language.specs.Commands.{changed}
 use Rattle.language.proofs.Logic.Tests.{both, left-of, right-of, ==→≡, ==-sym}
 use Rattle.store.specs.Held.{Principals, slot, slotsFrom}
-use Rattle.store.specs.Rows.{Row, Rows, rowText, bodyText, rowAt, noRow, startOf, position, principalRow, Placed}
+use Rattle.store.specs.Rows.{Row, Rows, rowText, bodyText, rowAt, noRow, startOf, position, countText, principalRow, Placed}
 use Rattle.store.specs.Contents.{principalAt}
-use Rattle.edits.specs.Changes.{principalNames, withPassword, Respelled, Outside}
+use Rattle.contents.specs.Contents.{CountAt}
+use Rattle.edits.specs.Changes.{principalNames, passworded, withPassword, Respelled, Outside}
 use Rattle.store.specs.declared.index.Place.{Place}
 use Rattle.store.proofs.Records.{start-next, name-valid}
 use Rattle.store.proofs.Holders.{principals-rows, rows-principals, joined-principals}
@@ -36,7 +37,7 @@ changed-none (k ∷ ks) p t n =
     go (k .name == p) (λ e. n (left-of (p == k .name) (member p (principalNames ks)) (==-sym (k .name) p e)))
     (changed-none ks p t (λ m. n (right-of (p == k .name) (member p (principalNames ks)) m)))
   where
-    go : (b : Bool) → (T b → ⊥) → map (changed p t) ks ≡ ks → record { name = k .name; password = if b then some t else k .password } ∷ map (changed p t) ks ≡ k ∷ ks
+    go : (b : Bool) → (T b → ⊥) → map (changed p t) ks ≡ ks → record { name = k .name; password = if b then some t else k .password; count = k .count } ∷ map (changed p t) ks ≡ k ∷ ks
     go true f e = absurd (f tt)
     go false f e = ap (λ (l : List Principal). k ∷ l) e
 
@@ -52,67 +53,72 @@ changed-at (k ∷ ks) p t d h =
     n = position (principalNames ks) p
 
     go : (b : Bool) → (T b → map (changed p t) ks ≡ ks) → (if b then 0 else suc n) < suc (length ks) → (n < length ks → map (changed p t) ks ≡ withPassword ks n t)
-        → record { name = k .name; password = if b then some t else k .password } ∷ map (changed p t) ks ≡ withPassword (k ∷ ks) (if b then 0 else suc n) t
-    go true f h g = ap (λ (l : List Principal). record { name = k .name; password = some t } ∷ l) (f tt)
+        → record { name = k .name; password = if b then some t else k .password; count = k .count } ∷ map (changed p t) ks ≡ withPassword (k ∷ ks) (if b then 0 else suc n) t
+    go true f h g = ap (λ (l : List Principal). passworded t k ∷ l) (f tt)
     go false f h g = ap (λ (l : List Principal). k ∷ l) (g (le-of-suc-le-suc h))
 
 pub with-twice : (ks : List Principal) (k : ℕ) (v w : Text) → k < length ks → withPassword (withPassword ks k v) k w ≡ withPassword ks k w
 with-twice ks k v w h =
-    let e : principalAt (withPassword ks k v) k ≡ record { name = principalAt ks k .name; password = some v } = getD-set-same ks k (record { name = principalAt ks k .name; password = some v }) (record { name = []; password = none }) h in
-    ap (λ (q : Principal). set (withPassword ks k v) k (record { name = q .name; password = some w })) e
-    ∙ set-set ks k (record { name = principalAt ks k .name; password = some v }) (record { name = principalAt ks k .name; password = some w })
+    let e : principalAt (withPassword ks k v) k ≡ passworded v (principalAt ks k) = getD-set-same ks k (passworded v (principalAt ks k)) (record { name = []; password = none; count = 0 }) h in
+    ap (λ (q : Principal). set (withPassword ks k v) k (passworded w q)) e
+    ∙ set-set ks k (passworded v (principalAt ks k)) (passworded w (principalAt ks k))
 
 pub with-kept : (ks : List Principal) (k : ℕ) (w : Text) → k < length ks → principalAt (withPassword ks k w) k .password ≡ some w
 with-kept ks k w h =
-    ap (λ (q : Principal). q .password) (getD-set-same ks k (record { name = principalAt ks k .name; password = some w }) (record { name = []; password = none }) h)
+    ap (λ (q : Principal). q .password) (getD-set-same ks k (passworded w (principalAt ks k)) (record { name = []; password = none; count = 0 }) h)
 
 -- ---- the row of a principal
+
+-- the line of one without a password, with room for one between two tabs
+abbrev pub tabbed : Principal → Row
+tabbed k = record { letter = 78; name = k .name; body = some (tab ∷ countText (k .count)) }
 
 module _ (ks : List Principal) (t : Text) (count : ℕ) (slots : List ℕ) (K : Principals ks t count slots) (k : ℕ) (h : k < count) where
   pub below-principals : k < length ks
   below-principals = omega (arith, K .counted)
 
   prow : rowAt (map principalRow ks) k ≡ principalRow (principalAt ks k)
-  prow = map-at principalRow ks k (record { name = []; password = none }) noRow below-principals
+  prow = map-at principalRow ks k (record { name = []; password = none; count = 0 }) noRow below-principals
 
-  prow-of : (o : Option Text) → principalAt ks k .password ≡ o → rowAt (map principalRow ks) k ≡ principalRow (record { name = principalAt ks k .name; password = o })
-  prow-of o e = prow ∙ ap (λ (o : Option Text). principalRow (record { name = principalAt ks k .name; password = o })) e
+  prow-of : (o : Option Text) → principalAt ks k .password ≡ o → rowAt (map principalRow ks) k ≡ principalRow (record { name = principalAt ks k .name; password = o; count = principalAt ks k .count })
+  prow-of o e = prow ∙ ap (λ (o : Option Text). principalRow (record { name = principalAt ks k .name; password = o; count = principalAt ks k .count })) e
 
-  pub with-rows : (w : Text) → map principalRow (withPassword ks k w) ≡ set (map principalRow ks) k (principalRow (record { name = principalAt ks k .name; password = some w }))
-  with-rows w = map-set principalRow ks k (record { name = principalAt ks k .name; password = some w })
+  pub with-rows : (w : Text) → map principalRow (withPassword ks k w) ≡ set (map principalRow ks) k (principalRow (passworded w (principalAt ks k)))
+  with-rows w = map-set principalRow ks k (passworded w (principalAt ks k))
 
-  pub with-held : (w t′ : Text) (slots′ : List ℕ) → Rows (set (map principalRow ks) k (principalRow (record { name = principalAt ks k .name; password = some w }))) t′ count slots′
+  pub with-held : (w t′ : Text) (slots′ : List ℕ) → Rows (set (map principalRow ks) k (principalRow (passworded w (principalAt ks k)))) t′ count slots′
       → Principals (withPassword ks k w) t′ count slots′
   with-held w t′ slots′ H = rows-principals (withPassword ks k w) t′ count slots′ (subst (λ (l : List Row). Rows l t′ count slots′) (sym (with-rows w)) H)
 
-  pub kept-respelled : (p : Place) → Placed (map principalRow ks) k p → (old src : Text) → principalAt ks k .password ≡ some old
-      → Respelled (map principalRow ks) k (p .mid + 1) (p .end - 1) src (principalRow (record { name = principalAt ks k .name; password = some src }))
-  kept-respelled p P old src e =
+  pub kept-respelled : (p : Place) → Placed (map principalRow ks) k p → (r : ℕ) → CountAt ks t k r → (old src : Text) → principalAt ks k .password ≡ some old
+      → Respelled (map principalRow ks) k (p .mid + 1) (r - 1) src (principalRow (passworded src (principalAt ks k)))
+  kept-respelled p P r C old src e =
       let y : Name = principalAt ks k .name in
+      let last : Text = tab ∷ countText (principalAt ks k .count) in
       let front : Text = 80 ∷ tab ∷ (y ++ (tab ∷ [])) in
-      let split : (z : Text) → 80 ∷ tab ∷ (y ++ (tab ∷ (z ++ (newline ∷ [])))) ≡ front ++ (z ++ (newline ∷ [])) =
-      λ z. ap (λ (l : Text). 80 ∷ tab ∷ l) (sym (append-assoc y (tab ∷ []) (z ++ (newline ∷ [])))) in
-      let r = prow-of (some old) e in
-      let was : rowText (rowAt (map principalRow ks) k) ≡ front ++ (old ++ (newline ∷ [])) = ap rowText r ∙ split old in
-      let yn : length (rowAt (map principalRow ks) k .name) ≡ length y = ap (λ (r : Row). length (r .name)) r in
+      let split : (z : Text) → 80 ∷ tab ∷ (y ++ (tab ∷ (z ++ last))) ≡ front ++ (z ++ last) =
+      λ z. ap (λ (l : Text). 80 ∷ tab ∷ l) (sym (append-assoc y (tab ∷ []) (z ++ last))) in
+      let q = prow-of (some old) e in
+      let was : rowText (rowAt (map principalRow ks) k) ≡ front ++ (old ++ last) = ap rowText q ∙ split old in
+      let yn : length (rowAt (map principalRow ks) k .name) ≡ length y = ap (λ (r : Row). length (r .name)) q in
       let f : p .mid + 1 ≡ startOf (map principalRow ks) k + length front = omega (arith, P .name-ends, yn, length-append y (tab ∷ [])) in
-      let g : startOf (map principalRow ks) (suc k) ≡ startOf (map principalRow ks) k + length front + (length old + 1) =
+      let g : startOf (map principalRow ks) (suc k) ≡ startOf (map principalRow ks) k + length front + (length old + length last) =
       start-next (map principalRow ks) t count slots (principals-rows ks t count slots K) k h
-      ∙ omega (arith, ap length was, length-append front (old ++ (newline ∷ [])), length-append old (newline ∷ [])) in
+      ∙ omega (arith, ap length was, length-append front (old ++ last), length-append old last) in
       record {
         before = front;
         old = old;
-        after = newline ∷ [];
+        after = last;
         was = was;
         becomes = split src;
         from-is = f;
-        to-is = omega (arith, P .ends, f, g);
-        same-name = sym (ap (λ (r : Row). r .name) r);
+        to-is = omega (arith, C .size, f, g);
+        same-name = sym (ap (λ (r : Row). r .name) q);
       }
 
-  -- a tab after the name, where the line ended
+  -- a tab more after the name
   pub bare-respelled : (p : Place) → Placed (map principalRow ks) k p → principalAt ks k .password ≡ none
-      → Respelled (map principalRow ks) k (p .mid) (p .mid) (9 ∷ []) (record { letter = 78; name = principalAt ks k .name; body = some (newline ∷ []) })
+      → Respelled (map principalRow ks) k (p .mid) (p .mid) (9 ∷ []) (tabbed (principalAt ks k))
   bare-respelled p P e =
       let y : Name = principalAt ks k .name in
       let r = prow-of none e in
@@ -120,7 +126,7 @@ module _ (ks : List Principal) (t : Text) (count : ℕ) (slots : List ℕ) (K : 
       record {
         before = 78 ∷ tab ∷ y;
         old = [];
-        after = newline ∷ [];
+        after = tab ∷ countText (principalAt ks k .count);
         was = ap rowText r;
         becomes = refl;
         from-is = omega (arith, P .name-ends, yn);
@@ -133,13 +139,14 @@ module _ (ks : List Principal) (t : Text) (count : ℕ) (slots : List ℕ) (K : 
   bare-size w e =
       let rows : List Row = map principalRow ks in
       let y : Name = principalAt ks k .name in
-      let row : Row = principalRow (record { name = y; password = some w }) in
+      let row : Row = principalRow (passworded w (principalAt ks k)) in
       let r = prow-of none e in
       let b : k < length rows = omega (arith, below-principals, length-map ks principalRow) in
       let new = ap length (joined-principals (withPassword ks k w) ∙ ap (joined rowText) (with-rows w) ∙ text-set rows k row b) in
       let old = ap length (K .is-text ∙ joined-principals ks ∙ ap (joined rowText) (set-same rows k noRow b) ∙ text-set rows k (rowAt rows k) b) in
-      let lr : length (rowText (rowAt rows k)) ≡ 3 + length y = ap (λ (r : Row). length (rowText r)) r ∙ omega (arith, length-append y (newline ∷ [])) in
-      let lw : length (rowText row) ≡ 4 + length y + length w = omega (arith, length-append y (tab ∷ (w ++ (newline ∷ []))), length-append w (newline ∷ [])) in
+      let d : Text = countText (principalAt ks k .count) in
+      let lr : length (rowText (rowAt rows k)) ≡ 3 + length y + length d = ap (λ (r : Row). length (rowText r)) r ∙ omega (arith, length-append y (tab ∷ d)) in
+      let lw : length (rowText row) ≡ 4 + length y + length w + length d = omega (arith, length-append y (tab ∷ (w ++ tab ∷ d)), length-append w (tab ∷ d)) in
       let z : Text = joined rowText (drop (suc k) rows) in
       omega (
         arith,
@@ -154,11 +161,11 @@ module _ (ks : List Principal) (t : Text) (count : ℕ) (slots : List ℕ) (K : 
       )
 
   -- the length of the text with another password
-  pub kept-size : (p : Place) → Placed (map principalRow ks) k p → (old src : Text) → principalAt ks k .password ≡ some old
-      → p .mid + 1 + length src + (length t - (p .end - 1)) ≡ length (principalsText (withPassword ks k src))
-  kept-size p P old src e =
-      respelled-size (map principalRow ks) t count slots (principals-rows ks t count slots K) k (p .mid + 1) (p .end - 1) src
-      (principalRow (record { name = principalAt ks k .name; password = some src })) h (kept-respelled p P old src e)
+  pub kept-size : (p : Place) → Placed (map principalRow ks) k p → (r : ℕ) → CountAt ks t k r → (old src : Text) → principalAt ks k .password ≡ some old
+      → p .mid + 1 + length src + (length t - (r - 1)) ≡ length (principalsText (withPassword ks k src))
+  kept-size p P r C old src e =
+      respelled-size (map principalRow ks) t count slots (principals-rows ks t count slots K) k (p .mid + 1) (r - 1) src
+      (principalRow (passworded src (principalAt ks k))) h (kept-respelled p P r C old src e)
       ∙ ap (λ (l : List Row). length (joined rowText l)) (sym (with-rows src)) ∙ ap length (sym (joined-principals (withPassword ks k src)))
 
 -- ---- another letter
@@ -189,22 +196,22 @@ relabelled rows t count slots H k b h =
 
 -- the tab and the letter: a principal with an empty password
 pub opened : (ks : List Principal) (t : Text) (count : ℕ) (slots : List ℕ) (K : Principals ks t count slots) (k : ℕ) (h : k < count) (B : Text) (r start : ℕ) (slots′ : List ℕ)
-    → Rows (set (map principalRow ks) k (record { letter = 78; name = principalAt ks k .name; body = some (newline ∷ []) })) (take r B) count slots′
+    → Rows (set (map principalRow ks) k (tabbed (principalAt ks k))) (take r B) count slots′
     → start ≡ startOf (map principalRow ks) k → start < r → Principals (withPassword ks k []) (take r (set B start 80)) count slots′
 opened ks t count slots K k h B r start slots′ H s l =
     let rows : List Row = map principalRow ks in
-    let one : Row = record { letter = 78; name = principalAt ks k .name; body = some (newline ∷ []) } in
+    let one : Row = tabbed (principalAt ks k) in
     let b : k < length rows = omega (arith, below-principals ks t count slots K k h, length-map ks principalRow) in
     let at : rowAt (set rows k one) k ≡ one = getD-set-same rows k one noRow b in
     let st : startOf (set rows k one) k ≡ start = ap (λ (x : List Row). length (joined rowText x)) (take-set-le k rows k one (omega arith)) ∙ sym s in
     let R = relabelled (set rows k one) (take r B) count slots′ H k 80 h in
     let text : set (take r B) (startOf (set rows k one) k) 80 ≡ take r (set B start 80) = ap (λ (n : ℕ). set (take r B) n 80) st ∙ sym (take-set-lt r B start 80 l) in
     let rws : set (set rows k one) k (record { letter = 80; name = rowAt (set rows k one) k .name; body = rowAt (set rows k one) k .body })
-    ≡ set rows k (principalRow (record { name = principalAt ks k .name; password = some [] })) =
+    ≡ set rows k (principalRow (passworded [] (principalAt ks k))) =
     ap (λ (x : Row). set (set rows k one) k (record { letter = 80; name = x .name; body = x .body })) at
-    ∙ set-set rows k one (principalRow (record { name = principalAt ks k .name; password = some [] })) in
+    ∙ set-set rows k one (principalRow (passworded [] (principalAt ks k))) in
     with-held ks t count slots K k h [] (take r (set B start 80)) slots′
-    (subst (λ (x : Text). Rows (set rows k (principalRow (record { name = principalAt ks k .name; password = some [] }))) x count slots′) text
+    (subst (λ (x : Text). Rows (set rows k (principalRow (passworded [] (principalAt ks k)))) x count slots′) text
     (subst (λ (x : List Row). Rows x (set (take r B) (startOf (set rows k one) k) 80) count slots′) rws R))
 
 -- ---- what two changes leave alone

@@ -74,9 +74,13 @@ pub record SomeElements (t : Text) (count : ℕ) (slots : List ℕ) (k : ℕ) (s
   pub is-text : src ≡ joined elementText more
   pub fits : length (variablesText (put name (list (elements ++ more)) variables)) ≤ room
 
+-- a principal with another password
+abbrev pub passworded : Text → Principal → Principal
+passworded w k = record { name = k .name; password = some w; count = k .count }
+
 -- principal k with another password
 abbrev pub withPassword : List Principal → ℕ → Text → List Principal
-withPassword ks k w = set ks k (record { name = principalAt ks k .name; password = some w })
+withPassword ks k w = set ks k (passworded w (principalAt ks k))
 
 -- principal k has no password
 pub record SomeBare (t : Text) (count : ℕ) (slots : List ℕ) (k : ℕ) : Type 0 where

@@ -62,7 +62,7 @@ pub fn add_variable(
     body + value.len()
 }
 
-// A new principal, last.
+// A new principal, last: no program of it was completed yet.
 pub fn add_principal(
     buf: &mut [u8],
     len: usize,
@@ -71,16 +71,16 @@ pub fn add_principal(
     name: &[u8],
     password: &[u8],
 ) -> usize
-    requires { ⌜ (length (now buf) ≤ 65536) × (len + 4 + length (now name) + length (now password) ≤ length (now buf)) × (count < length (now slots)) ⌝ }
-    ensures size { λ r. ⌜ r ≡ len + 4 + length (now (name .entry)) + length (now (password .entry)) ⌝ }
+    requires { ⌜ (length (now buf) ≤ 65536) × (len + 6 + length (now name) + length (now password) ≤ length (now buf)) × (count < length (now slots)) ⌝ }
+    ensures size { λ r. ⌜ r ≡ len + 6 + length (now (name .entry)) + length (now (password .entry)) ⌝ }
     ensures outside { λ r. ⌜ Outside (now (buf .entry)) (now (buf .exit)) r (now (slots .entry)) (now (slots .exit)) (count + 1) ⌝ }
     ensures held { λ r. ⌜ ((ks : List Principal) → Principals ks (take len (now (buf .entry))) count (now (slots .entry)) → T (isName (now (name .entry)))
-        → Principals (ks ++ (record { name = now (name .entry); password = some (now (password .entry)) } ∷ [])) (take r (now (buf .exit))) (count + 1) (now (slots .exit))) ⌝ }
+        → Principals (ks ++ (record { name = now (name .entry); password = some (now (password .entry)); count = 0 } ∷ [])) (take r (now (buf .exit))) (count + 1) (now (slots .exit))) ⌝ }
 {
     let body = head(buf, len, b'P', name);
     copy(buf, body, password);
     let end = body + password.len();
-    buf[end] = b'\n';
+    copy(buf, end, b"\t0\n");
     note(slots, count, name, len);
-    end + 1
+    end + 3
 }

@@ -15,6 +15,7 @@ ghost use Rattle.store.specs.Rows.{Row, Rows, position};
 ghost use Rattle.edits.specs.Changes.{principalNames, variableNames, withPassword, Outside, SomeSpot, Respelled, SomeValue, SomeElements, SomeBare, SomeKept, SomePassword};
 ghost use Rattle.store.specs.Contents.{principalAt};
 use contents::Password;
+use contents::count_at;
 use contents::password_of;
 use splice::shift;
 use splice::splice;
@@ -103,7 +104,7 @@ fn open_line(buf: &mut [u8], len: usize, slots: &mut [u32], count: usize, number
     n
 }
 
-// Another password in the line of a principal that has one.
+// Another password in the line of a principal that has one: up to the tab before the count, which stays.
 fn write_password(
     buf: &mut [u8],
     len: usize,
@@ -120,12 +121,12 @@ fn write_password(
     let place = nth(&buf[..len], slots, count, number);
     let mid = place.mid;
     let from = mid + 1;
-    let line = place.end;
-    let to = line - 1;
+    let digits = count_at(&buf[..len], slots, count, number);
+    let to = digits - 1;
     rewrite(buf, len, slots, count, number, from, to, password)
 }
 
-// A principal's password is `password`.
+// A principal's password is `password`; its count stays.
 pub fn set_password(
     buf: &mut [u8],
     len: usize,

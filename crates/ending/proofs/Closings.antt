@@ -6,11 +6,10 @@ use mathlib.Core.Bool.{Bool}
 use mathlib.Core.Option.{Option}
 use lib.ListN.{length, take}
 use Rattle.language.specs.Text.{Text, if_then_else_}
-use Rattle.language.specs.State.{State}
+use Rattle.language.specs.Syntax.{Name}
 use Rattle.language.specs.Encode.{stateText, padded}
 use Rattle.language.specs.Commands.{Refusal}
-use Rattle.language.specs.Run.{End, refusal, completed, output, Kind, returned, exited, kindOf, lineCount}
-use Rattle.language.specs.Run as Run
+use Rattle.language.specs.Run.{End, refusal, completed, output, Kind, returned, exited, kindOf, tally, tallied, lineCount}
 use Rattle.language.specs.Calls.{stateAfter}
 use Rattle.session.specs.declared.Layout.{Layout}
 use Rattle.session.specs.Sessions.{Slices}
@@ -28,12 +27,12 @@ module _ {r : Answer} {f : Refusal} {work out : Text} (C : Closed r (refusal f) 
   pub closed-refusal : Closed r e work out
   closed-refusal = subst (λ (k : End). Closed r k work out) (sym h) C
 
-  pub kept : (state : Text) (s : State) → state ≡ stateAfter state s e
-  kept state s = sym (ap (stateAfter state s) h)
+  pub kept : (state : Text) → state ≡ stateAfter state e
+  kept state = sym (ap (stateAfter state) h)
 
 -- ---- a completed program
 
-module _ {e : Option End} {l : Layout} {n count : ℕ} {b : Slices} {before after : Text} (C : Completes e l n count b before after) where
+module _ {p : Name} {e : Option End} {l : Layout} {n count : ℕ} {b : Slices} {before after : Text} (C : Completes p e l n count b before after) where
   the-end : endOr e ≡ completed (C .lines) (C .session .store)
   the-end = ap endOr (C .is-end)
 
@@ -49,10 +48,14 @@ module _ {e : Option End} {l : Layout} {n count : ℕ} {b : Slices} {before afte
   pub lines-are : take n after ≡ output (endOr e)
   lines-are = first-text (sym (ap output the-end)) (C .printed)
 
-  pub state-is : (programs more : ℕ) (state-before state-after : Text) → more ≡ Run.counted programs
-      → state-after ≡ padded (stateText (record { count = more; store = C .session .store }))
-      → (s : State) → s .count ≡ programs → state-after ≡ stateAfter state-before s (endOr e)
-  state-is programs more state-before state-after m h s c =
+  pub state-is : (state-before state-after : Text) → state-after ≡ padded (stateText (tally (C .session .sender) (C .session .store)))
+      → state-after ≡ stateAfter state-before (tallied p (endOr e))
+  state-is state-before state-after h =
       h
-      ∙ ap (λ (k : ℕ). padded (stateText (record { count = k; store = C .session .store }))) (m ∙ ap Run.counted (sym c))
-      ∙ sym (ap (stateAfter state-before s) the-end)
+      ∙ ap (λ (q : Name). padded (stateText (tally q (C .session .store)))) (C .sent)
+      ∙ sym (ap (λ (k : End). stateAfter state-before (tallied p k)) the-end)
+
+-- that a program counts shows neither in its lines nor in its kind
+pub closed-tallied : {r : Answer} {work out : Text} (p : Name) (e : End) → Closed r e work out → Closed r (tallied p e) work out
+closed-tallied p (refusal f) C = C
+closed-tallied p (completed lines s) C = record { answered = C .answered; output-is = C .output-is; work-is = C .work-is }

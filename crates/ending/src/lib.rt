@@ -5,14 +5,13 @@ use closing::end_kind;
 use closing::refuse;
 use outcome::Performed;
 use refusal::Refusal;
-use saving::counted;
 use saving::save;
 ghost use mathlib.Core.Path.{_≡_};
 ghost use mathlib.Core.Option.{Option};
 ghost use Prim.Native.Nat.{_-_, _≤_};
 ghost use lib.ListN.{length, drop, replicate};
 ghost use Rattle.language.specs.Text.{Text};
-ghost use Rattle.language.specs.State.{State, lastCount};
+ghost use Rattle.language.specs.Syntax.{Name};
 ghost use Rattle.language.specs.Run as Run;
 ghost use Rattle.language.specs.Calls.{stateAfter};
 ghost use Rattle.session.specs.Sessions.{slices};
@@ -20,7 +19,7 @@ ghost use Rattle.closing.specs.Closed.{Closed};
 ghost use Rattle.outcome.specs.Ends.{Ends};
 ghost use Rattle.ending.specs.Endings.{SomeEnd, endOr};
 
-// What a performed program leaves: a completed one its state, with one program more, and any other the state as it was. The variables of
+// What a performed program leaves: a completed one its state, where it counts for its sender, and any other the state as it was. The variables of
 // the session stand in the work buffer; from `used` on the state's buffer holds zeros.
 pub fn settle(
     performed: Performed,
@@ -31,23 +30,21 @@ pub fn settle(
     locals: &[u8],
     local_slots: &[u32],
     assertions: &[u64],
-    count: u64,
     state: &mut [u8],
     output: &mut [u8],
     used: usize,
 ) -> Answer
     requires { ⌜ SomeEnd performed (slices (now principals) (now «principal_slots») (now work) (now «variable_slots») (now locals) (now «local_slots») (now assertions)) (now output) ⌝ }
-    requires { ⌜ (length (now work) ≡ 65536) × (length (now state) ≡ 65536) × (length (now output) ≡ 65536) × (count ≤ lastCount) × (used ≤ 65536) × (drop used (now state) ≡ replicate (65536 - used) 0) ⌝ }
-    ensures { λ r. ⌜ ((e : Option Run.End) (before : Text)
-        → Ends performed e (slices (now (principals .entry)) (now («principal_slots» .entry)) (now (work .entry)) (now («variable_slots» .entry)) (now (locals .entry)) (now («local_slots» .entry)) (now (assertions .entry))) before (now (output .entry))
+    requires { ⌜ (length (now work) ≡ 65536) × (length (now state) ≡ 65536) × (length (now output) ≡ 65536) × (used ≤ 65536) × (drop used (now state) ≡ replicate (65536 - used) 0) ⌝ }
+    ensures { λ r. ⌜ ((p : Name) (e : Option Run.End) (before : Text)
+        → Ends performed p e (slices (now (principals .entry)) (now («principal_slots» .entry)) (now (work .entry)) (now («variable_slots» .entry)) (now (locals .entry)) (now («local_slots» .entry)) (now (assertions .entry))) before (now (output .entry))
         → Closed r (endOr e) (now (work .exit)) (now (output .exit))
-        × ((s : State) → s .count ≡ count → now (state .exit) ≡ stateAfter (now (state .entry)) s (endOr e))) ⌝ }
+        × (now (state .exit) ≡ stateAfter (now (state .entry)) (Run.tallied p (endOr e)))) ⌝ }
 {
     match performed {
         Performed::Broken => refuse(work, output, Refusal::Failed),
         Performed::Refused(how) => refuse(work, output, how),
         Performed::Completed(l, n, lines) => {
-            let more = counted(count);
             save(
                 principals,
                 principal_slots,
@@ -57,7 +54,6 @@ pub fn settle(
                 local_slots,
                 assertions,
                 l,
-                more,
                 state,
                 used,
             );

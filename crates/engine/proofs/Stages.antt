@@ -18,6 +18,7 @@ use Rattle.language.specs.Run.{End, refusal, completed, lineCount}
 use Rattle.language.proofs.Parsing.ValidPrograms.{isEnding}
 use Rattle.language.proofs.Parsing.Parsing.{commandRoom}
 use Rattle.language.proofs.Parsing.Printing.{inner-short}
+use Rattle.language.proofs.Meaning.Sent.{step-sender}
 use Rattle.language.proofs.Meaning.Printed.{count-append, few-lines as lines-short}
 use Rattle.command_readers.specs.declared.Command as Read
 use Rattle.parser.specs.declared.Rest.{Rest}
@@ -65,6 +66,7 @@ after-went s k f e (some cs) = ap (λ (j : Step). some (Run.next j (λ u. Run.pe
 -- first n bytes of the output, no more than 17 bytes for 8 of the text
 pub record Stage (s : Session) (t : Text) (at : ℕ) (before : Text) (l : Layout) (b : Slices) (p n lines : ℕ) (output : Text) : Type 0 where
   pub session : Session
+  pub sent : session .sender ≡ s .sender
   pub running : Running session l b
   pub so-far : Text
   pub same-end : endOn s (bodyFrom t at) ≡ printing so-far (endOn session (bodyFrom t p))
@@ -76,6 +78,7 @@ pub record Stage (s : Session) (t : Text) (at : ℕ) (before : Text) (l : Layout
 pub starts : {s : Session} (t before : Text) {l : Layout} {b : Slices} (p : ℕ) → Running s l b → Stage s t p before l b p 0 0 before
 starts {s} t before p R = record {
   session = s;
+  sent = refl;
   running = R;
   so-far = [];
   same-end = printing-none (endOn s (bodyFrom t p));
@@ -137,6 +140,7 @@ module _ {s : Session} {t : Text} {at : ℕ} {before : Text} {l : Layout} {b : S
       → Stage s t at before m d next r (lines + 1) out
   goes-on {next} F A = record {
     session = A .effect .after;
+    sent = step-sender (S .session) (F .command) (A .effect) (A .is-step) ∙ S .sent;
     running = A .running;
     so-far = S .so-far ++ A .effect .line;
     same-end = goes-on-as S F A;
@@ -152,9 +156,10 @@ module _ {s : Session} {t : Text} {at : ℕ} {before : Text} {l : Layout} {b : S
       not-last false h = tt
 
   pub ends : (F : First t p c Follows.End) → Advances (step (S .session) (F .command)) m d output n r out
-      → Completes (endOn s (bodyFrom t at)) m r (lines + 1) d before out
+      → Completes (s .sender) (endOn s (bodyFrom t at)) m r (lines + 1) d before out
   ends F A = record {
     session = A .effect .after;
+    sent = step-sender (S .session) (F .command) (A .effect) (A .is-step) ∙ S .sent;
     lines = S .so-far ++ A .effect .line;
     is-end = goes-on-as S F A ∙ ap (λ u. some (completed u (A .effect .after .store))) (append-nil (S .so-far ++ A .effect .line));
     running = A .running;

@@ -37,7 +37,7 @@ pub fn perform(
     requires { ⌜ (length (now value) ≡ 45056) × (length (now labels) ≡ 4096) ⌝ }
     requires { ⌜ (at ≤ length (now text)) × (length (now text) ≤ longest) × (length (now output) ≡ 65536) ⌝ }
     ensures { λ r. ⌜ ((s : Session) → Running s start (slices (now (principals .entry)) (now («principal_slots» .entry)) (now (vars .entry)) (now («variable_slots» .entry)) (now (locals .entry)) (now («local_slots» .entry)) (now (assertions .entry)))
-        → Ends r (endOn s (bodyFrom (now (text .entry)) at)) (slices (now (principals .exit)) (now («principal_slots» .exit)) (now (vars .exit)) (now («variable_slots» .exit)) (now (locals .exit)) (now («local_slots» .exit)) (now (assertions .exit))) (now (output .entry)) (now (output .exit))) ⌝ }
+        → Ends r (s .sender) (endOn s (bodyFrom (now (text .entry)) at)) (slices (now (principals .exit)) (now («principal_slots» .exit)) (now (vars .exit)) (now («variable_slots» .exit)) (now (locals .exit)) (now («local_slots» .exit)) (now (assertions .exit))) (now (output .entry)) (now (output .exit))) ⌝ }
 {
     let mut l = start;
     let mut p = at;

@@ -13,14 +13,15 @@ use lib.Seq.{drop-cons}
 use Rattle.language.specs.Text.{Text, if_then_else_, decimal}
 use Rattle.language.specs.State.{lastCount}
 use Rattle.language.specs.Encode.{headText}
+use Rattle.language.specs.Former.{formerHead}
 use Rattle.language.proofs.StateText.Clean.{decimal-number}
 use Rattle.language.specs.Decode.{number}
 use Rattle.lines.specs.Cuts.{Digits, isDigit}
 use Rattle.lines.proofs.Cuts.{unique}
 use Rattle.lines.proofs.Decimals.{decimal-digits}
 use Rattle.record_fields.specs.Sections.{Reads, Fails, anyText}
-use Rattle.record_fields.proofs.Opening.{twice, tail-of, byte-here, next-here}
-use Rattle.frame.specs.Edges.{Top, topText, fineTop, total}
+use Rattle.record_fields.proofs.Opening.{twice, tail-of, byte-here, next-here, inside}
+use Rattle.frame.specs.Edges.{fineHead, Top, topText, fineTop, FormerTop, total}
 
 -- ---- zero bytes
 
@@ -55,7 +56,7 @@ pub seen-all : (seen : Bool) (a : ℕ) → Seen seen a 0 → not seen ≡ eqb a 
 seen-all false a h = sym (eq-eqb a 0 h)
 seen-all true a h = sym (ne-eqb a 0 (λ e. omega arith))
 
--- ---- the first line
+-- ---- the letter of the first line
 
 letterOf : Bool → ℕ
 letterOf b = if b then 79 else 67
@@ -65,17 +66,63 @@ unfolding letterOf
 letter-low true = omega arith
 letter-low false = omega arith
 
-top-text : (b : Bool) (n : ℕ) (q : Text) → headText b n ++ q ≡ letterOf b ∷ 9 ∷ (decimal n ++ 10 ∷ q)
-unfolding letterOf
-top-text true n q = ap (λ (l : Text). 79 ∷ 9 ∷ l) (append-assoc (decimal n) (10 ∷ []) q)
-top-text false n q = ap (λ (l : Text). 67 ∷ 9 ∷ l) (append-assoc (decimal n) (10 ∷ []) q)
-
 one-letter : (b c : Bool) → letterOf b ≡ letterOf c → b ≡ c
 unfolding letterOf
 one-letter true true e = refl
 one-letter true false e = absurd (omega arith)
 one-letter false true e = absurd (omega arith)
 one-letter false false e = refl
+
+-- ---- the first line
+
+head-text : (b : Bool) (q : Text) → headText b ++ q ≡ letterOf b ∷ 10 ∷ q
+unfolding letterOf
+head-text true q = refl
+head-text false q = refl
+
+module _ (t : Text) where
+  pub head-end : (getD t 1 0 ≡ 10 → ⊥) → Fails headText fineHead anyText t 0
+  head-end h b q f c d = h (next-here t 0 _ (d ∙ head-text b q))
+
+  pub head-letter : (getD t 0 0 ≡ 79 → ⊥) → (getD t 0 0 ≡ 67 → ⊥) → Fails headText fineHead anyText t 0
+  unfolding letterOf
+  head-letter o k b q f c d = go b (byte-here t 0 _ (d ∙ head-text b q))
+    where
+      go : (b : Bool) → getD t 0 0 ≡ letterOf b → ⊥
+      go true e = o e
+      go false e = k e
+
+  module _ (is-end : getD t 1 0 ≡ 10) where
+    head-good : (b : Bool) → getD t 0 0 ≡ letterOf b → Reads headText fineHead anyText t 0 b 2
+    head-good b l =
+        let low = letter-low b in
+        let within = inside t 1 (omega (arith, is-end)) in
+        let two : drop 0 t ≡ letterOf b ∷ 10 ∷ drop 2 t = twice t 0 (letterOf b) 10 low (omega arith) l is-end in
+        record {
+          low = omega arith;
+          high = omega (arith, within);
+          is-fine = tt;
+          here = two ∙ sym (head-text b (drop 2 t));
+          only = λ k q f c d.
+              let e = d ∙ head-text k q in
+              let m : getD t 0 0 ≡ letterOf k = byte-here t 0 _ e in
+              (one-letter k b (sym m ∙ l), tail-of 10 10 _ _ (tail-of (letterOf k) (letterOf b) _ _ (sym e ∙ two)));
+        }
+
+    pub head-open : getD t 0 0 ≡ 79 → Reads headText fineHead anyText t 0 true 2
+    unfolding letterOf
+    head-open l = head-good true l
+
+    pub head-closed : getD t 0 0 ≡ 67 → Reads headText fineHead anyText t 0 false 2
+    unfolding letterOf
+    head-closed l = head-good false l
+
+-- ---- the former first line
+
+top-text : (b : Bool) (n : ℕ) (q : Text) → formerHead b n ++ q ≡ letterOf b ∷ 9 ∷ (decimal n ++ 10 ∷ q)
+unfolding letterOf
+top-text true n q = ap (λ (l : Text). 79 ∷ 9 ∷ l) (append-assoc (decimal n) (10 ∷ []) q)
+top-text false n q = ap (λ (l : Text). 67 ∷ 9 ∷ l) (append-assoc (decimal n) (10 ∷ []) q)
 
 module _ (t : Text) where
   pub top-tab : (getD t 1 0 ≡ 9 → ⊥) → Fails topText fineTop anyText t 0
@@ -115,10 +162,10 @@ module _ (t : Text) where
           (ap (λ (x : Bool). record { isOpen = x; count = h .count }) o ∙ ap (λ (x : ℕ). record { isOpen = b; count = x }) m, left);
     }
 
-    pub top-open : (n e : ℕ) → getD t 0 0 ≡ 79 → Digits t 2 n e → Reads topText fineTop anyText t 0 (record { isOpen = true; count = n }) (e + 1)
+    pub top-open : (n e : ℕ) → getD t 0 0 ≡ 79 → Digits t 2 n e → FormerTop t true (e + 1)
     unfolding letterOf
-    top-open n e l D = top-good true n e l D
+    top-open n e l D = record { count = n; reads = top-good true n e l D }
 
-    pub top-closed : (n e : ℕ) → getD t 0 0 ≡ 67 → Digits t 2 n e → Reads topText fineTop anyText t 0 (record { isOpen = false; count = n }) (e + 1)
+    pub top-closed : (n e : ℕ) → getD t 0 0 ≡ 67 → Digits t 2 n e → FormerTop t false (e + 1)
     unfolding letterOf
-    top-closed n e l D = top-good false n e l D
+    top-closed n e l D = record { count = n; reads = top-good false n e l D }

@@ -2,6 +2,9 @@
 pub mod Entries
 pub mod Fold
 pub mod Offences
+pub mod Checks
 pub mod Mirror
+pub mod Counts
 pub mod Answers
+pub mod Starts
 pub mod Demand

@@ -4,7 +4,9 @@ pub mod Standing
 pub mod Adding
 pub mod Stores
 pub mod ValidCommands
+pub mod Counting
 pub mod ValidRuns
+pub mod Sent
 pub mod Weights
 pub mod Printed
 pub mod LineCounts

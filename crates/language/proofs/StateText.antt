@@ -4,4 +4,5 @@ pub mod Shape
 pub mod Lines
 pub mod Clean
 pub mod RoundTrip
+pub mod Formers
 pub mod Bound

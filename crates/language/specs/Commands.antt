@@ -163,14 +163,14 @@ delegations (r ∷ rest) s q p =
     assertionsOn (delegable s q) q r p ++ delegations rest (enterAll s (assertionsOn (delegable s q) q r p)) q p
 
 abbrev pub withPrincipal : Store → Name → Text → Store
-withPrincipal s p t = withPrincipals s (s .principals ++ (record { name = p; password = some t } ∷ []))
+withPrincipal s p t = withPrincipals s (s .principals ++ (record { name = p; password = some t; count = 0 } ∷ []))
 
 abbrev pub created : Store → Name → Text → Store
 created s p t = enterAll (withPrincipal s p t) (delegations rights (withPrincipal s p t) (s .delegator) p)
 
 -- p's password is t
 abbrev pub changed : Name → Text → Principal → Principal
-changed p t k = record { name = k .name; password = if k .name == p then some t else k .password }
+changed p t k = record { name = k .name; password = if k .name == p then some t else k .password; count = k .count }
 
 -- admin delegates all four rights on a new variable to the sender, unless that is admin
 abbrev pub granted : Session → Name → List Assertion

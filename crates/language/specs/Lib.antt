@@ -14,6 +14,8 @@ pub mod Weight
 pub mod Valid
 pub mod Encode
 pub mod Decode
+-- the former lines of a state text, request M-101
+pub mod Former
 -- "Chains"
 pub mod Chains
 -- "Values" and "Commands"

@@ -2,15 +2,15 @@
 use Prim.Native.Nat.{ℕ, _+_}
 use mathlib.Core.Bool.{Bool, false}
 use mathlib.Core.Option.{Option, none, some}
-use mathlib.Core.List.{List, [], _∷_, _++_}
+use mathlib.Core.List.{List, [], _∷_, _++_, map}
 use lib.ListN.{length}
 use lib.Dec.{eqb, ltb}
 use Rattle.language.specs.Text.{Text, if_then_else_, _==_, sum}
-use Rattle.language.specs.Syntax.{Command, Program}
-use Rattle.language.specs.State.{Principal, Store, State, lastCount, named}
+use Rattle.language.specs.Syntax.{Name, Command, Program}
+use Rattle.language.specs.State.{Principal, Store, lastCount, named}
 use Rattle.language.specs.Output.{status}
 use Rattle.language.specs.Values.{Session}
-use Rattle.language.specs.Commands.{Refusal, DENIED, FAILED, FULL, Step, refused, went, step}
+use Rattle.language.specs.Commands.{Refusal, DENIED, FAILED, FULL, withPrincipals, Step, refused, went, step}
 
 -- how a program ends: a refusal, or its lines and the store after
 pub data End : Type 0 where
@@ -49,10 +49,25 @@ login s p = loginAs (p .password) (named (s .principals) (p .sender))
 abbrev pub begin : Store → Program → Session
 begin s p = record { store = s; sender = p .sender; locals = [] }
 
+-- one completed program more; a count stays at its last value (document 02, M-101)
+abbrev pub counted : ℕ → ℕ
+counted n = if ltb n lastCount then n + 1 else n
+
+abbrev pub counts : Name → Principal → Principal
+counts p k = record { name = k .name; password = k .password; count = if k .name == p then counted (k .count) else k .count }
+
+-- a completed program counts for its sender
+abbrev pub tally : Name → Store → Store
+tally p s = withPrincipals s (map (counts p) (s .principals))
+
+abbrev pub tallied : Name → End → End
+tallied p (refusal r) = refusal r
+tallied p (completed lines s) = completed lines (tally p s)
+
 abbrev pub runAs : Login → Session → List Command → End
 runAs unknown s cs = refusal FAILED
 runAs mistaken s cs = refusal DENIED
-runAs right s cs = perform s cs
+runAs right s cs = tallied (s .sender) (perform s cs)
 
 -- a program's end; one that does not parse is `none`
 abbrev pub run : Store → Option Program → End
@@ -90,13 +105,8 @@ pub record Result : Type 0 where
 abbrev pub result : End → Result
 result e = record { kind = kindOf e; lines = lineCount (output e); size = length (output e) }
 
--- ---- the state after
+-- ---- the state after: as it was, or the new one
 
--- one completed program more; the count stays at its last value
-abbrev pub counted : ℕ → ℕ
-counted n = if ltb n lastCount then n + 1 else n
-
--- as it was, or the new store and one program more
-abbrev pub left : State → End → State
+abbrev pub left : Store → End → Store
 left s (refusal r) = s
-left s (completed lines t) = record { count = counted (s .count); store = t }
+left s (completed lines t) = t

@@ -24,12 +24,12 @@ whole-run f (b ∷ t) = go (f b) (whole-run f t)
 
 -- the first line, admin's with the password, anyone's, and the default delegator's
 abbrev pub freshLines : Text → Text
-freshLines t = headText true 0 ++ (bytes "P\tadmin\t" ++ (t ++ (bytes "\nN\tanyone\n" ++ delegatorText anyone)))
+freshLines t = headText true ++ (bytes "P\tadmin\t" ++ (t ++ (bytes "\t0\nN\tanyone\t0\n" ++ delegatorText anyone)))
 
-fresh-parts : (t : Text) → freshLines t ≡ headText true 0 ++ (principalsText (fresh t .principals) ++ (delegatorText anyone ++ ([] ++ [])))
+fresh-parts : (t : Text) → freshLines t ≡ headText true ++ (principalsText (fresh t .principals) ++ (delegatorText anyone ++ ([] ++ [])))
 fresh-parts t = simp append-assoc
 
 -- and zeros after them are the buffer of a server just made
 pub fresh-padded : (t before after : Text) (r : ℕ) → length before ≡ bufferSize → Written before 0 (freshLines t) r after
     → take r after ++ replicate (length after - r) 0 ≡ made t
-fresh-padded t before after r h w = state-padded (record { count = 0; store = fresh t }) before after r h (rewritten (fresh-parts t) w)
+fresh-padded t before after r h w = state-padded (fresh t) before after r h (rewritten (fresh-parts t) w)

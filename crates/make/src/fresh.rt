@@ -22,10 +22,10 @@ pub fn put_fresh(state: &mut [u8], password: &[u8])
     requires { ⌜ (length (now state) ≡ 65536) × (length (now password) ≤ 1024) ⌝ }
     ensures { λ _. ⌜ now (state .exit) ≡ made (now (password .entry)) ⌝ }
 {
-    let a = put_header(state, 0, true, 0);
+    let a = put_header(state, 0, true);
     let b = copy_in(state, a, b"P\tadmin\t");
     let c = copy_in(state, b, password);
-    let d = copy_in(state, c, b"\nN\tanyone\n");
+    let d = copy_in(state, c, b"\t0\nN\tanyone\t0\n");
     let e = put_delegator(state, d, b"anyone");
     zero_rest(state, e);
 }

@@ -9,7 +9,7 @@ use lib.ListN.{length, length-map}
 use Rattle.language.specs.Text.{if_then_else_, _==_, all, sum}
 use Rattle.language.specs.Syntax.{Name}
 use Rattle.language.specs.Identifiers.{isName}
-use Rattle.language.specs.State.{Store, admin, anyone}
+use Rattle.language.specs.State.{Store, lastCount, admin, anyone}
 use Rattle.language.specs.Weight.{limit, nameWeight, principalWeight, variableWeight, assertionWeight, storeWeight}
 use Rattle.language.specs.Valid.{validPrincipal, validPassword, validVariable, validValue, wellFormed, validStore}
 use Rattle.language.proofs.Logic.Tests.{both, three}
@@ -39,11 +39,11 @@ module _ (s : Store) (v : T (validStore s)) where
   light : storeWeight s ≤ 8192
   light = leb→le (storeWeight s) limit (both (wellFormed s) (leb (storeWeight s) limit) v .1)
 
-  pub few-names : length (principalsOf s) ≤ 4096
-  few-names = subst (λ n. n ≤ 4096) (sym (length-map (s .principals) (λ k. k .name))) (omega (
+  pub few-names : length (principalsOf s) ≤ 1024
+  few-names = subst (λ n. n ≤ 1024) (sym (length-map (s .principals) (λ k. k .name))) (omega (
     arith,
     light,
-    at-least 2 validPrincipal principalWeight (λ k h. omega (arith, name-weighs (k .name) (both (isName (k .name)) (validPassword (k .password)) h .0)))
+    at-least 12 validPrincipal principalWeight (λ k h. omega (arith, name-weighs (k .name) (three (isName (k .name)) (validPassword (k .password)) (leb (k .count) lastCount) h .0)))
         (s .principals) (store-shape .principals-valid),
   ))
 

@@ -19,7 +19,7 @@ pub fn chain(
     right: u16,
     principal: usize,
 ) -> Answer
-    requires { ⌜ (n ≤ length (now assertions)) × (n ≤ 2048) × (count ≤ 4096) × (variable < 65536) ⌝ }
+    requires { ⌜ (n ≤ length (now assertions)) × (n ≤ 2048) × (count ≤ 1024) × (variable < 65536) ⌝ }
     ensures { λ a. ⌜ ((s : Store) (r : Right) (x p : Name) → T (validStore s) → Standing s n (now (assertions .entry))
         → Asks s r x p count variable right principal → lengthOf a ≡ chainLength s r x p) ⌝ }
 {
@@ -35,7 +35,7 @@ pub fn may(
     right: u16,
     principal: usize,
 ) -> bool
-    requires { ⌜ (n ≤ length (now assertions)) × (n ≤ 2048) × (count ≤ 4096) × (variable < 65536) ⌝ }
+    requires { ⌜ (n ≤ length (now assertions)) × (n ≤ 2048) × (count ≤ 1024) × (variable < 65536) ⌝ }
     ensures { λ b. ⌜ ((s : Store) (r : Right) (x p : Name) → T (validStore s) → Standing s n (now (assertions .entry))
         → Asks s r x p count variable right principal → b ≡ has s r x p) ⌝ }
 {

@@ -8,9 +8,9 @@ use lib.Dec.{T, leb, leb→le}
 use lib.ListN.{length}
 use Rattle.language.specs.Text.{Text}
 use Rattle.language.specs.Syntax.{Program}
-use Rattle.language.specs.State.{State, lastCount}
+use Rattle.language.specs.State.{Store}
 use Rattle.language.specs.Weight.{limit, storeWeight}
-use Rattle.language.specs.Valid.{wellFormed, validStore, valid}
+use Rattle.language.specs.Valid.{wellFormed, validStore}
 use Rattle.language.specs.Run.{login, right, begin}
 use Rattle.language.proofs.Logic.Tests.{both}
 use Rattle.language.proofs.Meaning.ValidRuns.{begin-ready}
@@ -43,20 +43,17 @@ firstLayout q sender m n = record {
   «is_open» = q .«open»;
 }
 
-module _ (t : Text) (slots-p slots-v assertions : List ℕ) (q : Parts) (s : State) (R : Represents t slots-p slots-v assertions q s) (v : T (valid s)) where
-  store-valid : T (validStore (s .store))
-  store-valid = both (leb (s .count) lastCount) (validStore (s .store)) v .1
-
+module _ (t : Text) (slots-p slots-v assertions : List ℕ) (q : Parts) (s : Store) (R : Represents t slots-p slots-v assertions q s) (v : T (validStore s)) where
   light : q .weight ≤ 8192
   light =
-      let h : storeWeight (s .store) ≤ 8192 = leb→le (storeWeight (s .store)) limit (both (wellFormed (s .store)) (leb (storeWeight (s .store)) limit) store-valid .1) in
+      let h : storeWeight s ≤ 8192 = leb→le (storeWeight s) limit (both (wellFormed s) (leb (storeWeight s) limit) v .1) in
       omega (arith, R .weighed)
 
   -- the principals' text fits its buffer
-  pub principals-fit : length (part t (q .«principals_from») (q .«principals_to»)) ≤ 20992
+  pub principals-fit : length (part t (q .«principals_from») (q .«principals_to»)) ≤ 11008
   principals-fit =
-      let G = store-shape (s .store) store-valid in
-      omega (arith, light, R .weighed, ap length (R .principals .is-text), principals-text (s .store .principals) (G .order) (G .principals-valid) (G .principals-distinct))
+      let G = store-shape s v in
+      omega (arith, light, R .weighed, ap length (R .principals .is-text), principals-text (s .principals) (G .order) (G .principals-valid) (G .principals-distinct))
 
   module _ (principals-before principals-after vars-before vars-after locals : Text) (local-slots : List ℕ) (m n : ℕ)
       (sizes : Sized (slices principals-before slots-p vars-before slots-v locals local-slots assertions))
@@ -73,14 +70,14 @@ module _ (t : Text) (slots-p slots-v assertions : List ℕ) (q : Parts) (s : Sta
       assertions-size = sizes .assertions-size;
     }
 
-    pub begun : (p : Program) (sender : ℕ) → login (s .store) p ≡ right → sender ≡ position (principalsOf (s .store)) (p .sender)
-        → Running (begin (s .store) p) (firstLayout q sender m n) (slices principals-after slots-p vars-after slots-v locals local-slots assertions)
+    pub begun : (p : Program) (sender : ℕ) → login s p ≡ right → sender ≡ position (principalsOf s) (p .sender)
+        → Running (begin s p) (firstLayout q sender m n) (slices principals-after slots-p vars-after slots-v locals local-slots assertions)
     begun p sender e k = record {
       sized = sized-after;
-      ready = begin-ready (s .store) p store-valid e;
-      principals = subst (λ (l : Text). Principals (s .store .principals) l (q .principals) slots-p) (sym (written-take w)) (R .principals);
+      ready = begin-ready s p v e;
+      principals = subst (λ (l : Text). Principals (s .principals) l (q .principals) slots-p) (sym (written-take w)) (R .principals);
       principals-within = omega (arith, w .fits, written-length w);
-      variables = subst (λ (l : Text). Variables (s .store .variables) l (q .vars) slots-v) (sym (written-take x)) (R .variables);
+      variables = subst (λ (l : Text). Variables (s .variables) l (q .vars) slots-v) (sym (written-take x)) (R .variables);
       vars-within = omega (arith, x .fits, written-length x);
       local-variables = record { is-text = refl; counted = refl; indexed = refl; named = tt; small = omega arith };
       locals-within = omega arith;

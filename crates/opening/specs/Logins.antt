@@ -4,7 +4,7 @@ use Prim.Native.Nat.{ℕ}
 use mathlib.Core.List.{List}
 use Rattle.language.specs.Text.{Text}
 use Rattle.language.specs.Syntax.{Name}
-use Rattle.language.specs.State.{Principal, Store, State, named}
+use Rattle.language.specs.State.{Principal, Store, named}
 use Rattle.language.specs.Run.{unknown, mistaken, right, loginAs}
 use Rattle.store.specs.Held.{Principals}
 use Rattle.store.specs.Rows.{position}
@@ -29,5 +29,5 @@ pub record SomePrincipals (t : Text) (count : ℕ) (slots : List ℕ) : Type 0 w
 pub record SomeState (t : Text) (slots-p : List ℕ) (p : Parts) : Type 0 where
   pub slots-v : List ℕ
   pub assertions : List ℕ
-  pub state : State
+  pub state : Store
   pub represents : Represents t slots-p slots-v assertions p state

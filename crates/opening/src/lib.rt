@@ -12,8 +12,8 @@ ghost use mathlib.Core.List.{List};
 ghost use Prim.Native.Nat.{ℕ, _<_};
 ghost use lib.Dec.{T};
 ghost use Rattle.language.specs.Syntax.{Program};
-ghost use Rattle.language.specs.State.{Principal, State};
-ghost use Rattle.language.specs.Valid.{valid};
+ghost use Rattle.language.specs.State.{Principal, Store};
+ghost use Rattle.language.specs.Valid.{validStore};
 ghost use Rattle.language.specs.Run as Run;
 ghost use Rattle.store.specs.Held.{Principals};
 ghost use Rattle.store.specs.Rows.{position};
@@ -53,8 +53,8 @@ pub fn log_in(
     password: &[u8],
 ) -> Login
     requires { ⌜ SomeState (now state) (now «principal_slots») parts ⌝ }
-    ensures { λ r. ⌜ ((variable-slots assertions : List ℕ) (s : State) → Represents (now (state .entry)) (now («principal_slots» .entry)) variable-slots assertions parts s
-        → LoginMeant r (s .store) (now (name .entry)) (now (password .entry))) ⌝ }
+    ensures { λ r. ⌜ ((variable-slots assertions : List ℕ) (s : Store) → Represents (now (state .entry)) (now («principal_slots» .entry)) variable-slots assertions parts s
+        → LoginMeant r s (now (name .entry)) (now (password .entry))) ⌝ }
 {
     let from = parts.principals_from;
     let to = parts.principals_to;
@@ -91,9 +91,9 @@ pub fn begin(
 ) -> Layout
     requires { ⌜ SomeValid (now state) (now «principal_slots») (now «variable_slots») (now assertions) parts ⌝ }
     requires { ⌜ Sized (slices (now principals) (now «principal_slots») (now vars) (now «variable_slots») (now locals) (now «local_slots») (now assertions)) ⌝ }
-    ensures { λ r. ⌜ ((s : State) (p : Program) → Represents (now (state .entry)) (now («principal_slots» .entry)) (now («variable_slots» .entry)) (now (assertions .entry)) parts s
-        → T (valid s) → Run.login (s .store) p ≡ Run.right → sender ≡ position (Numbers.principalsOf (s .store)) (p .sender)
-        → Running (Run.begin (s .store) p) r (slices (now (principals .exit)) (now («principal_slots» .entry)) (now (vars .exit)) (now («variable_slots» .entry)) (now (locals .entry)) (now («local_slots» .entry)) (now (assertions .entry)))) ⌝ }
+    ensures { λ r. ⌜ ((s : Store) (p : Program) → Represents (now (state .entry)) (now («principal_slots» .entry)) (now («variable_slots» .entry)) (now (assertions .entry)) parts s
+        → T (validStore s) → Run.login s p ≡ Run.right → sender ≡ position (Numbers.principalsOf s) (p .sender)
+        → Running (Run.begin s p) r (slices (now (principals .exit)) (now («principal_slots» .entry)) (now (vars .exit)) (now («variable_slots» .entry)) (now (locals .entry)) (now («local_slots» .entry)) (now (assertions .entry)))) ⌝ }
 {
     let principals_from = parts.principals_from;
     let principals_to = parts.principals_to;

@@ -6,7 +6,7 @@ use mathlib.Core.Option.{Option, none, some}
 use mathlib.Core.List.{List}
 use lib.ListN.{length}
 use Rattle.language.specs.Text.{Text}
-use Rattle.language.specs.Syntax.{Command}
+use Rattle.language.specs.Syntax.{Name, Command}
 use Rattle.language.specs.Values.{Session}
 use Rattle.language.specs.Run.{End, refusal, completed, perform, lineCount}
 use Rattle.value_text.specs.Writing.{Written}
@@ -34,16 +34,17 @@ abbrev pub endOn : Session → Option (List Command) → Option End
 endOn s none = none
 endOn s (some cs) = some (perform s cs)
 
--- the program is completed: what it leaves is in the buffers, and its lines stand in the first n bytes of the output
-pub record Completes (e : Option End) (l : Layout) (n count : ℕ) (b : Slices) (before after : Text) : Type 0 where
+-- the program that p sent is completed: what it leaves is in the buffers, and its lines stand in the first n bytes of the output
+pub record Completes (p : Name) (e : Option End) (l : Layout) (n count : ℕ) (b : Slices) (before after : Text) : Type 0 where
   pub session : Session
+  pub sent : session .sender ≡ p
   pub lines : Text
   pub is-end : e ≡ some (completed lines (session .store))
   pub running : Running session l b
   pub printed : Written before 0 lines n after
   pub counted : count ≡ lineCount lines
 
-abbrev pub Ends : Performed → Option End → Slices → Text → Text → Type 0
-Ends Broken e b before after = e ≡ none
-Ends (Refused f) e b before after = e ≡ some (refusal (refusalMeant f))
-Ends (Completed l n count) e b before after = Completes e l n count b before after
+abbrev pub Ends : Performed → Name → Option End → Slices → Text → Text → Type 0
+Ends Broken p e b before after = e ≡ none
+Ends (Refused f) p e b before after = e ≡ some (refusal (refusalMeant f))
+Ends (Completed l n count) p e b before after = Completes p e l n count b before after

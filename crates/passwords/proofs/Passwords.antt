@@ -56,7 +56,7 @@ module _ (s : Session) (l : Layout) (b : Slices) (R : Running s l b) (p : Name) 
 
     -- the old password is part of the weight, and the new one comes in its place
     pub old-weighs : passwordWeight (principalAt (s .store .principals) n .password) ≤ l .weight
-    old-weighs = omega (arith, R .weighed, sum-at principalWeight (s .store .principals) n (record { name = []; password = none }) below)
+    old-weighs = omega (arith, R .weighed, sum-at principalWeight (s .store .principals) n (record { name = []; password = none; count = 0 }) below)
 
     pub after-weighs : l .weight - passwordWeight (principalAt (s .store .principals) n .password) + length t ≡ sessionWeight after
     after-weighs =

@@ -30,7 +30,7 @@ module _ {s : Session} {shared : Text} {slots : List ℕ} {count : ℕ} {asserti
       sym (length-take-le n assertions (W .assertions-held .within)) ∙ ap length (W .assertions-held .are) ∙ length-map (s .store .assertions) (numbered (principalsOf (s .store)) (variables (s .store))) in
       omega (arith, few-assertions (s .store) (W .is-valid))
 
-  pub few-principals : m ≤ 4096
+  pub few-principals : m ≤ 1024
   few-principals = omega (arith, W .everyone, few-names (s .store) (W .is-valid))
 
   module _ (x : Name) (k b e : ℕ) (q : At k b e ≡ place (map variableRow (s .store .variables)) x) where

@@ -1,30 +1,31 @@
 -- The loop over the principals: their order, and their slots.
 -- Assumes nothing.
-use mathlib.Core.Path.{_≡_, refl, sym, ap, subst, _∙_}
-use Prim.Native.Nat.{ℕ, suc, _+_, _-_, _≤_, _<_}
+use mathlib.Core.Path.{_≡_, sym, ap, subst, _∙_}
+use Prim.Native.Nat.{ℕ, suc, _+_, _*_, _-_, _≤_, _<_}
 use native.Mathlib.Omega.{arith}
 use mathlib.Core.Bool.{Bool, true, false, _&&_}
 use mathlib.Core.Option.{Option, none, some}
 use mathlib.Core.List.{List, [], _∷_, _++_, map}
-use lib.Dec.{T}
+use lib.Dec.{T, leb, leb→le}
 use lib.ListN.{length, drop}
-use Rattle.language.specs.Text.{Text, all, _==_, joined, distinct}
+use Rattle.language.specs.Text.{Text, all, _==_, joined, distinct, sum}
 use Rattle.language.specs.State.{Principal, admin, anyone}
-use Rattle.language.specs.Weight.{principalWeight}
+use Rattle.language.specs.Weight.{nameWeight}
 use Rattle.language.specs.Identifiers.{isName}
-use Rattle.language.specs.Valid.{validPassword, validPrincipal, validOrder, hasPassword}
+use Rattle.language.specs.Valid.{validOrder, hasPassword}
+use Rattle.language.specs.Former.{Form, current, former, principalIn, principalWeightIn, validPrincipalIn}
 use Rattle.language.proofs.Logic.Tests.{both, and, three, four}
 use Rattle.text.specs.Parts.{part}
-use Rattle.store.specs.Rows.{Row, Rows, rowText, principalRow}
-use Rattle.store.proofs.Holders.{principal-text}
+use Rattle.store.specs.Rows.{Row, Rows, rowIn}
 use Rattle.record_fields.specs.Sections.{Fails, lightOne, lightAll, Entitled, anyText}
 use Rattle.record_fields.specs.Entering.{Entering, Entered}
 use Rattle.record_fields.proofs.Follow.{stuck, spoilt, finish}
 use Rattle.record_fields.proofs.Indexing.{Going, going-start, going-held, going-rows, entering, go-on, again, light, ahead}
-use Rattle.principal_lines.specs.Principals.{principalLine, offPrincipal, inPlace, orderly, goodPrincipals}
+use Rattle.principal_lines.specs.Principals.{leastOf, offPrincipal, inPlace, orderly, goodPrincipals}
 use Rattle.principal_lines.specs.Listed.{Listed}
+use Rattle.store.proofs.Holders.{text-in, name-in}
 use Rattle.store.proofs.NameWeights.{name-light}
-use Rattle.principal_lines.proofs.OneLine.{place-other}
+use Rattle.principal_lines.proofs.OneLine.{place-other, valid-in}
 
 -- ---- order
 
@@ -89,81 +90,113 @@ orderly-order (k ∷ m ∷ ks) l h =
     and ((k .name == admin) && hasPassword k && (m .name == anyone)) (all hasPassword ks)
     (and ((k .name == admin) && hasPassword k) (m .name == anyone) (and (k .name == admin) (hasPassword k) a b) c) (orderly-others 0 ks d)
 
+-- ---- one principal
+
+principal-clear : (f : Form) (k : Principal) (q : Text) → T (anyText (principalIn f k ++ q))
+principal-clear f k q = tt
+
+principal-on : (f : Form) (k : Principal) (q : Text) → T (offPrincipal (principalIn f k ++ q)) → ⊥
+principal-on f k q h = go f (k .password) h
+  where
+    go : (f : Form) (o : Option Text) → T (offPrincipal (principalIn f (record { name = k .name; password = o; count = k .count }) ++ q)) → ⊥
+    go current none h = h
+    go current (some u) h = h
+    go former none h = h
+    go former (some u) h = h
+
+principal-named : (f : Form) (k : Principal) → T (validPrincipalIn f k) → T (isName (k .name))
+principal-named f k h = valid-in f (k .name) (k .password) (k .count) h .0
+
+-- what a principal weighs at least
+principal-least : (f : Form) (k : Principal) → T (validPrincipalIn f k) → leastOf f ≤ principalWeightIn f k
+principal-least f k h = go f (name-light (k .name) (principal-named f k h) .0)
+  where
+    go : (f : Form) → 1 ≤ nameWeight (k .name) → leastOf f ≤ principalWeightIn f k
+    go current l = omega arith
+    go former l = omega arith
+
+principal-two : (f : Form) (k : Principal) → T (validPrincipalIn f k) → 2 ≤ principalWeightIn f k
+principal-two f k h = go f (principal-least f k h)
+  where
+    go : (f : Form) → leastOf f ≤ principalWeightIn f k → 2 ≤ principalWeightIn f k
+    go current l = omega arith
+    go former l = l
+
+principals-least : (f : Form) (ks : List Principal) → T (all (validPrincipalIn f) ks) → leastOf f * length ks ≤ sum (principalWeightIn f) ks
+principals-least f ks h = go f ks h (λ k. principal-least f k)
+  where
+    go : (f : Form) (ks : List Principal) → T (all (validPrincipalIn f) ks) → ((k : Principal) → T (validPrincipalIn f k) → leastOf f ≤ principalWeightIn f k) → leastOf f * length ks ≤ sum (principalWeightIn f) ks
+    go current [] h l = omega arith
+    go former [] h l = omega arith
+    go current (k ∷ ks) h l =
+        let (a, b) = both (validPrincipalIn current k) (all (validPrincipalIn current) ks) h in
+        let x = l k a in
+        let y = go current ks b l in
+        omega arith
+    go former (k ∷ ks) h l =
+        let (a, b) = both (validPrincipalIn former k) (all (validPrincipalIn former) ks) h in
+        let x = l k a in
+        let y = go former ks b l in
+        omega arith
+
+principal-some : (f : Form) (k : Principal) → 0 < length (principalIn f k)
+principal-some f k = go f (k .password)
+  where
+    go : (f : Form) (o : Option Text) → 0 < length (principalIn f (record { name = k .name; password = o; count = k .count }))
+    go current none = omega arith
+    go current (some u) = omega arith
+    go former none = omega arith
+    go former (some u) = omega arith
+
 -- ---- the loop
 
-principal-clear : (k : Principal) (q : Text) → T (anyText (principalLine k ++ q))
-principal-clear k q = tt
-
-principal-on : (k : Principal) (q : Text) → T (offPrincipal (principalLine k ++ q)) → ⊥
-principal-on k q h = go (k .password) h
-  where
-    go : (o : Option Text) → T (offPrincipal (principalLine (record { name = k .name; password = o }) ++ q)) → ⊥
-    go none h = h
-    go (some u) h = h
-
-principal-named : (k : Principal) → T (validPrincipal k) → T (isName (k .name))
-principal-named k h = both (isName (k .name)) (validPassword (k .password)) h .0
-
-principal-two : (k : Principal) → T (validPrincipal k) → 2 ≤ principalWeight k
-principal-two k h = let l = name-light (k .name) (principal-named k h) in omega (arith, l .0)
-
-principal-some : (k : Principal) → 0 < length (principalLine k)
-principal-some k = go (k .password)
-  where
-    go : (o : Option Text) → 0 < length (principalLine (record { name = k .name; password = o }))
-    go none = omega arith
-    go (some u) = omega arith
-
-principal-line : (k : Principal) → principalLine k ≡ rowText (principalRow k)
-principal-line k = principal-text (k .name) (k .password)
-
 -- what the loop over the principals knows
-pub record Ranking (t : Text) (at : ℕ) (slots : List ℕ) (i n now : ℕ) : Type 0 where
-  pub going : Going (λ (k : Principal). k .name) principalLine validPrincipal principalWeight offPrincipal t at 0 slots i n now
+pub record Ranking (f : Form) (t : Text) (at : ℕ) (slots : List ℕ) (i n now : ℕ) : Type 0 where
+  pub going : Going (λ (k : Principal). k .name) (principalIn f) (validPrincipalIn f) (principalWeightIn f) offPrincipal t at 0 slots i n now
   pub in-order : T (orderly 0 (going .rows))
 
-pub ranking-start : (t : Text) (at : ℕ) (slots : List ℕ) → at ≤ length t → Ranking t at slots at 0 0
+pub ranking-start : (f : Form) (t : Text) (at : ℕ) (slots : List ℕ) → at ≤ length t → Ranking f t at slots at 0 0
 unfolding going-start
-ranking-start t at slots h = record {
-  going = going-start (λ (k : Principal). k .name) principalLine validPrincipal principalWeight anyText offPrincipal (λ q h. tt) principal-clear principal-on t at 0 slots h;
+ranking-start f t at slots h = record {
+  going = going-start (λ (k : Principal). k .name) (principalIn f) (validPrincipalIn f) (principalWeightIn f) anyText offPrincipal (λ q h. tt) (principal-clear f) (principal-on f) t at 0 slots h;
   in-order = tt;
 }
 
-module _ (t : Text) (at : ℕ) (slots : List ℕ) (i n now : ℕ) (K : Ranking t at slots i n now) where
+module _ (f : Form) (t : Text) (at : ℕ) (slots : List ℕ) (i n now : ℕ) (K : Ranking f t at slots i n now) where
   abbrev NoPrincipals : Type 0
-  NoPrincipals = Fails (joined principalLine) (lightAll validPrincipal goodPrincipals principalWeight 0) offPrincipal t at
+  NoPrincipals = Fails (joined (principalIn f)) (lightAll (validPrincipalIn f) goodPrincipals (principalWeightIn f) 0) offPrincipal t at
 
-  abbrev G : Going (λ (k : Principal). k .name) principalLine validPrincipal principalWeight offPrincipal t at 0 slots i n now
+  abbrev G : Going (λ (k : Principal). k .name) (principalIn f) (validPrincipalIn f) (principalWeightIn f) offPrincipal t at 0 slots i n now
   G = K .going
 
   -- where no principal follows, these are all
   module _ (o : T (offPrincipal (drop i t))) where
     pub too-few : n < 2 → now ≤ 8192 → NoPrincipals
-    too-few l lt ks q f oq d =
-        let (a, g, w) = three (all validPrincipal ks) (goodPrincipals ks) _ f in
-        let r = finish principalLine validPrincipal principalWeight anyText offPrincipal (λ q h. tt) principal-clear principal-on t at 0 (λ l. true) (G .rows) i now (G .run) o tt lt in
-        let (same, left) = r .only ks q (and (all validPrincipal ks && true) _ (and (all validPrincipal ks) true a tt) w) oq d in
+    too-few l lt ks q v oq d =
+        let (a, g, w) = three (all (validPrincipalIn f) ks) (goodPrincipals ks) _ v in
+        let r = finish (principalIn f) (validPrincipalIn f) (principalWeightIn f) anyText offPrincipal (λ q h. tt) (principal-clear f) (principal-on f) t at 0 (λ l. true) (G .rows) i now (G .run) o tt lt in
+        let (same, left) = r .only ks q (and (all (validPrincipalIn f) ks && true) _ (and (all (validPrincipalIn f) ks) true a tt) w) oq d in
         let (two, x) = order-orderly ks (both (validOrder ks) (distinct (map (λ k. k .name) ks)) g .0) in
         omega (arith, G .counted, ap length same)
 
-    pub principals-good : 2 ≤ n → now ≤ 8192 → length t ≤ 65536 → Listed (λ (k : Principal). k .name) principalLine validPrincipal goodPrincipals principalWeight offPrincipal t at 0 slots i n now
+    pub principals-good : 2 ≤ n → now ≤ 8192 → length t ≤ 65536 → Listed (λ (k : Principal). k .name) (principalIn f) (validPrincipalIn f) goodPrincipals (principalWeightIn f) offPrincipal t at 0 slots i n now
     principals-good l lt small = record {
       records = record {
         rows = G .rows;
-        reads = finish principalLine validPrincipal principalWeight anyText offPrincipal (λ q h. tt) principal-clear principal-on t at 0 goodPrincipals (G .rows) i now (G .run) o
+        reads = finish (principalIn f) (validPrincipalIn f) (principalWeightIn f) anyText offPrincipal (λ q h. tt) (principal-clear f) (principal-on f) t at 0 goodPrincipals (G .rows) i now (G .run) o
             (and (validOrder (G .rows)) (distinct (map (λ k. k .name) (G .rows))) (orderly-order (G .rows) (omega (arith, G .counted)) (K .in-order)) (G .apart)) lt;
         weighed = G .run .weighed;
         counted = G .counted;
         ends = o;
       };
-      held = going-held (λ (k : Principal). k .name) principalLine validPrincipal principalWeight anyText offPrincipal (λ q h. tt) principal-clear principal-on principal-named principal-two principalRow principal-line (λ k. refl) t at 0 slots i n now G small;
+      held = going-held (λ (k : Principal). k .name) (principalIn f) (validPrincipalIn f) (principalWeightIn f) anyText offPrincipal (λ q h. tt) (principal-clear f) (principal-on f) (principal-named f) (principal-two f) (rowIn f) (text-in f) (name-in f) t at 0 slots i n now G small;
     }
 
   module _ (on : T (offPrincipal (drop i t)) → ⊥) where
-    pub principals-stuck : Fails principalLine (lightOne validPrincipal principalWeight now) anyText t i → NoPrincipals
-    principals-stuck = stuck principalLine validPrincipal principalWeight anyText offPrincipal (λ q h. tt) principal-clear principal-on t at 0 (G .rows) i now (G .run) on goodPrincipals
+    pub principals-stuck : Fails (principalIn f) (lightOne (validPrincipalIn f) (principalWeightIn f) now) anyText t i → NoPrincipals
+    principals-stuck = stuck (principalIn f) (validPrincipalIn f) (principalWeightIn f) anyText offPrincipal (λ q h. tt) (principal-clear f) (principal-on f) t at 0 (G .rows) i now (G .run) on goodPrincipals
 
-    module _ (m e after : ℕ) (E : Entitled (λ (k : Principal). k .name) principalLine validPrincipal principalWeight anyText t i now m e after) where
+    module _ (m e after : ℕ) (E : Entitled (λ (k : Principal). k .name) (principalIn f) (validPrincipalIn f) (principalWeightIn f) anyText t i now m e after) where
       -- what the test of the place says
       placed : (has : Bool) → has ≡ hasPassword (E .one .row) → inPlace n (part t (i + 2) m) has ≡ inPlace (0 + length (G .rows)) (E .one .row .name) (hasPassword (E .one .row))
       placed has h =
@@ -173,35 +206,47 @@ module _ (t : Text) (at : ℕ) (slots : List ℕ) (i n now : ℕ) (K : Ranking t
           ∙ ap (λ (b : Bool). inPlace (0 + length (G .rows)) (E .one .row .name) b) h
 
       pub principal-ahead : i < e
-      principal-ahead = ahead t (principalLine (E .one .row)) i e (E .one .reads .here) (principal-some (E .one .row)) (E .one .reads .low) (E .one .reads .high)
+      principal-ahead = ahead t (principalIn f (E .one .row)) i e (E .one .reads .here) (principal-some f (E .one .row)) (E .one .reads .low) (E .one .reads .high)
 
       pub principal-light : after ≤ 8192
-      principal-light = light (λ (k : Principal). k .name) principalLine validPrincipal principalWeight anyText offPrincipal (λ q h. tt) principal-clear principal-on principal-named principal-two principalRow principal-line (λ k. refl) t at 0 slots i n now G m e after E
+      principal-light = light (λ (k : Principal). k .name) (principalIn f) (validPrincipalIn f) (principalWeightIn f) anyText offPrincipal (λ q h. tt) (principal-clear f) (principal-on f) (principal-named f) (principal-two f) (rowIn f) (text-in f) (name-in f) t at 0 slots i n now G m e after E
 
-      pub principal-entering : length t ≤ 65536 → length slots ≡ 4096 → Entering t at i m n slots
+      -- by the weight there is a slot left
+      room : 8192 ≤ leastOf f * length slots → n < length slots
+      room =
+          let (v, l) = both (validPrincipalIn f (E .one .row)) (leb (now + principalWeightIn f (E .one .row)) 8192) (E .one .reads .is-fine) in
+          few f (principals-least f (G .rows) (G .run .all-fine)) (principal-least f (E .one .row) v) (leb→le (now + principalWeightIn f (E .one .row)) 8192 l) (G .run .weighed) (G .counted)
+        where
+          few : (f : Form) {a b : ℕ} → leastOf f * length (G .rows) ≤ a → leastOf f ≤ b → now + b ≤ 8192 → now ≡ 0 + a → n ≡ length (G .rows) → 8192 ≤ leastOf f * length slots → n < length slots
+          few current p q r s c h = omega arith
+          few former p q r s c h = omega arith
+
+      pub principal-entering : length t ≤ 65536 → 8192 ≤ leastOf f * length slots → Entering t at i m n slots
       principal-entering small l =
-          entering (λ (k : Principal). k .name) principalLine validPrincipal principalWeight anyText offPrincipal (λ q h. tt) principal-clear principal-on principal-named principal-two principalRow principal-line (λ k. refl) t at 0 slots i n now G m e after E small (omega arith)
+          entering (λ (k : Principal). k .name) (principalIn f) (validPrincipalIn f) (principalWeightIn f) anyText offPrincipal (λ q h. tt) (principal-clear f) (principal-on f)
+          (principal-named f) (principal-two f) (rowIn f) (text-in f) (name-in f) t at 0 slots i n now G m e after E small (room l)
 
       module _ (has : Bool) (is : has ≡ hasPassword (E .one .row)) where
         pub misplaced : inPlace n (part t (i + 2) m) has ≡ false → NoPrincipals
         misplaced p =
-            spoilt principalLine validPrincipal principalWeight anyText offPrincipal (λ q h. tt) principal-clear principal-on t at 0 (G .rows) i now (G .run) on (E .one .row) e after (E .one .reads) (E .one .weighed) goodPrincipals
+            spoilt (principalIn f) (validPrincipalIn f) (principalWeightIn f) anyText offPrincipal (λ q h. tt) (principal-clear f) (principal-on f) t at 0 (G .rows) i now (G .run) on (E .one .row) e after (E .one .reads) (E .one .weighed) goodPrincipals
             (λ ms g.
             let (two, x) = order-orderly (G .rows ++ E .one .row ∷ ms) (both (validOrder (G .rows ++ E .one .row ∷ ms)) (distinct (map (λ k. k .name) (G .rows ++ E .one .row ∷ ms))) g .0) in
             subst (λ (b : Bool). T b) (sym (placed has is) ∙ p) (orderly-at 0 (G .rows) ms (E .one .row) x))
 
         module _ (small : length t ≤ 65536) (slots' : List ℕ) where
           pub principal-again : ((rows : List Row) → Rows rows (part t at i) n slots → Entered rows (part t (i + 2) m) (i - at) n slots slots' false) → NoPrincipals
-          principal-again f =
-              again (λ (k : Principal). k .name) principalLine validPrincipal principalWeight anyText offPrincipal (λ q h. tt) principal-clear principal-on principal-named principal-two principalRow principal-line (λ k. refl) t at 0 slots i n now G m e after E on goodPrincipals
+          principal-again h =
+              again (λ (k : Principal). k .name) (principalIn f) (validPrincipalIn f) (principalWeightIn f) anyText offPrincipal (λ q h. tt) (principal-clear f) (principal-on f)
+              (principal-named f) (principal-two f) (rowIn f) (text-in f) (name-in f) t at 0 slots i n now G m e after E on goodPrincipals
               (λ l g. both (validOrder l) (distinct (map (λ k. k .name) l)) g .1) slots'
-              (f _ (going-rows (λ (k : Principal). k .name) principalLine validPrincipal principalWeight anyText offPrincipal (λ q h. tt) principal-clear principal-on principal-named principal-two principalRow principal-line (λ k. refl) t at 0 slots i n now G small))
+              (h _ (going-rows (λ (k : Principal). k .name) (principalIn f) (validPrincipalIn f) (principalWeightIn f) anyText offPrincipal (λ q h. tt) (principal-clear f) (principal-on f) (principal-named f) (principal-two f) (rowIn f) (text-in f) (name-in f) t at 0 slots i n now G small))
 
-          pub principal-next : length slots ≡ 4096 → inPlace n (part t (i + 2) m) has ≡ true → ((rows : List Row) → Rows rows (part t at i) n slots → Entered rows (part t (i + 2) m) (i - at) n slots slots' true) → Ranking t at slots' e (n + 1) after
+          pub principal-next : 8192 ≤ leastOf f * length slots → inPlace n (part t (i + 2) m) has ≡ true → ((rows : List Row) → Rows rows (part t at i) n slots → Entered rows (part t (i + 2) m) (i - at) n slots slots' true) → Ranking f t at slots' e (n + 1) after
           unfolding go-on
-          principal-next l p f = record {
-            going =
-                go-on (λ (k : Principal). k .name) principalLine validPrincipal principalWeight anyText offPrincipal (λ q h. tt) principal-clear principal-on principal-named principal-two principalRow principal-line (λ k. refl) t at 0 slots i n now G m e after E on (omega arith) slots'
-                (f _ (going-rows (λ (k : Principal). k .name) principalLine validPrincipal principalWeight anyText offPrincipal (λ q h. tt) principal-clear principal-on principal-named principal-two principalRow principal-line (λ k. refl) t at 0 slots i n now G small));
+          principal-next l p h = record {
+            going = go-on (λ (k : Principal). k .name) (principalIn f) (validPrincipalIn f) (principalWeightIn f) anyText offPrincipal (λ q h. tt) (principal-clear f) (principal-on f)
+                (principal-named f) (principal-two f) (rowIn f) (text-in f) (name-in f) t at 0 slots i n now G m e after E on (room l) slots'
+                (h _ (going-rows (λ (k : Principal). k .name) (principalIn f) (validPrincipalIn f) (principalWeightIn f) anyText offPrincipal (λ q h. tt) (principal-clear f) (principal-on f) (principal-named f) (principal-two f) (rowIn f) (text-in f) (name-in f) t at 0 slots i n now G small));
             in-order = orderly-last 0 (G .rows) (E .one .row) (K .in-order) (subst (λ (b : Bool). T b) (sym (sym (placed has is) ∙ p)) tt);
           }

@@ -73,7 +73,7 @@ module _ (s : Session) (l : Layout) (b : Slices) (R : Running s l b) (p t : Text
       pub create-gives : (k : Layout) (c : Slices) → Running (withStore s (withPrincipal (s .store) p t)) k c
           → Gives (withStore s (withPrincipal (s .store) p t)) k c (k .delegator) (l .principals) (s .store .delegator) p
       create-gives k c K =
-          let one : Principal = record { name = p; password = some t } in
+          let one : Principal = record { name = p; password = some t; count = 0 } in
           let names : principalsOf (withPrincipal (s .store) p t) ≡ principalsOf (s .store) ++ (p ∷ []) = added-names (s .store .principals) one in
           let last : position (principalsOf (s .store)) p ≡ length (principalsOf (s .store)) = sym n-is ∙ new ∙ everyone s l b R in
           record {

@@ -171,6 +171,7 @@ module _ {A : Type 0} (name : A → Name) (text : A → Text) (fine : A → Bool
         let (f, l) = both (fine (E .one .row)) (leb (now + weight (E .one .row)) 8192) (E .one .reads .is-fine) in
         (f, leb→le (now + weight (E .one .row)) 8192 l)
 
+    -- by the weight there is a slot left
     pub room : 8192 ≤ w + 2 * length slots → n < length slots
     room h =
         let (f, l) = row-fine in
@@ -180,25 +181,25 @@ module _ {A : Type 0} (name : A → Name) (text : A → Text) (fine : A → Bool
     pub light : after ≤ 8192
     light = let (f, l) = row-fine in omega (arith, E .one .weighed)
 
-    pub entering : length t ≤ 65536 → 8192 ≤ w + 2 * length slots → Entering t at i m n slots
-    entering small h = record {
+    pub entering : length t ≤ 65536 → n < length slots → Entering t at i m n slots
+    entering small left = record {
       low = G .run .low;
       name-low = E .mid-low;
       name-high = E .mid-high;
       small = small;
-      room = room h;
+      room = left;
       some = record { rows = map row (G .rows); held = going-rows small };
     }
 
     module _ (on : T (off (drop i t)) → ⊥) where
-      unfoldable pub go-on : 8192 ≤ w + 2 * length slots → (slots' : List ℕ) → Entered (map row (G .rows)) (part t (i + 2) m) (i - at) n slots slots' true → Going name text fine weight off t at w slots' e (n + 1) after
-      go-on h slots' (new, stored) = record {
+      unfoldable pub go-on : n < length slots → (slots' : List ℕ) → Entered (map row (G .rows)) (part t (i + 2) m) (i - at) n slots slots' true → Going name text fine weight off t at w slots' e (n + 1) after
+      go-on left slots' (new, stored) = record {
         rows = G .rows ++ E .one .row ∷ [];
         run = step text fine weight clear off off-clear clear-row row-on t at w (G .rows) i now (G .run) on (E .one .row) e after (E .one .reads) (E .one .weighed);
         counted = omega (arith, G .counted, length-append (G .rows) (E .one .row ∷ []));
         indexed =
             ap (take (n + 1)) (stored ∙ ap (λ (x : Name). set slots n (slot x (i - at))) (E .is-name))
-            ∙ slots-step name text fine weight off t at w (G .rows) i now (G .run) (E .one .row) n slots (G .counted) (room h) (G .indexed);
+            ∙ slots-step name text fine weight off t at w (G .rows) i now (G .run) (E .one .row) n slots (G .counted) left (G .indexed);
         apart = apart-step name (G .rows) (E .one .row) (G .apart) (λ k. new (member-rows name text row same-text same-name (G .rows) (part t (i + 2) m) (subst (λ (x : Name). T (member x (map name (G .rows)))) (sym (E .is-name)) k)));
       }
 

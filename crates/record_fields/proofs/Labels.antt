@@ -23,7 +23,7 @@ use Rattle.record_fields.specs.Sections as Meant
 use Rattle.record_fields.specs.Entering.{Entering, Entered}
 use Rattle.record_fields.proofs.Opening.{byte-here}
 use Rattle.record_fields.proofs.Follow.{stuck, heavy, finish}
-use Rattle.record_fields.proofs.Indexing.{Going, going-start, going-rows, entering, go-on, again, light, ahead}
+use Rattle.record_fields.proofs.Indexing.{Going, going-start, going-rows, room, entering, go-on, again, light, ahead}
 
 -- a byte at a place opens what is left
 pub opens-here : (t : Text) (i c : ℕ) → getD t i 0 ≡ c → opens c (drop i t) ≡ true
@@ -90,13 +90,16 @@ module _ (t : Text) (at w : ℕ) (slots : List ℕ) (i n now : ℕ) (G : Filling
       pub field-light : after ≤ 8192
       field-light = light (λ (f : Field). f .label) fieldText validField fieldWeight anyText offField (λ q h. tt) field-clear field-on field-named field-two field-row field-text field-name t at w slots i n now G m e after E
 
+      left : 8192 ≤ w + 2 * length slots → n < length slots
+      left = room (λ (f : Field). f .label) fieldText validField fieldWeight anyText offField (λ q h. tt) field-clear field-on field-named field-two field-row field-text field-name t at w slots i n now G m e after E
+
       pub field-entering : length t ≤ 65536 → 8192 ≤ w + 2 * length slots → Entering t at i m n slots
-      field-entering = entering (λ (f : Field). f .label) fieldText validField fieldWeight anyText offField (λ q h. tt) field-clear field-on field-named field-two field-row field-text field-name t at w slots i n now G m e after E
+      field-entering small h = entering (λ (f : Field). f .label) fieldText validField fieldWeight anyText offField (λ q h. tt) field-clear field-on field-named field-two field-row field-text field-name t at w slots i n now G m e after E small (left h)
 
       module _ (small : length t ≤ 65536) (slots' : List ℕ) where
         pub field-next : 8192 ≤ w + 2 * length slots → ((rows : List Row) → Rows rows (part t at i) n slots → Entered rows (part t (i + 2) m) (i - at) n slots slots' true) → Filling t at w slots' e (n + 1) after
         field-next h f =
-            go-on (λ (f : Field). f .label) fieldText validField fieldWeight anyText offField (λ q h. tt) field-clear field-on field-named field-two field-row field-text field-name t at w slots i n now G m e after E on h slots'
+            go-on (λ (f : Field). f .label) fieldText validField fieldWeight anyText offField (λ q h. tt) field-clear field-on field-named field-two field-row field-text field-name t at w slots i n now G m e after E on (left h) slots'
             (f _ (going-rows (λ (f : Field). f .label) fieldText validField fieldWeight anyText offField (λ q h. tt) field-clear field-on field-named field-two field-row field-text field-name t at w slots i n now G small))
 
         pub field-again : ((rows : List Row) → Rows rows (part t at i) n slots → Entered rows (part t (i + 2) m) (i - at) n slots slots' false) → Fails (joined fieldText) (lightAll validField distinctLabels fieldWeight w) offField t at

@@ -73,7 +73,7 @@ pub fn shortest(
     right: u16,
     principal: usize,
 ) -> Answer
-    requires { ⌜ (count ≤ 4096) × (length (now assertions) ≤ 2048) ⌝ }
+    requires { ⌜ (count ≤ 1024) × (length (now assertions) ≤ 2048) ⌝ }
     ensures { λ r. ⌜ Answered (asked (map fields (now (assertions .entry))) count variable right) principal r ⌝ }
 {
     if count <= principal {
@@ -83,7 +83,7 @@ pub fn shortest(
         return Answer::Yes(0);
     }
     let gathered = gather(assertions, variable, right);
-    let mut dist = [UNREACHED; 4096];
+    let mut dist = [UNREACHED; 1024];
     dist[0] = 0;
     let list = gathered.list;
     let n = gathered.count;

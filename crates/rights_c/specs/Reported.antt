@@ -20,5 +20,5 @@ refused = 4097
 
 -- r reports on the packed assertions s: refused, or the number of the right answer
 pub record Reported (s : List ℕ) (count variable right principal r : ℕ) : Type 0 where
-  pub refuses : (4096 < count) ⊎ (2048 < length s) → r ≡ refused
-  pub answers : count ≤ 4096 → length s ≤ 2048 → (a : Answer) × Answered (asked (map fields s) count variable right) principal a × (r ≡ numberOf a)
+  pub refuses : (1024 < count) ⊎ (2048 < length s) → r ≡ refused
+  pub answers : count ≤ 1024 → length s ≤ 2048 → (a : Answer) × Answered (asked (map fields s) count variable right) principal a × (r ≡ numberOf a)

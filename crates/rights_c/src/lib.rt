@@ -18,7 +18,7 @@ pub extern "C" fn rights_shortest(
 ) -> u64
     ensures { λ r. ⌜ Reported (now (assertions .entry)) count variable right principal r ⌝ }
 {
-    if 4096 < count {
+    if 1024 < count {
         return REFUSED;
     }
     if 2048 < assertions.len() {

@@ -6,7 +6,7 @@ use mathlib.Core.Option.{Option, none, some}
 use borrow.Author.Tests.{eq-eqb, ne-eqb}
 use lib.ListN.{length}
 use Rattle.language.specs.Text.{Text}
-use Rattle.language.specs.State.{State}
+use Rattle.language.specs.State.{Store}
 use Rattle.language.specs.Decode.{decode}
 use Rattle.language.specs.Programs.{parse}
 use Rattle.language.specs.Run.{run}
@@ -32,18 +32,18 @@ module _ (b : Buffers) (program : Text) where
       run-work h = failed b (sized (b .work)) 3 _ (ne-eqb (length (b .work)) 65536 h) ∙ state-met _
 
       module _ (w : length (b .work) ≡ 65536) where
-        sizes-met : (k : Option State) → decode (b .state) ≡ k → decoded b k (runOn b program) ≡ runCall b program
+        sizes-met : (k : Option Store) → decode (b .state) ≡ k → decoded b k 4 (runOn b program) ≡ runCall b program
         sizes-met k e =
-            sym (ap (λ (o : Option State). decoded b o (runOn b program)) e)
+            sym (ap (λ (o : Option Store). decoded b o 4 (runOn b program)) e)
             ∙ met b (sized (b .work)) 3 _ (eq-eqb (length (b .work)) 65536 w)
             ∙ state-met _
 
         pub run-form : decode (b .state) ≡ none → refuse b 4 ≡ runCall b program
         run-form e = sizes-met none e
 
-        module _ (k : State) (e : decode (b .state) ≡ some k) where
-          pub run-closed : k .store .isOpen ≡ false → refuse b 5 ≡ runCall b program
-          run-closed h = failed b (k .store .isOpen) 5 _ h ∙ sizes-met (some k) e
+        module _ (k : Store) (e : decode (b .state) ≡ some k) where
+          pub run-closed : k .isOpen ≡ false → refuse b 5 ≡ runCall b program
+          run-closed h = failed b (k .isOpen) 5 _ h ∙ sizes-met (some k) e
 
-          pub run-done : k .store .isOpen ≡ true → endReply b k (run (k .store) (parse program)) ≡ runCall b program
-          run-done h = met b (k .store .isOpen) 5 _ h ∙ sizes-met (some k) e
+          pub run-done : k .isOpen ≡ true → endReply b (run k (parse program)) ≡ runCall b program
+          run-done h = met b (k .isOpen) 5 _ h ∙ sizes-met (some k) e

@@ -20,7 +20,7 @@ pub fn program(state: &mut [u8], work: &mut [u8], output: &mut [u8], program: &[
     if work.len() != 65536 {
         return Answer::Wrong(3);
     }
-    let mut principals = [0u32; 4096];
+    let mut principals = [0u32; 1024];
     let mut vars = [0u32; 4096];
     let mut assertions = [0u64; 2048];
     let checked = validate::check(state, &mut principals, &mut vars, &mut assertions);

@@ -3,3 +3,4 @@ pub mod Meant
 pub mod Lines
 pub mod Rooms
 pub mod Behind
+pub mod Raising

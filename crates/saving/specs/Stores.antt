@@ -5,9 +5,11 @@ use mathlib.Core.List.{List, _++_}
 use lib.Dec.{T}
 use lib.ListN.{length}
 use Rattle.language.specs.Text.{Text, member}
+use Rattle.language.specs.Syntax.{Name}
 use Rattle.language.specs.State.{Assertion, Store}
 use Rattle.language.specs.Encode.{headText, principalsText, delegatorText, variablesText, assertionText, assertionsText}
 use Rattle.language.specs.Valid.{validAssertion, validStore}
+use Rattle.language.specs.Run.{tally}
 use Rattle.store.specs.Held.{Principals, Variables}
 use Rattle.store.specs.Rows.{position}
 use Rattle.named_rights.specs.Numbers.{principalsOf, variables, numbered, Standing}
@@ -41,20 +43,33 @@ pub record SomeAssertions (l : Layout) (principals-text : Text) (principal-slots
 
 -- ---- the lines before the assertions
 
-abbrev pub recordsText : Store → ℕ → Text
-recordsText s count =
-    headText (s .isOpen) count ++ (principalsText (s .principals) ++ (delegatorText (s .delegator) ++ variablesText (s .variables)))
+abbrev pub recordsText : Store → Text
+recordsText s =
+    headText (s .isOpen) ++ (principalsText (s .principals) ++ (delegatorText (s .delegator) ++ variablesText (s .variables)))
 
-pub record Recorded (s : Store) (l : Layout) (principals-text : Text) (principal-slots : List ℕ) (vars-text : Text) : Type 0 where
-  pub is-open : l .«is_open» ≡ s .isOpen
+-- the principals of a valid store, and among them the sender p
+pub record Sent (s : Store) (p : Name) (l : Layout) (principals-text : Text) (principal-slots : List ℕ) : Type 0 where
+  pub is-valid : T (validStore s)
   pub principals : Principals (s .principals) principals-text (l .principals) principal-slots
+  pub sender-known : T (member p (principalsOf s))
+  pub sender : l .sender ≡ position (principalsOf s) p
+
+-- their lines, with the sender's count raised, have room in `size` bytes from `at` on
+pub record SomeSent (l : Layout) (principals-text : Text) (principal-slots : List ℕ) (at size : ℕ) : Type 0 where
+  pub store : Store
+  pub name : Name
+  pub sent : Sent store name l principals-text principal-slots
+  pub room : at + length (principalsText (tally name store .principals)) ≤ size
+
+pub record Recorded (s : Store) (p : Name) (l : Layout) (principals-text : Text) (principal-slots : List ℕ) (vars-text : Text) : Type 0 where
+  pub is-open : l .«is_open» ≡ s .isOpen
+  pub sent : Sent s p l principals-text principal-slots
   pub delegator-known : T (member (s .delegator) (principalsOf s))
   pub delegator : l .delegator ≡ position (principalsOf s) (s .delegator)
   pub variables-text : vars-text ≡ variablesText (s .variables)
 
--- the first line may take 13 bytes before it is known how many it takes
-pub record SomeRecords (l : Layout) (principals-text : Text) (principal-slots : List ℕ) (vars-text : Text) (count size : ℕ) : Type 0 where
+pub record SomeRecords (l : Layout) (principals-text : Text) (principal-slots : List ℕ) (vars-text : Text) (size : ℕ) : Type 0 where
   pub store : Store
-  pub recorded : Recorded store l principals-text principal-slots vars-text
-  pub room : length (recordsText store count) ≤ size
-  pub first-room : 13 ≤ size
+  pub name : Name
+  pub recorded : Recorded store name l principals-text principal-slots vars-text
+  pub room : length (recordsText (tally name store)) ≤ size

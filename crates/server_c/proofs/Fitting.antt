@@ -1,4 +1,4 @@
--- What is answered has room in one number: a chain is shorter than the principals are many, and a state has at most 4,096 of them; an
+-- What is answered has room in one number: a chain is shorter than the principals are many, and a state has few of them; an
 -- output has at most 65,536 bytes, and no more lines than bytes.
 -- Assumes nothing.
 use mathlib.Core.Path.{_≡_, refl}
@@ -11,14 +11,16 @@ use lib.ListN.{length, length-map}
 use Rattle.language.specs.Text.{Text, if_then_else_, present}
 use Rattle.language.specs.Syntax.{Name, Right}
 use Rattle.language.specs.Identifiers.{isString}
-use Rattle.language.specs.State.{Principal, Store, State, lastCount, named, valueIn}
+use Rattle.language.specs.State.{Principal, Store, named, valueIn}
 use Rattle.language.specs.Valid.{validStore}
+use Rattle.language.specs.Weight.{limit, storeWeight}
 use Rattle.language.specs.Decode.{decode}
+use Rattle.language.specs.Former.{decodeFormer}
 use Rattle.language.specs.Chains.{chainLength}
 use Rattle.language.specs.Programs.{parse}
 use Rattle.language.specs.Run.{run, output}
-use Rattle.language.specs.Calls.{wrong, ready, checked, decoded, sized, made, longestPassword, makeCall, Buffers, endReply, runOn, runCall, rightByte, lengthAnswer, question, askOn, askCall}
-use Rattle.language.proofs.Logic.Tests.{both}
+use Rattle.language.specs.Encode.{stateText, padded}
+use Rattle.language.specs.Calls.{wrong, ready, checked, decoded, sized, made, longestPassword, makeCall, Buffers, endReply, runOn, runCall, rightByte, lengthAnswer, question, askOn, askCall, BringBuffers, bringOn, bringCall}
 use Rattle.language.proofs.StateText.RoundTrip.{decode-holds}
 use Rattle.language.proofs.Parsing.Printing.{output-fits}
 use Rattle.language.proofs.Rights.Search.{few-rounds}
@@ -36,24 +38,24 @@ make-fits buffer password = go (sized buffer) (isString password) (leb (length p
     go true true true = tt
 
 -- a buffer that is decoded holds a valid store
-decoded-valid : (buffer : Text) (s : State) → decode buffer ≡ some s → T (validStore (s .store))
-decoded-valid buffer s e = both (leb (s .count) lastCount) (validStore (s .store)) (decode-holds buffer s .0 e .is-valid) .1
+decoded-valid : (buffer : Text) (s : Store) → decode buffer ≡ some s → T (validStore s)
+decoded-valid buffer s e = decode-holds buffer s .0 e .is-valid
 
 pub run-fits : (b : Buffers) (program : Text) → Fits (runCall b program .answer)
 run-fits b program = go (sized (b .output)) (sized (b .state)) (sized (b .work)) (decode (b .state)) refl
   where
-    on : (s : State) → T (validStore (s .store)) → (c : Bool) → Fits (checked b c 5 (endReply b s (run (s .store) (parse program))) .answer)
+    on : (s : Store) → T (validStore s) → (c : Bool) → Fits (checked b c 5 (endReply b (run s (parse program))) .answer)
     on s v false = tt
     on s v true =
-        let h = output-fits (s .store) v program in
-        (omega (arith, h, few-lines (output (run (s .store) (parse program)))), omega (arith, h))
+        let h = output-fits s v program in
+        (omega (arith, h, few-lines (output (run s (parse program)))), omega (arith, h))
 
-    go : (x y z : Bool) (o : Option State) → decode (b .state) ≡ o → Fits (checked b x 1 (checked b y 2 (checked b z 3 (decoded b o (runOn b program)))) .answer)
+    go : (x y z : Bool) (o : Option Store) → decode (b .state) ≡ o → Fits (checked b x 1 (checked b y 2 (checked b z 3 (decoded b o 4 (runOn b program)))) .answer)
     go false y z o e = tt
     go true false z o e = tt
     go true true false o e = tt
     go true true true none e = tt
-    go true true true (some s) e = on s (decoded-valid (b .state) s e) (s .store .isOpen)
+    go true true true (some s) e = on s (decoded-valid (b .state) s e) (s .isOpen)
 
 module _ (s : Store) (v : T (validStore s)) (p x : Name) where
   chain-fits : (r : Right) (o : Option ℕ) → chainLength s r x p ≡ o → Fits (lengthAnswer o)
@@ -76,8 +78,21 @@ module _ (s : Store) (v : T (validStore s)) (p x : Name) where
 pub ask-fits : (buffer : Text) (p x : Name) (r : ℕ) → Fits (askCall buffer p x r .answer)
 ask-fits buffer p x r = go (sized buffer) (decode buffer) refl
   where
-    go : (b : Bool) (o : Option State) → decode buffer ≡ o → Fits (checked buffer b 2 (decoded buffer o (askOn buffer p x r)) .answer)
+    go : (b : Bool) (o : Option Store) → decode buffer ≡ o → Fits (checked buffer b 2 (decoded buffer o 4 (askOn buffer p x r)) .answer)
     go false o e = tt
     go true none e = tt
     go true (some s) e =
-        question-fits (s .store) (decoded-valid buffer s e) p x (rightByte r)
+        question-fits s (decoded-valid buffer s e) p x (rightByte r)
+
+pub bring-fits : (b : BringBuffers) → Fits (bringCall b .answer)
+bring-fits b = go (sized (b .former)) (sized (b .state)) (decodeFormer (b .former))
+  where
+    on : (s : Store) (c : Bool) → Fits (checked b c 11 (record { answer = ready; lent = record { former = b .former; state = padded (stateText s) } }) .answer)
+    on s false = tt
+    on s true = tt
+
+    go : (x y : Bool) (o : Option Store) → Fits (checked b x 2 (checked b y 2 (decoded b o 10 (bringOn b))) .answer)
+    go false y o = tt
+    go true false o = tt
+    go true true none = tt
+    go true true (some s) = on s (leb (storeWeight s) limit)

@@ -1,7 +1,7 @@
 // The functions open to the host for programs in other languages, each answer as one number (crates/wire/specs/Wire.antt). They ask nothing
 // of their caller but what the types say.
 ghost use mathlib.Core.Path.{_≡_};
-ghost use Rattle.language.specs.Calls.{makeCall, runCall, askCall};
+ghost use Rattle.language.specs.Calls.{makeCall, runCall, askCall, bringCall};
 ghost use Rattle.wire.specs.Wire.{wire};
 
 // Makes a server in the state's buffer, with the first password.
@@ -37,5 +37,15 @@ pub extern "C" fn kivzurg_ask(state: &[u8], name: &[u8], variable: &[u8], right:
         × (now (state .exit) ≡ askCall (now (state .entry)) (now (name .entry)) (now (variable .entry)) right .lent) ⌝ }
 {
     let a = ask::right(state, name, variable, right);
+    wire::wire(a)
+}
+
+// Brings a state whose text is in the former lines over into the state's buffer.
+#[no_mangle]
+pub extern "C" fn kivzurg_bring(former: &[u8], state: &mut [u8]) -> u64
+    ensures { λ r. ⌜ (r ≡ wire (bringCall (record { former = now (former .entry); state = now (state .entry) }) .answer))
+        × (record { former = now (former .exit); state = now (state .exit) } ≡ bringCall (record { former = now (former .entry); state = now (state .entry) }) .lent) ⌝ }
+{
+    let a = bring::state(former, state);
     wire::wire(a)
 }

@@ -3,12 +3,12 @@ use mathlib.Core.Path.{_≡_, sym, ap, _∙_}
 use Prim.Native.Nat.{_+_, _*_, _≤_}
 use native.Mathlib.Omega.{arith}
 use mathlib.Core.List.{List, [], _∷_}
-use lib.Dec.{T}
+use lib.Dec.{T, leb}
 use lib.ListN.{length, length-map}
 use lib.Seq.{length-take-le}
 use Rattle.language.specs.Text.{all, sum}
 use Rattle.language.specs.Identifiers.{isName}
-use Rattle.language.specs.State.{Principal, Variable}
+use Rattle.language.specs.State.{Principal, Variable, lastCount}
 use Rattle.language.specs.Weight.{principalWeight, variableWeight, assertionWeight}
 use Rattle.language.specs.Encode.{principalsText, variablesText}
 use Rattle.language.specs.Valid.{validVariable, validPrincipal, validPassword, validValue, validOrder}
@@ -26,8 +26,10 @@ use Rattle.session.proofs.PrincipalsText.{principals-text}
 pub variables-two : (vs : List Variable) → T (all validVariable vs) → 2 * length vs ≤ sum variableWeight vs
 variables-two = at-least 2 validVariable variableWeight (λ w h. omega (arith, name-length (w .name) (both (isName (w .name)) (validValue (w .value)) h .0) .0))
 
-principals-two : (ks : List Principal) → T (all validPrincipal ks) → 2 * length ks ≤ sum principalWeight ks
-principals-two = at-least 2 validPrincipal principalWeight (λ k h. omega (arith, name-weighs (k .name) (both (isName (k .name)) (validPassword (k .password)) h .0)))
+pub principals-twelve : (ks : List Principal) → T (all validPrincipal ks) → 12 * length ks ≤ sum principalWeight ks
+principals-twelve =
+    at-least 12 validPrincipal principalWeight (λ k h.
+    omega (arith, name-weighs (k .name) (three (isName (k .name)) (validPassword (k .password)) (leb (k .count) lastCount) h .0)))
 
 two-principals : (ks : List Principal) → T (validOrder ks) → 2 ≤ length ks
 two-principals [] h = absurd h
@@ -52,7 +54,7 @@ module _ (s : Session) (l : Layout) (b : Slices) (R : Running s l b) where
   locals-is = sym (length-take-le (l .«locals_len») (b .locals) (R .locals-within)) ∙ ap length (R .local-variables .is-text)
 
   -- the texts
-  pub principals-short : 2 * l .«principals_len» ≤ 5 * l .weight + 18
+  pub principals-short : 3 * l .«principals_len» ≤ 4 * l .weight + 27
   principals-short = omega (arith, weighs, principals-is, principals-text (s .store .principals) (shaped .order) (shaped .principals-valid) (shaped .principals-distinct))
 
   pub variables-short : l .«vars_len» + l .«locals_len» ≤ 4 * l .weight
@@ -60,14 +62,14 @@ module _ (s : Session) (l : Layout) (b : Slices) (R : Running s l b) where
       omega (arith, weighs, vars-is, locals-is, variables-bound (s .store .variables) (shaped .variables-valid), variables-bound (s .locals) (locals-valid s l b R))
 
   -- the records
-  pub records-few : 2 * (l .principals + l .vars + l .locals) ≤ l .weight
+  pub records-few : 12 * l .principals + 2 * (l .vars + l .locals) ≤ l .weight
   records-few = omega (
     arith,
     weighs,
     R .principals .counted,
     R .variables .counted,
     R .local-variables .counted,
-    principals-two (s .store .principals) (shaped .principals-valid),
+    principals-twelve (s .store .principals) (shaped .principals-valid),
     variables-two (s .store .variables) (shaped .variables-valid),
     variables-two (s .locals) (locals-valid s l b R),
   )

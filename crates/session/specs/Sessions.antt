@@ -36,8 +36,8 @@ slices principals principal-slots vars variable-slots locals local-slots asserti
 
 -- how large they are: enough for every session that is not too heavy
 pub record Sized (b : Slices) : Type 0 where
-  pub principals-size : length (b .principals) ≡ 20992
-  pub principal-slots-size : length (b .principal-slots) ≡ 4096
+  pub principals-size : length (b .principals) ≡ 11008
+  pub principal-slots-size : length (b .principal-slots) ≡ 1024
   pub vars-size : length (b .vars) ≡ 65536
   pub variable-slots-size : length (b .variable-slots) ≡ 4096
   pub locals-size : length (b .locals) ≡ 32768

@@ -20,14 +20,13 @@ says-both a b old new r n w =
       written = w ∙ (λ i. take-append-seam a rest i ++ (b ++ behind i)) ∙ sym (append-assoc a b (drop (length (a ++ b)) old));
     }
 
--- seven numbers stored one by one
-pub seven : (a b c d e f g : ℕ) (l : List ℕ) → 7 ≤ length l
-    → set (set (set (set (set (set (set l 0 a) 1 b) 2 c) 3 d) 4 e) 5 f) 6 g ≡ (a ∷ b ∷ c ∷ d ∷ e ∷ f ∷ g ∷ []) ++ drop 7 l
-seven a b c d e f g [] h = absurd (omega arith)
-seven a b c d e f g (t ∷ []) h = absurd (omega arith)
-seven a b c d e f g (t ∷ u ∷ []) h = absurd (omega arith)
-seven a b c d e f g (t ∷ u ∷ v ∷ []) h = absurd (omega arith)
-seven a b c d e f g (t ∷ u ∷ v ∷ w ∷ []) h = absurd (omega arith)
-seven a b c d e f g (t ∷ u ∷ v ∷ w ∷ x ∷ []) h = absurd (omega arith)
-seven a b c d e f g (t ∷ u ∷ v ∷ w ∷ x ∷ y ∷ []) h = absurd (omega arith)
-seven a b c d e f g (t ∷ u ∷ v ∷ w ∷ x ∷ y ∷ z ∷ l) h = refl
+-- six numbers stored one by one
+pub six : (a b c d e f : ℕ) (l : List ℕ) → 6 ≤ length l
+    → set (set (set (set (set (set l 0 a) 1 b) 2 c) 3 d) 4 e) 5 f ≡ (a ∷ b ∷ c ∷ d ∷ e ∷ f ∷ []) ++ drop 6 l
+six a b c d e f [] h = absurd (omega arith)
+six a b c d e f (t ∷ []) h = absurd (omega arith)
+six a b c d e f (t ∷ u ∷ []) h = absurd (omega arith)
+six a b c d e f (t ∷ u ∷ v ∷ []) h = absurd (omega arith)
+six a b c d e f (t ∷ u ∷ v ∷ w ∷ []) h = absurd (omega arith)
+six a b c d e f (t ∷ u ∷ v ∷ w ∷ x ∷ []) h = absurd (omega arith)
+six a b c d e f (t ∷ u ∷ v ∷ w ∷ x ∷ y ∷ l) h = refl

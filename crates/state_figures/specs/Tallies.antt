@@ -11,4 +11,4 @@ flag b = if b then 1 else 0
 -- all but the assertions themselves
 abbrev pub tally : Parts → List ℕ
 tally p =
-    flag (p .«open») ∷ p .count ∷ p .weight ∷ p .principals ∷ p .delegator ∷ p .vars ∷ p .asserted ∷ []
+    flag (p .«open») ∷ p .weight ∷ p .principals ∷ p .delegator ∷ p .vars ∷ p .asserted ∷ []

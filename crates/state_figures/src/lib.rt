@@ -31,25 +31,24 @@ fn copy_numbers(dst: &mut [u64], at: usize, src: &[u64])
 
 // The figures of a state whose parts are known, but for its assertions.
 fn head(parts: Parts, out: &mut [u64])
-    requires { ⌜ 7 ≤ length (now out) ⌝ }
-    ensures { λ _. ⌜ now (out .exit) ≡ tally parts ++ drop 7 (now (out .entry)) ⌝ }
+    requires { ⌜ 6 ≤ length (now out) ⌝ }
+    ensures { λ _. ⌜ now (out .exit) ≡ tally parts ++ drop 6 (now (out .entry)) ⌝ }
 {
     out[0] = bit(parts.open);
-    out[1] = parts.count;
-    out[2] = parts.weight as u64;
-    out[3] = parts.principals as u64;
-    out[4] = parts.delegator as u64;
-    out[5] = parts.vars as u64;
-    out[6] = parts.asserted as u64;
+    out[1] = parts.weight as u64;
+    out[2] = parts.principals as u64;
+    out[3] = parts.delegator as u64;
+    out[4] = parts.vars as u64;
+    out[5] = parts.asserted as u64;
 }
 
 // All of them, and the assertions behind.
 pub fn figures(parts: Parts, assertions: &[u64], out: &mut [u64]) -> u64
-    requires { ⌜ (parts .asserted ≤ length (now assertions)) × (length (now assertions) ≤ 2048) × (2055 ≤ length (now out)) ⌝ }
+    requires { ⌜ (parts .asserted ≤ length (now assertions)) × (length (now assertions) ≤ 2048) × (2054 ≤ length (now out)) ⌝ }
     ensures { λ r. ⌜ Says (found 0 (tally parts ++ take (parts .asserted) (now (assertions .entry)))) (now (out .entry)) (now (out .exit)) r ⌝ }
 {
     let n = parts.asserted;
     head(parts, out);
-    copy_numbers(out, 7, &assertions[0..n]);
-    (7 + n) as u64
+    copy_numbers(out, 6, &assertions[0..n]);
+    (6 + n) as u64
 }

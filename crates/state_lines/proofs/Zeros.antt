@@ -8,7 +8,7 @@ use mathlib.Core.List.{[], _∷_, _++_, append-assoc, append-nil}
 use lib.ListN.{length, take, drop, set, replicate, take-append-drop, drop-of-length-le, length-append, length-replicate, replicate-append-replicate}
 use lib.Seq.{length-take-le, set-at, drop-cons}
 use Rattle.language.specs.Text.{Text}
-use Rattle.language.specs.State.{State}
+use Rattle.language.specs.State.{Store}
 use Rattle.language.specs.Encode.{headText, principalsText, delegatorText, variablesText, assertionsText, stateText, bufferSize, padded}
 use Rattle.value_text.specs.Writing.{Written}
 use Rattle.value_text.proofs.Pieces.{rewritten, written-take, written-length}
@@ -48,14 +48,14 @@ pub padded-is : (t a : Text) (r : ℕ) → length a ≡ bufferSize → r ≡ len
 padded-is t a r h e q = ap (λ l. l ++ replicate (length a - r) 0) q ∙ ap (λ n. t ++ replicate (n - r) 0) h ∙ ap (λ n. t ++ replicate (bufferSize - n) 0) e
 
 -- the parts of a state text written one after the other from the start of a buffer, and zeros after them, are the state's buffer
-pub state-padded : (s : State) (before after : Text) (r : ℕ) → length before ≡ bufferSize
+pub state-padded : (s : Store) (before after : Text) (r : ℕ) → length before ≡ bufferSize
     → Written before 0
-    (headText (s .store .isOpen) (s .count)
-    ++ (principalsText (s .store .principals) ++ (delegatorText (s .store .delegator) ++ (variablesText (s .store .variables) ++ assertionsText (s .store .assertions))))) r after
+    (headText (s .isOpen)
+    ++ (principalsText (s .principals) ++ (delegatorText (s .delegator) ++ (variablesText (s .variables) ++ assertionsText (s .assertions))))) r after
     → take r after ++ replicate (length after - r) 0 ≡ padded (stateText s)
 state-padded s before after r h w =
-    let p : Text = headText (s .store .isOpen) (s .count) in
-    let e : p ++ (principalsText (s .store .principals) ++ (delegatorText (s .store .delegator) ++ (variablesText (s .store .variables) ++ assertionsText (s .store .assertions)))) ≡ stateText s =
-    sym (five-joined p (principalsText (s .store .principals)) (delegatorText (s .store .delegator)) (variablesText (s .store .variables)) (assertionsText (s .store .assertions))) in
+    let p : Text = headText (s .isOpen) in
+    let e : p ++ (principalsText (s .principals) ++ (delegatorText (s .delegator) ++ (variablesText (s .variables) ++ assertionsText (s .assertions)))) ≡ stateText s =
+    sym (five-joined p (principalsText (s .principals)) (delegatorText (s .delegator)) (variablesText (s .variables)) (assertionsText (s .assertions))) in
     let x : Written before 0 (stateText s) r after = rewritten e w in
     padded-is (stateText s) after r (written-length x ∙ h) (x .ends ∙ omega arith) (written-take x)

@@ -5,7 +5,7 @@ ghost use mathlib.Core.Path.{_≡_};
 ghost use mathlib.Core.List.{[], _∷_, _++_};
 ghost use Prim.Native.Nat.{ℕ, _+_, _-_, _≤_};
 ghost use lib.ListN.{length, take, replicate};
-ghost use Rattle.language.specs.Text.{bytes, if_then_else_, digits};
+ghost use Rattle.language.specs.Text.{bytes, if_then_else_, digits, decimal};
 ghost use Rattle.language.specs.Encode.{headText, delegatorText};
 ghost use Rattle.value_text.specs.Writing.{Written};
 ghost use Rattle.state_lines.specs.Lines.{assertionLine, Digits, DigitsRoom};
@@ -31,15 +31,21 @@ fn open_letter(is_open: bool) -> u8
     b'C'
 }
 
-// The first line: open or closed, and how many programs were completed.
-pub fn put_header(out: &mut [u8], at: usize, is_open: bool, count: u32) -> usize
-    requires { ⌜ at + 13 ≤ length (now out) ⌝ }
-    ensures { λ r. ⌜ Written (now (out .entry)) at (headText is_open count) r (now (out .exit)) ⌝ }
+// The first line: open or closed.
+pub fn put_header(out: &mut [u8], at: usize, is_open: bool) -> usize
+    requires { ⌜ at + 2 ≤ length (now out) ⌝ }
+    ensures { λ r. ⌜ Written (now (out .entry)) at (headText is_open) r (now (out .exit)) ⌝ }
 {
     let a = put_byte(out, at, open_letter(is_open));
-    let b = put_byte(out, a, b'\t');
-    let c = put_digits(out, b, count);
-    put_byte(out, c, b'\n')
+    put_byte(out, a, b'\n')
+}
+
+// The digits of a principal's count.
+pub fn put_count(out: &mut [u8], at: usize, n: u32) -> usize
+    requires { ⌜ at + length (decimal n) ≤ length (now out) ⌝ }
+    ensures { λ r. ⌜ Written (now (out .entry)) at (decimal n) r (now (out .exit)) ⌝ }
+{
+    put_digits(out, at, n)
 }
 
 // A part of a line, and the byte that ends it.

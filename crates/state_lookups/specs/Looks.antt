@@ -61,6 +61,14 @@ principalOf ks x = principal (position (map (λ k. k .name) ks) x) (named ks x)
 abbrev pub variableOf : List Variable → Name → Look
 variableOf vs x = value (position (map (λ v. v .name) vs) x) (valueIn vs x)
 
+-- a principal's count, by name; no count is the number of a missing record
+abbrev pub counted : Option Principal → ℕ
+counted none = number missing
+counted (some k) = k .count
+
+abbrev pub countOf : List Principal → Name → ℕ
+countOf ks x = counted (named ks x)
+
 -- ---- the parts of a text
 
 pub record SomePrincipals (t : Text) (count : ℕ) (slots : List ℕ) : Type 0 where

@@ -1,7 +1,8 @@
-// Look-ups among the principals or the variables of a text. Each answers with a number, and writes what it found in the lent room.
+// Look-ups among the principals or the variables of a text. Each answers with a number; a text that it found it writes in the lent room.
 use contents::Password;
 use contents::password_of;
 use contents::value_of;
+use counts::count_of;
 use splice::copy;
 use store::index::Found;
 use store::index::find;
@@ -9,11 +10,15 @@ use store::index::nth;
 ghost use mathlib.Core.Path.{_≡_};
 ghost use mathlib.Core.List.{List};
 ghost use Prim.Native.Nat.{_+_, _*_, _≤_, _<_};
+ghost use lib.Dec.{T};
 ghost use lib.ListN.{length};
+ghost use Rattle.language.specs.Text.{all};
 ghost use Rattle.language.specs.State.{Principal, Variable};
+ghost use Rattle.language.specs.Valid.{validPrincipal};
 ghost use Rattle.store.specs.Held.{Principals, Variables};
 ghost use Rattle.store.specs.Rows.{Row, Rows, SomeRows, rowNames};
-ghost use Rattle.state_lookups.specs.Looks.{Says, found, nameOf, principalOf, variableOf, SomePrincipals, SomeVariables};
+ghost use Rattle.counts.specs.Counted.{SomeCounted};
+ghost use Rattle.state_lookups.specs.Looks.{Says, found, nameOf, principalOf, countOf, variableOf, SomePrincipals, SomeVariables};
 
 const MISSING: u64 = 4294967298;
 
@@ -53,6 +58,24 @@ pub fn principal(text: &[u8], slots: &[u32], count: usize, name: &[u8], out: &mu
         Password::Kept { start, end } => write(number, &text[start..end], out),
         Password::Absent => unkept(number),
     }
+}
+
+// The count of a principal, by name.
+pub fn count(text: &[u8], slots: &[u32], count: usize, name: &[u8]) -> u64
+    requires { ⌜ SomeCounted (now text) count (now slots) ⌝ }
+    ensures { λ r. ⌜ ((ks : List Principal) → Principals ks (now (text .entry)) count (now (slots .entry)) → T (all validPrincipal ks) → r ≡ countOf ks (now (name .entry))) ⌝ }
+{
+    let place = find(text, slots, count, name);
+    let Found::At {
+        number,
+        start: _,
+        end: _,
+    } = place
+    else {
+        return MISSING;
+    };
+    let digits = count_of(text, slots, count, number);
+    digits.value
 }
 
 // A variable by name, with its value's text.

@@ -13,11 +13,12 @@ use lib.ListN.{length, getD, length-map, List·getD-map}
 use Rattle.language.specs.Text.{Text, _==_, if_then_else_}
 use Rattle.language.specs.Syntax.{Name}
 use Rattle.language.specs.State.{list, Principal, Variable, named, valueIn}
+use Rattle.language.specs.Former.{Form, current, former}
 use Rattle.language.specs.Encode.{valueText}
 use Rattle.language.proofs.Logic.Tests.{==→≡}
 use Rattle.store.specs.Held.{Variables}
 use Rattle.text.specs.Parts.{part}
-use Rattle.store.specs.Rows.{Row, Rows, noRow, rowAt, rowNames, startOf, position, place, principalRow, variableRow}
+use Rattle.store.specs.Rows.{Row, Rows, noRow, rowAt, rowNames, startOf, position, place, principalRow, rowIn, variableRow}
 use Rattle.store.specs.Contents.{principalAt, variableAt}
 use Rattle.store.specs.declared.index.Found.the-variants.{At, Missing}
 use Rattle.store.proofs.Records.{start-before, start-in, body-part}
@@ -80,9 +81,13 @@ pub variable-names : (vs : List Variable) → rowNames (map variableRow vs) ≡ 
 variable-names [] = refl
 variable-names (v ∷ vs) = ap (λ (l : List Name). v .name ∷ l) (variable-names vs)
 
+pub names-in : (f : Form) (ks : List Principal) → rowNames (map (rowIn f) ks) ≡ map (λ k. k .name) ks
+names-in f [] = refl
+names-in current (k ∷ ks) = ap (λ (l : List Name). k .name ∷ l) (names-in current ks)
+names-in former (k ∷ ks) = ap (λ (l : List Name). k .name ∷ l) (names-in former ks)
+
 pub principal-names : (ks : List Principal) → rowNames (map principalRow ks) ≡ map (λ k. k .name) ks
-principal-names [] = refl
-principal-names (k ∷ ks) = ap (λ (l : List Name). k .name ∷ l) (principal-names ks)
+principal-names = names-in current
 
 -- a value, a principal by the place of its name
 pub value-at : (vs : List Variable) (x : Name) → position (map (λ v. v .name) vs) x < length vs

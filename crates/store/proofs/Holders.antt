@@ -11,15 +11,34 @@ use Rattle.language.specs.Text.{Text, joined, all}
 use Rattle.language.specs.Syntax.{Name}
 use Rattle.language.specs.State.{string, fields, Value, single, list, Principal, Variable, named}
 use Rattle.language.specs.Identifiers.{isName}
-use Rattle.language.specs.Encode.{tab, newline, fieldText, elementText, principalText, variableText, principalsText, variablesText, valueText}
-use Rattle.store.specs.Held.{Held, Principals, Variables, slot, slotsFrom}
-use Rattle.store.specs.Rows.{Row, Rows, SomeRows, rowText, principalRow, variableRow}
+use Rattle.language.specs.Encode.{tab, newline, fieldText, elementText, principalLine, principalText, variableText, principalsText, variablesText, valueText}
+use Rattle.language.specs.Former.{Form, current, former, formerLine, formerPrincipal, principalIn}
+use Rattle.store.specs.Held.{Held, PrincipalsIn, Principals, Variables, slot, slotsFrom}
+use Rattle.store.specs.Rows.{Row, Rows, SomeRows, rowText, passwordLetter, passwordBody, principalRow, formerBody, formerRow, rowIn, variableRow}
 
 -- ---- their texts
 
-pub principal-text : (p : Name) (o : Option Text) → principalText p o ≡ rowText (principalRow (record { name = p; password = o }))
-principal-text p none = refl
-principal-text p (some t) = refl
+pub principal-text : (k : Principal) → principalText k ≡ rowText (principalRow k)
+principal-text k = go (k .password)
+  where
+    go : (o : Option Text) → principalLine (k .name) o (k .count) ≡ rowText (record { letter = passwordLetter o; name = k .name; body = some (passwordBody o (k .count)) })
+    go none = refl
+    go (some t) = refl
+
+former-text : (k : Principal) → formerPrincipal k ≡ rowText (formerRow k)
+former-text k = go (k .password)
+  where
+    go : (o : Option Text) → formerLine (k .name) o ≡ rowText (record { letter = passwordLetter o; name = k .name; body = formerBody o })
+    go none = refl
+    go (some t) = refl
+
+pub text-in : (f : Form) (k : Principal) → principalIn f k ≡ rowText (rowIn f k)
+text-in current = principal-text
+text-in former = former-text
+
+pub name-in : (f : Form) (k : Principal) → k .name ≡ rowIn f k .name
+name-in current k = refl
+name-in former k = refl
 
 -- a variable's text: `V`, the name, and the text of the value
 pub variable-text : (x : Name) (v : Value) → variableText x v ≡ 86 ∷ tab ∷ (x ++ tab ∷ valueText v)
@@ -64,17 +83,24 @@ module _ {A : Type 0} (name : A → Name) (text : A → Text) (row : A → Row) 
   }
 
 pub joined-principals : (ks : List Principal) → principalsText ks ≡ joined rowText (map principalRow ks)
-joined-principals = joined-rows (λ k. k .name) (λ k. principalText (k .name) (k .password)) principalRow (λ k. principal-text (k .name) (k .password)) (λ k. refl)
+joined-principals = joined-rows (λ k. k .name) principalText principalRow principal-text (λ k. refl)
 
 pub joined-variables : (vs : List Variable) → variablesText vs ≡ joined rowText (map variableRow vs)
 joined-variables = joined-rows (λ v. v .name) (λ v. variableText (v .name) (v .value)) variableRow (λ v. variable-text (v .name) (v .value)) (λ v. refl)
 
+module _ (f : Form) (ks : List Principal) (t : Text) (count : ℕ) (slots : List ℕ) where
+  pub rows-in : PrincipalsIn f ks t count slots → Rows (map (rowIn f) ks) t count slots
+  rows-in = as-rows (λ k. k .name) (principalIn f) (rowIn f) (text-in f) (name-in f) ks t count slots
+
+  pub in-rows : Rows (map (rowIn f) ks) t count slots → PrincipalsIn f ks t count slots
+  in-rows = from-rows (λ k. k .name) (principalIn f) (rowIn f) (text-in f) (name-in f) ks t count slots
+
 module _ (ks : List Principal) (t : Text) (count : ℕ) (slots : List ℕ) where
   pub principals-rows : Principals ks t count slots → Rows (map principalRow ks) t count slots
-  principals-rows = as-rows (λ k. k .name) (λ k. principalText (k .name) (k .password)) principalRow (λ k. principal-text (k .name) (k .password)) (λ k. refl) ks t count slots
+  principals-rows = rows-in current ks t count slots
 
   pub rows-principals : Rows (map principalRow ks) t count slots → Principals ks t count slots
-  rows-principals = from-rows (λ k. k .name) (λ k. principalText (k .name) (k .password)) principalRow (λ k. principal-text (k .name) (k .password)) (λ k. refl) ks t count slots
+  rows-principals = in-rows current ks t count slots
 
   pub some-principals : Principals ks t count slots → SomeRows t count slots
   some-principals H = record { rows = map principalRow ks; held = principals-rows H }

@@ -6,7 +6,7 @@ use lib.ListN.{getD}
 use Rattle.language.specs.State.{list, Principal, Variable}
 
 abbrev pub principalAt : List Principal → ℕ → Principal
-principalAt ks k = getD ks k (record { name = []; password = none })
+principalAt ks k = getD ks k (record { name = []; password = none; count = 0 })
 
 abbrev pub variableAt : List Variable → ℕ → Variable
 variableAt vs k = getD vs k (record { name = []; value = list [] })

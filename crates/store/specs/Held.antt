@@ -1,14 +1,15 @@
 -- Named records (principals or variables) that stand one after the other in a text, and the slots by which one is found.
 use mathlib.Core.Path.{_≡_}
-use Prim.Native.Nat.{ℕ, _+_, _*_, _-_, _%_, _≤_}
+use Prim.Native.Nat.{ℕ, _+_, _*_, _%_, _≤_}
 use mathlib.Core.List.{List, [], _∷_}
 use lib.Dec.{T}
-use lib.ListN.{length, take, drop}
+use lib.ListN.{length, take}
 use Rattle.language.specs.Text.{Text, joined, all}
 use Rattle.language.specs.Syntax.{Name}
 use Rattle.language.specs.Identifiers.{isName}
 use Rattle.language.specs.State.{Principal, Variable}
-use Rattle.language.specs.Encode.{principalText, variableText}
+use Rattle.language.specs.Encode.{variableText}
+use Rattle.language.specs.Former.{Form, current, principalIn}
 
 -- a number computed from the bytes of a name: equal names have equal hashes
 abbrev pub hashFrom : ℕ → Text → ℕ
@@ -35,8 +36,12 @@ pub record Held {A : Type 0} (name : A → Name) (text : A → Text) (rows : Lis
   -- a place in the text fits a slot
   pub small : length t ≤ 65536
 
+-- in the lines of now or in the former ones; a run has the former ones only where it brings a state over
+abbrev pub PrincipalsIn : Form → List Principal → Text → ℕ → List ℕ → Type 0
+PrincipalsIn f ks = Held (λ k. k .name) (principalIn f) ks
+
 abbrev pub Principals : List Principal → Text → ℕ → List ℕ → Type 0
-Principals ks = Held (λ k. k .name) (λ k. principalText (k .name) (k .password)) ks
+Principals = PrincipalsIn current
 
 abbrev pub Variables : List Variable → Text → ℕ → List ℕ → Type 0
 Variables vs = Held (λ v. v .name) (λ v. variableText (v .name) (v .value)) vs

@@ -6,10 +6,11 @@ use mathlib.Core.Option.{Option, none, some}
 use mathlib.Core.List.{List, [], _∷_, _++_, map}
 use lib.Dec.{ltb}
 use lib.ListN.{length, take, getD}
-use Rattle.language.specs.Text.{Text, joined, if_then_else_, _==_}
+use Rattle.language.specs.Text.{Text, joined, decimal, if_then_else_, _==_}
 use Rattle.language.specs.Syntax.{Name}
 use Rattle.language.specs.State.{Principal, Variable}
 use Rattle.language.specs.Encode.{tab, newline, valueText}
+use Rattle.language.specs.Former.{Form, current, former}
 use Rattle.store.specs.Held.{Held}
 use Rattle.store.specs.declared.index.Found.{Found}
 use Rattle.store.specs.declared.index.Found.the-variants.{At, Missing}
@@ -42,12 +43,27 @@ abbrev pub passwordLetter : Option Text → ℕ
 passwordLetter none = 78
 passwordLetter (some t) = 80
 
-abbrev pub passwordBody : Option Text → Option Text
-passwordBody none = none
-passwordBody (some t) = some (t ++ (newline ∷ []))
+-- a count ends its line
+abbrev pub countText : ℕ → Text
+countText n = decimal n ++ (newline ∷ [])
+
+abbrev pub passwordBody : Option Text → ℕ → Text
+passwordBody none n = countText n
+passwordBody (some t) n = t ++ (tab ∷ countText n)
 
 abbrev pub principalRow : Principal → Row
-principalRow k = record { letter = passwordLetter (k .password); name = k .name; body = passwordBody (k .password) }
+principalRow k = record { letter = passwordLetter (k .password); name = k .name; body = some (passwordBody (k .password) (k .count)) }
+
+abbrev pub formerBody : Option Text → Option Text
+formerBody none = none
+formerBody (some t) = some (t ++ (newline ∷ []))
+
+abbrev pub formerRow : Principal → Row
+formerRow k = record { letter = passwordLetter (k .password); name = k .name; body = formerBody (k .password) }
+
+abbrev pub rowIn : Form → Principal → Row
+rowIn current = principalRow
+rowIn former = formerRow
 
 abbrev pub variableRow : Variable → Row
 variableRow v = record { letter = 86; name = v .name; body = some (valueText (v .value)) }

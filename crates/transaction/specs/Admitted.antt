@@ -9,4 +9,4 @@ use Rattle.admission.specs.Admissions.{Sent}
 -- its login on a checked state is right: the sender's number, and where the commands start
 pub record Admitted (t : Text) (slots-p slots-v assertions : List ℕ) (p : Parts) (text : Text) (sender at : ℕ) : Type 0 where
   pub understood : Understood t slots-p slots-v assertions p
-  pub sent-by : Sent (understood .state .store) text sender at
+  pub sent-by : Sent (understood .state) text sender at

@@ -32,13 +32,13 @@ fn session(
 ) -> Answer
     requires { ⌜ Admitted (now state) (now «principal_slots») (now «variable_slots») (now assertions) parts (now program) sender at ⌝ }
     requires { ⌜ (length (now state) ≡ 65536) × (length (now work) ≡ 65536) × (length (now output) ≡ 65536) ⌝ }
-    requires { ⌜ (length (now «principal_slots») ≡ 4096) × (length (now «variable_slots») ≡ 4096) × (length (now assertions) ≡ 2048) ⌝ }
+    requires { ⌜ (length (now «principal_slots») ≡ 1024) × (length (now «variable_slots») ≡ 4096) × (length (now assertions) ≡ 2048) ⌝ }
     ensures { λ r. ⌜ ((a : Admitted (now (state .entry)) (now («principal_slots» .entry)) (now («variable_slots» .entry)) (now (assertions .entry)) parts (now (program .entry)) sender at)
         → replied r (record { state = now (state .exit); work = now (work .exit); output = now (output .exit) })
-        ≡ endReply (record { state = now (state .entry); work = now (work .entry); output = now (output .entry) }) (a .understood .state)
-        (Run.run (a .understood .state .store) (parse (now (program .entry))))) ⌝ }
+        ≡ endReply (record { state = now (state .entry); work = now (work .entry); output = now (output .entry) })
+        (Run.run (a .understood .state) (parse (now (program .entry))))) ⌝ }
 {
-    let mut principals = [0u8; 20992];
+    let mut principals = [0u8; 11008];
     let mut locals = [0u8; 32768];
     let mut local_slots = [0u32; 4096];
     let start = begin(
@@ -79,7 +79,6 @@ fn session(
         &locals,
         &local_slots,
         assertions,
-        parts.count,
         state,
         output,
         parts.used,
@@ -99,11 +98,11 @@ pub fn start(
 ) -> Answer
     requires { ⌜ Understood (now state) (now «principal_slots») (now «variable_slots») (now assertions) parts ⌝ }
     requires { ⌜ (length (now state) ≡ 65536) × (length (now work) ≡ 65536) × (length (now output) ≡ 65536) ⌝ }
-    requires { ⌜ (length (now «principal_slots») ≡ 4096) × (length (now «variable_slots») ≡ 4096) × (length (now assertions) ≡ 2048) ⌝ }
+    requires { ⌜ (length (now «principal_slots») ≡ 1024) × (length (now «variable_slots») ≡ 4096) × (length (now assertions) ≡ 2048) ⌝ }
     ensures { λ r. ⌜ ((u : Understood (now (state .entry)) (now («principal_slots» .entry)) (now («variable_slots» .entry)) (now (assertions .entry)) parts)
         → replied r (record { state = now (state .exit); work = now (work .exit); output = now (output .exit) })
-        ≡ endReply (record { state = now (state .entry); work = now (work .entry); output = now (output .entry) }) (u .state)
-        (Run.run (u .state .store) (parse (now (program .entry))))) ⌝ }
+        ≡ endReply (record { state = now (state .entry); work = now (work .entry); output = now (output .entry) })
+        (Run.run (u .state) (parse (now (program .entry))))) ⌝ }
 {
     let admission = admit(state, principal_slots, parts, program);
     match admission {

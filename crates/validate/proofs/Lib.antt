@@ -2,3 +2,4 @@
 pub mod Vars
 pub mod Whole
 pub mod Verdicts
+pub mod Heads

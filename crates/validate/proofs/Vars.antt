@@ -25,7 +25,7 @@ use Rattle.record_fields.specs.Entering.{Entering, Entered}
 use Rattle.record_fields.proofs.Opening.{byte-here}
 use Rattle.record_fields.proofs.Follow.{stuck, finish}
 use Rattle.records.proofs.Variables.{textOf}
-use Rattle.record_fields.proofs.Indexing.{Going, going-start, going-held, going-rows, entering, go-on, again, light, weight-low, ahead}
+use Rattle.record_fields.proofs.Indexing.{Going, going-start, going-held, going-rows, room, entering, go-on, again, light, weight-low, ahead}
 use Rattle.validate.specs.Shared.{offVariable, goodVariables}
 use Rattle.principal_lines.specs.Listed.{Listed}
 
@@ -120,8 +120,11 @@ module _ (t : Text) (at w : ℕ) (slots : List ℕ) (i n now : ℕ) (G : Sharing
       pub variable-light : after ≤ 8192
       variable-light = light (λ (v : Variable). v .name) textOf validVariable variableWeight offElement offVariable off-element clear-row row-on named two variableRow row-text (λ v. refl) t at w slots i n now G m e after E
 
+      left : length slots ≡ 4096 → n < length slots
+      left l = room (λ (v : Variable). v .name) textOf validVariable variableWeight offElement offVariable off-element clear-row row-on named two variableRow row-text (λ v. refl) t at w slots i n now G m e after E (omega arith)
+
       pub variable-entering : length t ≤ 65536 → length slots ≡ 4096 → Entering t at i m n slots
-      variable-entering small l = entering (λ (v : Variable). v .name) textOf validVariable variableWeight offElement offVariable off-element clear-row row-on named two variableRow row-text (λ v. refl) t at w slots i n now G m e after E small (omega arith)
+      variable-entering small l = entering (λ (v : Variable). v .name) textOf validVariable variableWeight offElement offVariable off-element clear-row row-on named two variableRow row-text (λ v. refl) t at w slots i n now G m e after E small (left l)
 
       module _ (small : length t ≤ 65536) (slots' : List ℕ) where
         pub variable-again : ((rows : List Row) → Rows rows (part t at i) n slots → Entered rows (part t (i + 2) m) (i - at) n slots slots' false) → NoVariables
@@ -131,7 +134,7 @@ module _ (t : Text) (at w : ℕ) (slots : List ℕ) (i n now : ℕ) (G : Sharing
 
         pub variable-next : length slots ≡ 4096 → ((rows : List Row) → Rows rows (part t at i) n slots → Entered rows (part t (i + 2) m) (i - at) n slots slots' true) → Sharing t at w slots' e (n + 1) after
         variable-next l f =
-            go-on (λ (v : Variable). v .name) textOf validVariable variableWeight offElement offVariable off-element clear-row row-on named two variableRow row-text (λ v. refl) t at w slots i n now G m e after E on (omega arith) slots'
+            go-on (λ (v : Variable). v .name) textOf validVariable variableWeight offElement offVariable off-element clear-row row-on named two variableRow row-text (λ v. refl) t at w slots i n now G m e after E on (left l) slots'
             (f _ (going-rows (λ (v : Variable). v .name) textOf validVariable variableWeight offElement offVariable off-element clear-row row-on named two variableRow row-text (λ v. refl) t at w slots i n now G small))
 
 -- ---- a part of the slots, lent and given back

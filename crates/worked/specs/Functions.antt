@@ -6,7 +6,7 @@ use mathlib.Core.Option.{none}
 use mathlib.Core.List.{List, [], _∷_, _++_, map}
 use lib.ListN.{replicate}
 use Rattle.language.specs.Text.{Text, bytes, joined}
-use Rattle.language.specs.State.{State}
+use Rattle.language.specs.State.{Store}
 use Rattle.language.specs.Weight.{storeWeight}
 use Rattle.language.specs.Programs.{parse}
 use Rattle.worked.specs.Sessions.{page, runs, new, after-session, admin-sends, rosa-sends, letters}
@@ -32,7 +32,7 @@ pub record Sent : Type 0 where
   pub prints : Text
 
 -- what each program of a table prints when it is run in the same state
-abbrev pub printed-from : State → List Sent → List Text
+abbrev pub printed-from : Store → List Sent → List Text
 printed-from s cs = map (λ c. runs s (c .program ∷ []) .printed) cs
 
 abbrev pub expected-of : List Sent → List Text
@@ -49,7 +49,7 @@ songs-program =
     ∷ "set delegation word admin read -> anyone" ∷ "set delegation card admin read -> anyone"
     ∷ "set delegation songs admin read -> anyone" ∷ "set delegation songs admin write -> anyone" ∷ "return \"ok\"" ∷ [])
 
-abbrev pub after-songs : State
+abbrev pub after-songs : Store
 after-songs = runs new (songs-program ∷ []) .state
 
 pub songs-printed : runs new (songs-program ∷ []) .printed
@@ -59,7 +59,7 @@ pub songs-printed : runs new (songs-program ∷ []) .printed
     ∷ "{\"status\":\"SET_DELEGATION\"}" ∷ "{\"status\":\"SET_DELEGATION\"}" ∷ "{\"status\":\"RETURNING\",\"output\":\"ok\"}" ∷ [])
 songs-printed = refl
 
-pub their-weights : map (λ (s : State). storeWeight (s .store)) (new ∷ after-session ∷ after-songs ∷ []) ≡ 8 ∷ 52 ∷ 151 ∷ []
+pub their-weights : map storeWeight (new ∷ after-session ∷ after-songs ∷ []) ≡ 28 ∷ 82 ∷ 181 ∷ []
 their-weights = refl
 
 -- ---- on a new server
@@ -319,8 +319,8 @@ limit-cases =
     }
     ∷ record {
       what = "at the limit of the state, the returned value is no part of it";
-      program = admin-writes ((bytes "set x = \"" ++ letters 8182 ++ bytes "\"") ∷ bytes "return tolower(x)" ∷ []);
-      prints = lined (bytes "{\"status\":\"SET\"}" ∷ (bytes "{\"status\":\"RETURNING\",\"output\":\"" ++ letters 8182 ++ bytes "\"}") ∷ []);
+      program = admin-writes ((bytes "set x = \"" ++ letters 8162 ++ bytes "\"") ∷ bytes "return tolower(x)" ∷ []);
+      prints = lined (bytes "{\"status\":\"SET\"}" ∷ (bytes "{\"status\":\"RETURNING\",\"output\":\"" ++ letters 8162 ++ bytes "\"}") ∷ []);
     }
     ∷ record {
       what = "the state would weigh too much after the set: FULL";

@@ -17,9 +17,9 @@ use Rattle.worked.specs.Texts.{accepted}
 
 -- the state text that weighs 8,192 is well formed, and the one that weighs 8,193 is not
 abbrev pub weighing : ℕ → Text
-weighing n = bytes "O\t1\nP\tadmin\tdesk\nN\tanyone\nD\tanyone\nV\tx\tS\t" ++ letters n ++ bytes "\n"
+weighing n = bytes "O\nP\tadmin\tdesk\t1\nN\tanyone\t0\nD\tanyone\nV\tx\tS\t" ++ letters n ++ bytes "\n"
 
-pub weights : map (λ n. accepted (weighing n)) (8182 ∷ 8183 ∷ []) ≡ true ∷ false ∷ []
+pub weights : map (λ n. accepted (weighing n)) (8162 ∷ 8163 ∷ []) ≡ true ∷ false ∷ []
 weights = refl
 
 -- ---- lengths
@@ -40,7 +40,7 @@ programs = refl
 pub their-lengths : map (λ n. length (programOf n)) (16333 ∷ 16334 ∷ []) ≡ 16384 ∷ 16385 ∷ []
 their-lengths = refl
 
--- ---- the count stays at its last value
+-- ---- a count stays at its last value
 
 pub counts : map counted (0 ∷ 4294967294 ∷ 4294967295 ∷ []) ≡ 1 ∷ 4294967295 ∷ 4294967295 ∷ []
 counts = refl
@@ -67,7 +67,7 @@ pub make-numbers : map (λ (c : Text × Text). makeCall (c .0) (c .1) .answer) (
 make-numbers = refl
 
 -- the question's numbers, where the state is well formed
-pub question-numbers : map (λ (c : String × String × ℕ). question (after-session .store) (bytes (c .0)) (bytes (c .1)) (rightByte (c .2)))
+pub question-numbers : map (λ (c : String × String × ℕ). question after-session (bytes (c .0)) (bytes (c .1)) (rightByte (c .2)))
     (("nobody", "nosuch", 0) ∷ ("rosa", "nosuch", 114) ∷ ("rosa", "queue", 120) ∷ ("rosa", "queue", 97) ∷ ("rosa", "queue", 114) ∷ [])
     ≡ wrong 6 ∷ wrong 7 ∷ wrong 7 ∷ yes 1 ∷ no ∷ []
 question-numbers = refl

@@ -5,7 +5,7 @@ use mathlib.Core.Option.{Option, none, some}
 use mathlib.Core.List.{List, [], _∷_, _++_}
 use lib.ListN.{replicate}
 use Rattle.language.specs.Text.{Text, bytes, joined, decimal}
-use Rattle.language.specs.State.{State, fresh}
+use Rattle.language.specs.State.{Store, fresh}
 use Rattle.language.specs.Programs.{parse}
 use Rattle.language.specs.Run.{End, run, output, left}
 
@@ -16,13 +16,13 @@ page ls = joined (λ l. bytes l ++ (10 ∷ [])) ls
 -- what is printed, and the state after
 pub record Done : Type 0 where
   pub printed : Text
-  pub state : State
+  pub state : Store
 
 -- programs from their bytes, one after the other
-abbrev pub runs : State → List Text → Done
+abbrev pub runs : Store → List Text → Done
 runs s [] = record { printed = []; state = s }
 runs s (t ∷ rest) =
-    let e : End = run (s .store) (parse t) in
+    let e : End = run s (parse t) in
     let d : Done = runs (left s e) rest in
     record { printed = output e ++ d .printed; state = d .state }
 
@@ -33,8 +33,8 @@ admin-sends ls = page ("as principal admin password \"desk\" do" ∷ []) ++ page
 abbrev pub rosa-sends : List String → Text
 rosa-sends ls = page ("as principal rosa password \"r1\" do" ∷ []) ++ page ls ++ page ("***" ∷ [])
 
-abbrev pub new : State
-new = record { count = 0; store = fresh (bytes "desk") }
+abbrev pub new : Store
+new = fresh (bytes "desk")
 
 -- the session of document 01
 abbrev pub session : List Text
@@ -43,7 +43,7 @@ session =
     ∷ rosa-sends ("append to queue with {song=\"Blue Moon\",key=\"F\"}" ∷ "return \"ok\"" ∷ [])
     ∷ []
 
-abbrev pub after-session : State
+abbrev pub after-session : Store
 after-session = runs new session .state
 
 -- what programs sent after the session print
@@ -64,6 +64,6 @@ pub record Case : Type 0 where
 abbrev pub letters : ℕ → Text
 letters n = replicate n 97
 
--- a program of admin's that sets x to n letters: a server just made weighs 8, and `x` adds 2 and its text
+-- a program of admin's that sets x to n letters: a server just made weighs 28, and `x` adds 2 and its text
 abbrev pub setting : ℕ → Text
 setting n = bytes "as principal admin password \"desk\" do\nset x = \"" ++ letters n ++ bytes "\"\nreturn \"\"\n***\n"

@@ -1,4 +1,4 @@
--- The starred cases of document 01, "Desk sessions": one table of the definitions' values, and one theorem.
+-- The starred cases of document 01, "Desk sessions", as request M-101 moved them: one table of the definitions' values, and one theorem.
 -- Programs are given by their bytes. All but the last two start from the session's own state.
 use mathlib.Core.Path.{_≡_, refl}
 use mathlib.Core.List.{List, [], _∷_, map}
@@ -20,10 +20,10 @@ starred =
     ∷ record {
       what = "the session's state text";
       gives = stateText after-session;
-      expected = page ("O\t2" ∷ "P\tadmin\tdesk" ∷ "N\tanyone" ∷ "P\trosa\tr1" ∷ "D\tanyone" ∷ "V\tqueue\tL" ∷ "R"
+      expected = page ("O" ∷ "P\tadmin\tdesk\t1" ∷ "N\tanyone\t0" ∷ "P\trosa\tr1\t1" ∷ "D\tanyone" ∷ "V\tqueue\tL" ∷ "R"
           ∷ "F\tsong\tBlue Moon" ∷ "F\tkey\tF" ∷ "A\tqueue\tadmin\ta\trosa" ∷ []);
     }
-    ∷ record { what = "its weight"; gives = decimal (storeWeight (after-session .store)); expected = bytes "52" }
+    ∷ record { what = "its weight"; gives = decimal (storeWeight after-session); expected = bytes "82" }
     ∷ record { what = "rosa returns queue"; gives = answer (rosa-sends ("return queue" ∷ []) ∷ []); expected = page ("{\"status\":\"DENIED\"}" ∷ []) }
     ∷ record { what = "rosa returns nosuch"; gives = answer (rosa-sends ("return nosuch" ∷ []) ∷ []); expected = page ("{\"status\":\"FAILED\"}" ∷ []) }
     ∷ record {
@@ -39,13 +39,13 @@ starred =
     }
     ∷ record {
       what = "and four assertions";
-      gives = assertionsText (runs after-session (rosa-sends ("set own = \"a\"" ∷ "return \"\"" ∷ []) ∷ []) .state .store .assertions);
+      gives = assertionsText (runs after-session (rosa-sends ("set own = \"a\"" ∷ "return \"\"" ∷ []) ∷ []) .state .assertions);
       expected = page ("A\tqueue\tadmin\ta\trosa" ∷ "A\town\tadmin\tr\trosa" ∷ "A\town\tadmin\tw\trosa" ∷ "A\town\tadmin\ta\trosa" ∷ "A\town\tadmin\td\trosa" ∷ []);
     }
     ∷ record {
       what = "admin delegates read on queue to anyone: the length of rosa's chain";
       gives = lengthText (chainLength
-          (runs after-session (admin-sends ("set delegation queue admin read -> anyone" ∷ "return \"\"" ∷ []) ∷ []) .state .store)
+          (runs after-session (admin-sends ("set delegation queue admin read -> anyone" ∷ "return \"\"" ∷ []) ∷ []) .state)
           read (bytes "queue") (bytes "rosa"));
       expected = bytes "2";
     }
@@ -62,11 +62,11 @@ starred =
     }
     ∷ record { what = "the empty program"; gives = answer ([] ∷ []); expected = page ("{\"status\":\"FAILED\"}" ∷ []) }
     ∷ record {
-      what = "x of 8,182 characters, on a server just made";
-      gives = runs new (setting 8182 ∷ []) .printed;
+      what = "x of 8,162 characters, on a server just made";
+      gives = runs new (setting 8162 ∷ []) .printed;
       expected = page ("{\"status\":\"SET\"}" ∷ "{\"status\":\"RETURNING\",\"output\":\"\"}" ∷ []);
     }
-    ∷ record { what = "of 8,183"; gives = runs new (setting 8183 ∷ []) .printed; expected = page ("{\"status\":\"FULL\"}" ∷ []) }
+    ∷ record { what = "of 8,163"; gives = runs new (setting 8163 ∷ []) .printed; expected = page ("{\"status\":\"FULL\"}" ∷ []) }
     ∷ []
 
 pub starred-cases : map (λ c. c .gives) starred ≡ map (λ c. c .expected) starred

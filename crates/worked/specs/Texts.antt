@@ -3,10 +3,10 @@ use mathlib.Core.Path.{_≡_, refl}
 use Prim.Native.String.{String}
 use mathlib.Core.Bool.{Bool, true, false, _&&_}
 use mathlib.Core.List.{List, [], _∷_, _++_, map}
-use Rattle.language.specs.Text.{Text, bytes, present, _>>=_, given, _==_}
-use Rattle.language.specs.Valid.{valid}
-use Rattle.language.specs.Encode.{stateText, padded}
-use Rattle.language.specs.Decode.{readState, decode}
+use Rattle.language.specs.Text.{Text, bytes, parts, present, _>>=_, given, _==_}
+use Rattle.language.specs.Valid.{validStore}
+use Rattle.language.specs.Encode.{newline, stateText, padded}
+use Rattle.language.specs.Decode.{readLines, decode}
 use Rattle.language.specs.Programs.{parse}
 use Rattle.worked.specs.Sessions.{page}
 
@@ -19,28 +19,28 @@ pub record Judged : Type 0 where
 
 -- as `decode` of the buffer, with the zero bytes left out to spare the time
 abbrev pub accepted : Text → Bool
-accepted t = present (readState t >>= λ s. given (valid s && (stateText s == t)))
+accepted t = present (readLines (parts newline t) >>= λ b. given (validStore (b .store) && (stateText (b .store) == t)))
 
 abbrev pub wellFormed : List String → Bool
 wellFormed ls = accepted (page ls)
 
 -- lines after those of admin, anyone and the delegator
 abbrev pub below : List String → Bool
-below ls = wellFormed (("O\t2" ∷ "P\tadmin\tdesk" ∷ "N\tanyone" ∷ "D\tanyone" ∷ []) ++ ls)
+below ls = wellFormed (("O" ∷ "P\tadmin\tdesk\t2" ∷ "N\tanyone\t0" ∷ "D\tanyone" ∷ []) ++ ls)
 
 abbrev pub stateTexts : List Judged
 stateTexts =
     record { what = "a fresh server's"; gives = below []; expected = true }
-    ∷ record { what = "a closed one"; gives = wellFormed ("C\t0" ∷ "P\tadmin\t" ∷ "P\tanyone\tx" ∷ "D\tadmin" ∷ []); expected = true }
-    ∷ record { what = "a leading zero in the count"; gives = wellFormed ("O\t02" ∷ "P\tadmin\tdesk" ∷ "N\tanyone" ∷ "D\tanyone" ∷ []); expected = false }
-    ∷ record { what = "the last count"; gives = wellFormed ("O\t4294967295" ∷ "P\tadmin\tdesk" ∷ "N\tanyone" ∷ "D\tanyone" ∷ []); expected = true }
-    ∷ record { what = "a count above the last"; gives = wellFormed ("O\t4294967296" ∷ "P\tadmin\tdesk" ∷ "N\tanyone" ∷ "D\tanyone" ∷ []); expected = false }
-    ∷ record { what = "anyone before admin"; gives = wellFormed ("O\t2" ∷ "N\tanyone" ∷ "P\tadmin\tdesk" ∷ "D\tanyone" ∷ []); expected = false }
-    ∷ record { what = "admin without a password"; gives = wellFormed ("O\t2" ∷ "N\tadmin" ∷ "N\tanyone" ∷ "D\tanyone" ∷ []); expected = false }
-    ∷ record { what = "another without a password"; gives = wellFormed ("O\t2" ∷ "P\tadmin\tdesk" ∷ "N\tanyone" ∷ "N\trosa" ∷ "D\tanyone" ∷ []); expected = false }
-    ∷ record { what = "the delegator above a principal"; gives = wellFormed ("O\t2" ∷ "P\tadmin\tdesk" ∷ "N\tanyone" ∷ "D\tanyone" ∷ "P\trosa\tr1" ∷ []); expected = false }
-    ∷ record { what = "no delegator"; gives = wellFormed ("O\t2" ∷ "P\tadmin\tdesk" ∷ "N\tanyone" ∷ []); expected = false }
-    ∷ record { what = "an unknown delegator"; gives = wellFormed ("O\t2" ∷ "P\tadmin\tdesk" ∷ "N\tanyone" ∷ "D\trosa" ∷ []); expected = false }
+    ∷ record { what = "a closed one"; gives = wellFormed ("C" ∷ "P\tadmin\t\t0" ∷ "P\tanyone\tx\t7" ∷ "D\tadmin" ∷ []); expected = true }
+    ∷ record { what = "a leading zero in the count"; gives = wellFormed ("O" ∷ "P\tadmin\tdesk\t02" ∷ "N\tanyone\t0" ∷ "D\tanyone" ∷ []); expected = false }
+    ∷ record { what = "the last count"; gives = wellFormed ("O" ∷ "P\tadmin\tdesk\t4294967295" ∷ "N\tanyone\t0" ∷ "D\tanyone" ∷ []); expected = true }
+    ∷ record { what = "a count above the last"; gives = wellFormed ("O" ∷ "P\tadmin\tdesk\t4294967296" ∷ "N\tanyone\t0" ∷ "D\tanyone" ∷ []); expected = false }
+    ∷ record { what = "anyone before admin"; gives = wellFormed ("O" ∷ "N\tanyone\t0" ∷ "P\tadmin\tdesk\t2" ∷ "D\tanyone" ∷ []); expected = false }
+    ∷ record { what = "admin without a password"; gives = wellFormed ("O" ∷ "N\tadmin\t0" ∷ "N\tanyone\t0" ∷ "D\tanyone" ∷ []); expected = false }
+    ∷ record { what = "another without a password"; gives = wellFormed ("O" ∷ "P\tadmin\tdesk\t2" ∷ "N\tanyone\t0" ∷ "N\trosa\t0" ∷ "D\tanyone" ∷ []); expected = false }
+    ∷ record { what = "the delegator above a principal"; gives = wellFormed ("O" ∷ "P\tadmin\tdesk\t2" ∷ "N\tanyone\t0" ∷ "D\tanyone" ∷ "P\trosa\tr1\t0" ∷ []); expected = false }
+    ∷ record { what = "no delegator"; gives = wellFormed ("O" ∷ "P\tadmin\tdesk\t2" ∷ "N\tanyone\t0" ∷ []); expected = false }
+    ∷ record { what = "an unknown delegator"; gives = wellFormed ("O" ∷ "P\tadmin\tdesk\t2" ∷ "N\tanyone\t0" ∷ "D\trosa" ∷ []); expected = false }
     ∷ record { what = "an assertion above a variable"; gives = below ("V\tx\tS\t" ∷ "A\tx\tadmin\tr\tanyone" ∷ "V\ty\tS\t" ∷ []); expected = false }
     ∷ record { what = "an assertion"; gives = below ("V\tx\tS\t" ∷ "A\tx\tadmin\tr\tanyone" ∷ []); expected = true }
     ∷ record { what = "the same twice"; gives = below ("V\tx\tS\t" ∷ "A\tx\tadmin\tr\tanyone" ∷ "A\tx\tadmin\tr\tanyone" ∷ []); expected = false }
@@ -59,15 +59,15 @@ stateTexts =
     ∷ record { what = "a quote in a text"; gives = below ("V\tx\tS\ta\"b" ∷ []); expected = false }
     ∷ record { what = "an unknown line"; gives = below ("X\tx" ∷ []); expected = false }
     ∷ record { what = "a blank line"; gives = below ("" ∷ []); expected = false }
-    ∷ record { what = "no last newline"; gives = accepted (bytes "O\t2\nP\tadmin\tdesk\nN\tanyone\nD\tanyone"); expected = false }
+    ∷ record { what = "no last newline"; gives = accepted (bytes "O\nP\tadmin\tdesk\t2\nN\tanyone\t0\nD\tanyone"); expected = false }
     ∷ []
 
 pub state-texts-right : map (λ c. c .gives) stateTexts ≡ map (λ c. c .expected) stateTexts
 state-texts-right = refl
 
 -- whole buffers: a text and zero bytes, and a text with another byte behind it
-pub buffers-right : map (λ t. present (decode (padded t))) (page ("O\t2" ∷ "P\tadmin\tdesk" ∷ "N\tanyone" ∷ "D\tanyone" ∷ [])
-    ∷ (page ("O\t2" ∷ "P\tadmin\tdesk" ∷ "N\tanyone" ∷ "D\tanyone" ∷ []) ++ (0 ∷ 1 ∷ [])) ∷ [])
+pub buffers-right : map (λ t. present (decode (padded t))) (page ("O" ∷ "P\tadmin\tdesk\t2" ∷ "N\tanyone\t0" ∷ "D\tanyone" ∷ [])
+    ∷ (page ("O" ∷ "P\tadmin\tdesk\t2" ∷ "N\tanyone\t0" ∷ "D\tanyone" ∷ []) ++ (0 ∷ 1 ∷ [])) ∷ [])
     ≡ true ∷ false ∷ []
 buffers-right = refl
 

@@ -25,7 +25,7 @@ both-withdrawn = admin-sends ("delete delegation x a read -> b" ∷ "return \"\"
 
 -- the length of c's chain for read on x after some programs
 abbrev pub chainTo : List Text → Text
-chainTo ts = lengthText (chainLength (runs after-session ts .state .store) read (bytes "x") (bytes "c"))
+chainTo ts = lengthText (chainLength (runs after-session ts .state) read (bytes "x") (bytes "c"))
 
 abbrev pub turns : List Case
 turns =
@@ -80,7 +80,7 @@ turns =
     }
     ∷ record {
       what = "invents a chain length: where there is none";
-      gives = lengthText (chainLength (after-session .store) append (bytes "queue") (bytes "anyone"));
+      gives = lengthText (chainLength after-session append (bytes "queue") (bytes "anyone"));
       expected = bytes "no";
     }
     ∷ []

@@ -5,7 +5,7 @@ use native.Mathlib.Omega.{arith}
 use mathlib.Core.List.{List}
 use Prim.Native.Nat.{ℕ}
 use Rattle.language.specs.Grammar.{Opening}
-use Rattle.language.specs.State.{State}
+use Rattle.language.specs.State.{Store}
 use Rattle.language.specs.Programs.{parse}
 use Rattle.language.specs.Run.{run}
 use Rattle.text.specs.Meaning.{part}
@@ -20,7 +20,7 @@ use borrow.Author.Needs.{needs}
 use Rattle.admission.proofs.admit.Statement.{statement}
 use Rattle.admission.proofs.admit.Tie as tie
 
-abbrev Held : tie.Start → List ℕ → List ℕ → State → Type 0
+abbrev Held : tie.Start → List ℕ → List ℕ → Store → Type 0
 Held c v k s = let a = c .args in Represents (a .state .now) (a .principal-slots .now) v k (a .parts) s
 
 -- the function's start, as these places see it
@@ -49,11 +49,11 @@ parsed c =
     let start = start-after-head c in
     c .before .before .login .ensures .0 ∙ ap (headMeant (start .args .program .now)) (c .head .given .1)
 
-answered : (c : tie.After-log-in) (v k : List ℕ) (s : State) → Held (start-after-log-in c) v k s → (r : Login) → c .log-in .result ≡ r
-    → LoginMeant r (s .store) (opening (c .before .before .before .before) .sender) (opening (c .before .before .before .before) .password)
+answered : (c : tie.After-log-in) (v k : List ℕ) (s : Store) → Held (start-after-log-in c) v k s → (r : Login) → c .log-in .result ≡ r
+    → LoginMeant r s (opening (c .before .before .before .before) .sender) (opening (c .before .before .before .before) .password)
 answered c v k s R r is =
     let back-4 = c .before .before .before .before in
-    subst (λ (l : Login). LoginMeant l (s .store) (opening back-4 .sender) (opening back-4 .password)) is (c .log-in .ensures v k s R)
+    subst (λ (l : Login). LoginMeant l s (opening back-4 .sender) (opening back-4 .password)) is (c .log-in .ensures v k s R)
 
 login-requires : tie.Need-login-requires
 login-requires c κs = search needs
@@ -68,7 +68,7 @@ returns : tie.Need-returns
 returns c v k s R =
     let start = c .before .before .before .before .before .before in
     let t = start .args .program .now in
-    not-parsed (s .store) (parse t) (c .before .before .login .ensures .0 ∙ ap (headMeant t) (c .enum-told .given .1))
+    not-parsed s (parse t) (c .before .before .login .ensures .0 ∙ ap (headMeant t) (c .enum-told .given .1))
 
 sub-log-in : tie.Need-sub-log-in
 sub-log-in c = let w = placed (c .before) in omega (arith, w .0 .0, w .0 .1, w .1 .0, w .1 .1)
@@ -107,8 +107,8 @@ returns-2 c v k s R =
     let back-8 = c .before .before .before .before .before .before .before .before in
     let start = back-8 .before .before .before .before .before .before in
     let o = bodyFrom (start .args .program .now) (back-8 .head .given .0 .1 .1 .0) in
-    ap (run (s .store)) (parsed back-8)
-    ∙ sender-mistaken (s .store) (opening back-8) o (sym (c .before .body-at .ensures) ∙ c .if1 .taken) (answered (c .before .before .before .before) v k s R Are.Mistaken (c .before .before .enum-told3 .given .1))
+    ap (run s) (parsed back-8)
+    ∙ sender-mistaken s (opening back-8) o (sym (c .before .body-at .ensures) ∙ c .if1 .taken) (answered (c .before .before .before .before) v k s R Are.Mistaken (c .before .before .enum-told3 .given .1))
 
 enum-known-login : tie.Need-enum-known-login
 enum-known-login c = search needs
@@ -118,16 +118,16 @@ returns-3 c v k s R =
     let back-6 = c .before .before .before .before .before .before in
     let start = back-6 .before .before .before .before .before .before in
     let o = bodyFrom (start .args .program .now) (back-6 .head .given .0 .1 .1 .0) in
-    ap (run (s .store)) (parsed back-6)
-    ∙ sender-unknown (s .store) (opening back-6) o (answered (c .before .before) v k s R Are.Unknown (c .enum-told2 .given .1))
+    ap (run s) (parsed back-6)
+    ∙ sender-unknown s (opening back-6) o (answered (c .before .before) v k s R Are.Unknown (c .enum-told2 .given .1))
 
 returns-4 : tie.Need-returns-4
 returns-4 c v k s R =
     let back-8 = c .before .before .before .before .before .before .before .before in
     let start = back-8 .before .before .before .before .before .before in
     let o = bodyFrom (start .args .program .now) (back-8 .head .given .0 .1 .1 .0) in
-    ap (run (s .store)) (parsed back-8)
-    ∙ no-body (s .store) (opening back-8) o (sym (c .before .body-at .ensures) ∙ c .if1 .left)
+    ap (run s) (parsed back-8)
+    ∙ no-body s (opening back-8) o (sym (c .before .body-at .ensures) ∙ c .if1 .left)
 
 returns-5 : tie.Need-returns-5
 returns-5 c v k s R =

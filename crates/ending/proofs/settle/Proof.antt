@@ -4,7 +4,8 @@ use mathlib.Core.Path.{ap, subst}
 use native.Mathlib.Omega.{arith}
 use mathlib.Core.Option.{Option}
 use Rattle.language.specs.Text.{Text}
-use Rattle.language.specs.Run.{End}
+use Rattle.language.specs.Syntax.{Name}
+use Rattle.language.specs.Run.{End, tallied}
 use Rattle.value_text.proofs.Pieces.{written-length}
 use Rattle.session.specs.Sessions.{Slices, slices}
 use Rattle.outcome.specs.declared.Performed.{Performed}
@@ -18,8 +19,8 @@ use Rattle.ending.proofs.settle.Tie as tie
 abbrev lent : tie.Start → Slices
 lent c = let a = c .args in slices (a .principals .now) (a .principal-slots .now) (a .work .now) (a .variable-slots .now) (a .locals .now) (a .local-slots .now) (a .assertions .now)
 
-abbrev Ending : tie.Start → Option End → Text → Performed → Type 0
-Ending c e before d = Ends d e (lent c) before (c .args .output .now)
+abbrev Ending : tie.Start → Name → Option End → Text → Performed → Type 0
+Ending c p e before d = Ends d p e (lent c) before (c .args .output .now)
 
 -- the function's start, as these places see it
 abbrev start-after-performed2 : tie.After-performed2 → tie.Start
@@ -27,11 +28,9 @@ start-after-performed2 c =
     let back-11 = c .before .before .before .before .before .before .before .before .before .before .before in
     back-11
 
-completes : (c : tie.After-performed2) (e : Option End) (before : Text) → Ending (start-after-performed2 c) e before (start-after-performed2 c .args .performed)
-    → Completes e (c .performed2 .given .0 .0) (c .performed2 .given .0 .1 .0) (c .performed2 .given .0 .1 .1 .0) (lent (start-after-performed2 c)) before (start-after-performed2 c .args .output .now)
-completes c e before D =
-    let back-11 = start-after-performed2 c in
-    subst (Ending back-11 e before) (c .performed2 .given .1) D
+completes : (c : tie.After-performed2) (p : Name) (e : Option End) (before : Text) → Ending (start-after-performed2 c) p e before (start-after-performed2 c .args .performed)
+    → Completes p e (c .performed2 .given .0 .0) (c .performed2 .given .0 .1 .0) (c .performed2 .given .0 .1 .1 .0) (lent (start-after-performed2 c)) before (start-after-performed2 c .args .output .now)
+completes c p e before D = subst (Ending (start-after-performed2 c) p e before) (c .performed2 .given .1) D
 
 enum-told : tie.Need-enum-told
 enum-told c = search needs
@@ -48,26 +47,24 @@ refuse-requires-2 c κs = search needs
 enum-known-performed-2 : tie.Need-enum-known-performed-2
 enum-known-performed-2 c = search needs
 
-counted-requires : tie.Need-counted-requires
-counted-requires c κs = search needs
-
 save-requires : tie.Need-save-requires
 save-requires c κs =
-    let back-15 = c .before .before .before .before .before .before .before .before .before .before .before .before .before .before .before in
-    let start = back-15 in
+    let back-14 = c .before .before .before .before .before .before .before .before .before .before .before .before .before .before in
+    let start = back-14 in
     let P = start .pre .0 in
-    let C = completes (c .before .before .before .before) (P .end) (P .before) (P .ends) in
-    (record { session = C .session; running = C .running }, (start .pre .1 .1, omega (arith, c .before .before .counted .ensures .1, start .pre .1 .3), start .pre .1 .4, start .pre .1 .5))
+    let C = completes (c .before .before .before) (P .sender) (P .end) (P .before) (P .ends) in
+    (record { session = C .session; running = C .running }, (start .pre .1 .1, start .pre .1 .3, start .pre .1 .4))
 
 end-kind-requires : tie.Need-end-kind-requires
 end-kind-requires c κs = search needs
 
 close-requires : tie.Need-close-requires
 close-requires c κs =
-    let back-10 = c .before .before .before .before .before .before .before .before .before .before in
-    let start = back-10 .before .before .before .before .before .before .before .before .before .before .before in
+    let back-9 = c .before .before .before .before .before .before .before .before .before in
+    let back-20 = back-9 .before .before .before .before .before .before .before .before .before .before .before in
+    let start = back-20 in
     let P = start .pre .0 in
-    let C = completes back-10 (P .end) (P .before) (P .ends) in
+    let C = completes back-9 (P .sender) (P .end) (P .before) (P .ends) in
     (start .pre .1 .0, start .pre .1 .2, omega (arith, C .printed .fits, written-length (C .printed), start .pre .1 .2))
 
 same-length : tie.Need-same-length
@@ -77,13 +74,13 @@ same-length-2 : tie.Need-same-length-2
 same-length-2 c = search needs
 
 returns : tie.Need-returns
-returns c e before D =
+returns c p e before D =
     let back-7 = c .before .before .before .before .before .before .before in
     let back-18 = back-7 .before .before .before .before .before .before .before .before .before .before .before in
     let start = back-18 in
     let R = c .before .before .before .before .refuse .ensures in
-    let h = ap endOr (subst (Ending start e before) (back-7 .enum-told .given .1) D) in
-    (closed-refusal R h, λ s k. kept R h (start .args .state .now) s)
+    let h = ap endOr (subst (Ending start p e before) (back-7 .enum-told .given .1) D) in
+    (closed-refusal R h, kept R (ap (tallied p) h) (start .args .state .now))
 
 same-length-3 : tie.Need-same-length-3
 same-length-3 c = search needs
@@ -92,13 +89,13 @@ same-length-4 : tie.Need-same-length-4
 same-length-4 c = search needs
 
 returns-2 : tie.Need-returns-2
-returns-2 c e before D =
+returns-2 c p e before D =
     let back-8 = c .before .before .before .before .before .before .before .before in
     let back-19 = back-8 .before .before .before .before .before .before .before .before .before .before .before in
     let start = back-19 in
     let R = c .before .before .before .before .refuse2 .ensures in
-    let h = ap endOr (subst (Ending start e before) (back-8 .performed .given .1) D) in
-    (closed-refusal R h, λ s k. kept R h (start .args .state .now) s)
+    let h = ap endOr (subst (Ending start p e before) (back-8 .performed .given .1) D) in
+    (closed-refusal R h, kept R (ap (tallied p) h) (start .args .state .now))
 
 same-length-5 : tie.Need-same-length-5
 same-length-5 c = search needs
@@ -110,15 +107,15 @@ same-length-7 : tie.Need-same-length-7
 same-length-7 c = search needs
 
 returns-3 : tie.Need-returns-3
-returns-3 c e before D =
+returns-3 c p e before D =
     let back-7 = c .before .before .before .before .before .before .before in
     let back-10 = back-7 .before .before .before in
-    let back-13 = back-10 .before .before .before in
-    let back-15 = back-13 .before .before in
-    let start = back-15 .before .before .before .before .before .before .before .before .before .before .before in
-    let C = completes back-15 e before D in (
+    let back-14 = back-10 .before .before .before .before in
+    let back-25 = back-14 .before .before .before .before .before .before .before .before .before .before .before in
+    let start = back-25 in
+    let C = completes back-14 p e before D in (
       c .before .before .before .before .close .ensures (endOr e) (kind-is C (back-7 .end-kind .result) (back-7 .end-kind .ensures)) (count-is C) (bytes-are C) (lines-are C),
-      state-is C (start .args .count) (back-13 .counted .result) (start .args .state .now) _ (back-13 .counted .ensures .0) (back-10 .save .ensures (C .session) (C .running)),
+      state-is C (start .args .state .now) _ (back-10 .save .ensures (C .session) (C .running)),
     )
 
 pub settle-spec : {M : Type 1} → statement M
@@ -130,7 +127,6 @@ settle-spec =
     enum-known-performed
     refuse-requires-2
     enum-known-performed-2
-    counted-requires
     save-requires
     end-kind-requires
     close-requires

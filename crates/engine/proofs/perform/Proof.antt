@@ -119,11 +119,11 @@ refusing : (c : tie.After-tell Inv-loop μ-loop) (s : Session) (R : entered (sta
     → step (stage (loop-of c) s R .session)
     (first (read-of c) _ refl .command) ≡ refused (refusalMeant how)
     → d ≡ unlessBroken (present (restFrom (start-after-tell c .args .text .now) (read-of c .read .given .0 .1 .0))) how
-    → Ends d (endOn s (bodyFrom (start-after-tell c .args .text .now) (start-after-tell c .args .at))) (left c) (start-after-tell c .args .output .now) (printed c)
+    → Ends d (s .sender) (endOn s (bodyFrom (start-after-tell c .args .text .now) (start-after-tell c .args .at))) (left c) (start-after-tell c .args .output .now) (printed c)
 refusing c s R how d k e =
     let o = endOn s (bodyFrom (start-after-tell c .args .text .now) (start-after-tell c .args .at)) in
-    known (λ (x : Performed). Ends x o (left c) (start-after-tell c .args .output .now) (printed c))
-    (refuses how (present (restFrom (start-after-tell c .args .text .now) (read-of c .read .given .0 .1 .0))) o (left c) (start-after-tell c .args .output .now) (printed c)
+    known (λ (x : Performed). Ends x (s .sender) o (left c) (start-after-tell c .args .output .now) (printed c))
+    (refuses how (present (restFrom (start-after-tell c .args .text .now) (read-of c .read .given .0 .1 .0))) (s .sender) o (left c) (start-after-tell c .args .output .now) (printed c)
     (stops (stage (loop-of c) s R) (first (read-of c) _ refl) (refusalMeant how) k)) (sym e)
 
 lengths : (c : tie.After-tell Inv-loop μ-loop)

@@ -9,7 +9,7 @@ use mathlib.Core.Option.{Option, none, some}
 use lib.Dec.{T, leb}
 use Rattle.language.specs.Text.{Text, if_then_else_, present}
 use Rattle.language.specs.Syntax.{Name, Right}
-use Rattle.language.specs.State.{State, named, valueIn}
+use Rattle.language.specs.State.{named, valueIn}
 use Rattle.language.specs.Weight.{limit, storeWeight}
 use Rattle.language.specs.Valid.{wellFormed}
 use Rattle.language.specs.Chains.{Chain, Shortest, chainLength}
@@ -25,7 +25,7 @@ use Rattle.language.proofs.Logic.Tests.{both}
 use Rattle.language.proofs.StateText.Shape.{Shape, shape}
 use Rattle.language.proofs.Rights.Search.{none-there, one-there}
 use Rattle.language.proofs.Histories.Offences.{sound, run-denied}
-use Rattle.language.proofs.Histories.Mirror.{heldState, lentFor, whole-reply, reply-send, reply-ask, store-valid}
+use Rattle.language.proofs.Histories.Mirror.{lentFor, whole-reply, reply-send, reply-ask, store-valid}
 
 -- answers may be replaced by equal ones
 along : {A : Type 0} {a a′ : Answer} → a ≡ a′ → (c : Answer) → (a′ ≡ c) ↔ A → (a ≡ c) ↔ A
@@ -46,10 +46,7 @@ denied-result e = (λ h. go e (same-kind h), λ h. ap (λ k. ended (result k)) h
     go (refusal r) h = cc
     go (completed lines s) h = absurd (open-kind (s .isOpen) h)
 
-module _ (buffer : Text) (b : Book) (n : ℕ) (m : Holds buffer (heldState b n)) where
-  abbrev held-state : State
-  held-state = heldState b n
-
+module _ (buffer : Text) (b : Book) (m : Holds buffer b) where
   book-shape : Shape b
   book-shape = shape b (both (wellFormed b) (leb (storeWeight b) limit) (store-valid m) .0)
 
@@ -61,7 +58,7 @@ module _ (buffer : Text) (b : Book) (n : ℕ) (m : Holds buffer (heldState b n))
       l : Buffers
       l = lentFor buffer o w
 
-      go : (p q r : Bool) (e : End) → (checked l p 1 (checked l q 3 (checked l r 5 (endReply l held-state e))) .answer ≡ wrong n)
+      go : (p q r : Bool) (e : End) → (checked l p 1 (checked l q 3 (checked l r 5 (endReply l e))) .answer ≡ wrong n)
           ↔ (runFault p q r ≡ some n)
       go false q r e = (λ h. cc, λ h. cc)
       go true false r e = (λ h. cc, λ h. cc)
@@ -93,7 +90,7 @@ module _ (buffer : Text) (b : Book) (n : ℕ) (m : Holds buffer (heldState b n))
       l = lentFor buffer o w
 
       go : (p q r : Bool) → T (not (present (runFault p q r)))
-          → checked l p 1 (checked l q 3 (checked l r 5 (endReply l held-state (run b (parse t))))) .answer ≡ ended (result (run b (parse t)))
+          → checked l p 1 (checked l q 3 (checked l r 5 (endReply l (run b (parse t))))) .answer ≡ ended (result (run b (parse t)))
       go false q r h = absurd h
       go true false r h = absurd h
       go true true false h = absurd h
@@ -120,7 +117,7 @@ module _ (buffer : Text) (b : Book) (n : ℕ) (m : Holds buffer (heldState b n))
       not-wrong ep eq er = rw (ep, eq, er) tt
 
       go : (p q r : Bool) (e : End) → sized o ≡ p → sized w ≡ q → b .isOpen ≡ r → run b (parse t) ≡ e
-          → stateOf (checked l p 1 (checked l q 3 (checked l r 5 (endReply l held-state e)))) .lent ≡ buffer
+          → stateOf (checked l p 1 (checked l q 3 (checked l r 5 (endReply l e)))) .lent ≡ buffer
       go false q r e ep eq er ee = refl
       go true false r e ep eq er ee = refl
       go true true false e ep eq er ee = refl

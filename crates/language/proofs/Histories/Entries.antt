@@ -11,10 +11,10 @@ use Rattle.language.specs.Outcomes.{eachOf}
 use Rattle.language.specs.Values.{Session, isShared, isLocal, isDefined, isPrincipal, lookup, asList, listOf}
 use Rattle.language.specs.Expressions.{value}
 use Rattle.language.specs.Commands.{withStore, withLocals, withVariables, enterAll, withPrincipal, entering, withdrawing, assertionsOn, targets, delegations, granted, assign, elements, replaced, extend, Effect, effect, denied, Step, refused, went, step}
-use Rattle.language.specs.Run.{End, refusal, completed, after, next, perform, Login, unknown, mistaken, right, login, begin, runAs, run}
+use Rattle.language.specs.Run.{End, refusal, completed, after, next, perform, Login, unknown, mistaken, right, login, begin, tallied, runAs, run, left}
 use Rattle.language.specs.Programs.{parse}
 use Rattle.language.specs.Events.{Event, enters, withdraws, events, eventsThen, eventsOf, afterEvent, afterEvents}
-use Rattle.language.specs.History.{Call, send, ask, Book, bookAfter, isWrong, entered, bookOf, completedEvents, programEvents, callEvents, historyOf, Reaches, here, onward}
+use Rattle.language.specs.History.{Call, send, ask, Book, isWrong, entered, bookOf, completedEvents, programEvents, callEvents, historyOf, Reaches, here, onward}
 use Rattle.language.proofs.Logic.Tests.{true-of}
 use Rattle.language.proofs.Logic.Outcomes.{Where, bind-where, if-where}
 use Rattle.language.proofs.Logic.Giving.{Giving, giving-any, bind-giving, bind-from, provided-giving}
@@ -134,24 +134,28 @@ perform-enters (c ∷ cs) s = go (step s c) (step-enters s c) (λ t. perform-ent
 
 -- ---- calls
 
-run-enters : (b : Book) (o : Option Program) → bookAfter b (run b o) .assertions ≡ afterEvents (b .assertions) (programEvents b o)
+run-enters : (b : Book) (o : Option Program) → left b (run b o) .assertions ≡ afterEvents (b .assertions) (programEvents b o)
 run-enters b none = refl
 run-enters b (some p) = go (login b p)
   where
-    ending : (e : End) (es : List Event) → Leaves (b .assertions) es e → bookAfter b e .assertions ≡ afterEvents (b .assertions) (completedEvents e es)
+    ending : (e : End) (es : List Event) → Leaves (b .assertions) es e → left b e .assertions ≡ afterEvents (b .assertions) (completedEvents e es)
     ending (refusal r) es h = refl
     ending (completed lines t) es h = h
 
-    go : (l : Login) → bookAfter b (runAs l (begin b p) (p .commands)) .assertions
+    tallied-leaves : (es : List Event) (q : Name) (e : End) → Leaves (b .assertions) es e → Leaves (b .assertions) es (tallied q e)
+    tallied-leaves es q (refusal r) h = tt
+    tallied-leaves es q (completed lines t) h = h
+
+    go : (l : Login) → left b (runAs l (begin b p) (p .commands)) .assertions
         ≡ afterEvents (b .assertions) (completedEvents (runAs l (begin b p) (p .commands)) (eventsOf (begin b p) (p .commands)))
     go unknown = refl
     go mistaken = refl
-    go right = ending (perform (begin b p) (p .commands)) (eventsOf (begin b p) (p .commands)) (perform-enters (p .commands) (begin b p))
+    go right = ending (tallied (p .sender) (perform (begin b p) (p .commands))) (eventsOf (begin b p) (p .commands)) (tallied-leaves (eventsOf (begin b p) (p .commands)) (p .sender) (perform (begin b p) (p .commands)) (perform-enters (p .commands) (begin b p)))
 
 call-enters : (b : Book) (c : Call) → entered b c .assertions ≡ afterEvents (b .assertions) (callEvents b c)
 call-enters b (send o w t) = go (isWrong b (send o w t))
   where
-    go : (k : Bool) → (if k then b else bookAfter b (run b (parse t))) .assertions ≡ afterEvents (b .assertions) (if k then [] else programEvents b (parse t))
+    go : (k : Bool) → (if k then b else left b (run b (parse t))) .assertions ≡ afterEvents (b .assertions) (if k then [] else programEvents b (parse t))
     go true = refl
     go false = run-enters b (parse t)
 call-enters b (ask p x r) = refl

@@ -12,7 +12,7 @@ use Rattle.language.specs.Chains.{Chain, has}
 use Rattle.language.specs.Valid.{wellFormed, validStore, validAssertion}
 use Rattle.language.specs.Values.{Session}
 use Rattle.language.specs.Commands.{Step, refused, went, DENIED, FAILED, FULL, step}
-use Rattle.language.specs.Run.{End, refusal, completed, after, next, perform, Login, unknown, mistaken, right, login, begin, runAs, run}
+use Rattle.language.specs.Run.{End, refusal, completed, after, next, perform, Login, unknown, mistaken, right, login, begin, tallied, runAs, run}
 use Rattle.language.specs.Events.{Event, events}
 use Rattle.language.specs.History.{Reaches, here, onward, Overstepping, Offends}
 use Rattle.language.specs.Programs.{parse}
@@ -69,6 +69,15 @@ after-denied line (completed lines s) h = h
 denied-after : (line : Text) (e : End) → EndsDenied e → EndsDenied (after line e)
 denied-after line (refusal r) h = h
 denied-after line (completed lines s) h = h
+
+-- a count changes no end
+denied-tallied : (p : Name) (e : End) → EndsDenied e → EndsDenied (tallied p e)
+denied-tallied p (refusal r) h = h
+denied-tallied p (completed lines s) h = h
+
+tallied-denied : (p : Name) (e : End) → EndsDenied (tallied p e) → EndsDenied e
+tallied-denied p (refusal r) h = h
+tallied-denied p (completed lines s) h = h
 
 -- ---- commands
 
@@ -138,7 +147,7 @@ module _ (b : Store) (b-valid : T (validStore b)) where
       known p e right k d = record {
         program = p;
         parses = e;
-        either = inr (k, overstepping (p .commands) (begin b p) (begin-ready b p b-valid k) (commands-valid p (parse-valid text p e)) d);
+        either = inr (k, overstepping (p .commands) (begin b p) (begin-ready b p b-valid k) (commands-valid p (parse-valid text p e)) (tallied-denied (p .sender) (perform (begin b p) (p .commands)) d));
       }
 
       go : (o : Option Program) → parse text ≡ o → EndsDenied (run b o) → Offends b text
@@ -155,7 +164,7 @@ module _ (b : Store) (b-valid : T (validStore b)) where
       go (inl e) = subst (λ l. EndsDenied (runAs l (begin b p) (p .commands))) (sym e) tt
       go (inr (e, k)) =
           subst (λ l. EndsDenied (runAs l (begin b p) (p .commands))) (sym e)
-          (stops (begin b p) (p .commands) (begin-ready b p b-valid e) (commands-valid p (parse-valid text p (o .parses))) k)
+          (denied-tallied (p .sender) (perform (begin b p) (p .commands)) (stops (begin b p) (p .commands) (begin-ready b p b-valid e) (commands-valid p (parse-valid text p (o .parses))) k))
 
   pub run-denied : (text : Text) → (run b (parse text) ≡ refusal DENIED) ↔ Offends b text
   run-denied text = (λ e. offends text (denied-ends e), λ o. ends-denied (run b (parse text)) (offended text o))

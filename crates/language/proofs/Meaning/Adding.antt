@@ -4,14 +4,14 @@ use mathlib.Core.Logic.{_⊎_, inl, inr}
 use mathlib.Core.Bool.{Bool, true, false, _&&_}
 use mathlib.Core.Option.{none, some}
 use mathlib.Core.List.{List, [], _∷_, _++_, map}
-use lib.Dec.{T}
+use lib.Dec.{T, leb}
 use Rattle.language.specs.Text.{Text, if_then_else_, _==_, all, member, distinct, present}
 use Rattle.language.specs.Syntax.{Name}
-use Rattle.language.specs.State.{Value, Principal, Variable, admin, anyone, named, valueIn, put}
+use Rattle.language.specs.State.{Value, Principal, Variable, lastCount, admin, anyone, named, valueIn, put}
 use Rattle.language.specs.Identifiers.{isName, isString}
 use Rattle.language.specs.Valid.{hasPassword, validPassword, validPrincipal, validOrder}
 use Rattle.language.specs.Commands.{changed}
-use Rattle.language.proofs.Logic.Tests.{both, and, four, map-all, and-three, one-of, ==→≡, ==-refl, ==-sym, all-append, any-left, distinct-last}
+use Rattle.language.proofs.Logic.Tests.{both, and, three, four, map-all, and-three, one-of, ==→≡, ==-refl, ==-sym, all-append, any-left, distinct-last}
 use Rattle.language.proofs.StateText.Names.{principalNames, variableNames, is-named, named-is, is-valued, valued-is}
 
 -- ---- variables
@@ -120,8 +120,8 @@ changed-has p t k h = go (k .name == p) h
 
 pub changed-valid : (p : Name) (t : Text) → T (isString t) → (k : Principal) → T (validPrincipal k) → T (validPrincipal (changed p t k))
 changed-valid p t s k h =
-    let (h₁, h₂) = both (isName (k .name)) (validPassword (k .password)) h in
-    and (isName (k .name)) (validPassword (changed p t k .password)) h₁ (go (k .name == p) h₂)
+    let (h₁, h₂, h₃) = three (isName (k .name)) (validPassword (k .password)) (leb (k .count) lastCount) h in
+    and-three (isName (k .name)) (validPassword (changed p t k .password)) (leb (k .count) lastCount) h₁ (go (k .name == p) h₂) h₃
   where
     go : (b : Bool) → T (validPassword (k .password)) → T (validPassword (if b then some t else k .password))
     go true h = s

@@ -63,7 +63,7 @@ module _ (s : Store) (g : Shape s) where
     assertions-unrepeated = g .assertions-unrepeated;
   }
 
-  principals-shape : (ks : List Principal) → T (validOrder ks) → T (all validPrincipal ks) → T (distinct (principalNames ks))
+  pub principals-shape : (ks : List Principal) → T (validOrder ks) → T (all validPrincipal ks) → T (distinct (principalNames ks))
       → ((p : Name) → T (present (named (s .principals) p)) → T (present (named ks p))) → Shape (withPrincipals s ks)
   principals-shape ks o v d m = record {
     order = o;
@@ -108,12 +108,12 @@ pub added-shape : (s : Store) → Shape s → (p : Name) (t : Text) → T (isNam
     → Shape (withPrincipal s p t)
 added-shape s g p t h k n =
     principals-shape s g (s .principals ++ (new ∷ [])) (added-order (s .principals) new tt (g .order))
-    (all-append validPrincipal (s .principals) (new ∷ []) (g .principals-valid) (and (isName p && isString t) true (and (isName p) (isString t) h k) tt))
+    (all-append validPrincipal (s .principals) (new ∷ []) (g .principals-valid) (and (isName p && isString t && true) true (and (isName p && isString t) true (and (isName p) (isString t) h k) tt) tt))
     (subst (λ l. T (distinct l)) (sym (added-names (s .principals) new)) (distinct-last (principalNames (s .principals)) p (g .principals-distinct) (λ m. n (is-named p (s .principals) m))))
     (added-keeps (s .principals) new)
   where
     new : Principal
-    new = record { name = p; password = some t }
+    new = record { name = p; password = some t; count = 0 }
 
 pub changed-shape : (s : Store) → Shape s → (p : Name) (t : Text) → T (isString t) → Shape (withPrincipals s (map (changed p t) (s .principals)))
 changed-shape s g p t h =
@@ -159,5 +159,5 @@ pub created-shape : (s : Store) → Shape s → (p : Name) (t : Text) → T (isN
 created-shape s g p t h k n =
     enter-shape (withPrincipal s p t) (added-shape s g p t h k n) (delegations rights (withPrincipal s p t) (s .delegator) p)
     (delegations-valid rights (withPrincipal s p t) (s .delegator) p
-    (added-keeps (s .principals) (record { name = p; password = some t }) (s .delegator) (g .delegator-known))
-    (added-there (s .principals) (record { name = p; password = some t })))
+    (added-keeps (s .principals) (record { name = p; password = some t; count = 0 }) (s .delegator) (g .delegator-known))
+    (added-there (s .principals) (record { name = p; password = some t; count = 0 })))

@@ -83,7 +83,7 @@ module _ (s : Session) (g : Good s) where
       let (i, k) = both (isIdentifier p) (isString t) h in
       provided-giving Keeps (not (isPrincipal s p)) _ (λ n.
       with-store (created (s .store) p t) (created-shape (s .store) (g .store-shape) p t (identifier-name p i) k (T-not (isPrincipal s p) n))
-      (added-keeps (s .store .principals) (record { name = p; password = some t }) (s .sender) (g .sender-known)))
+      (added-keeps (s .store .principals) (record { name = p; password = some t; count = 0 }) (s .sender) (g .sender-known)))
   effect-good (change-password p t) h =
       let (i, k) = both (isIdentifier p) (isString t) h in
       provided-giving Keeps (isPrincipal s p) _ (λ n.

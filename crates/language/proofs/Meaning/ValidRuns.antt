@@ -1,28 +1,29 @@
 -- Commands done and programs completed leave a valid state; a fresh desk has one.
 use mathlib.Core.Path.{_≡_, refl, sym, subst}
-use Prim.Native.Nat.{suc, _+_, _≤_}
+use Prim.Native.Nat.{_≤_}
 use native.Mathlib.Omega.{arith}
 use mathlib.Core.Bool.{Bool, true, false, _&&_, not}
 use mathlib.Core.Option.{Option, none, some}
 use mathlib.Core.List.{List, [], _∷_}
 use lib.ListN.{length}
-use lib.Dec.{T, T-not, not-T, leb, leb→le, le→leb, ltb, ltb→lt, nltb→le}
+use lib.Dec.{T, T-not, not-T, leb, leb→le, le→leb, ltb, nltb→le}
 use Rattle.language.specs.Text.{Text, if_then_else_, all, present}
-use Rattle.language.specs.Syntax.{Command, Program}
-use Rattle.language.specs.State.{Principal, Store, State, named, fresh}
+use Rattle.language.specs.Syntax.{Name, Command, Program}
+use Rattle.language.specs.State.{Principal, Store, named, fresh}
 use Rattle.language.specs.Weight.{limit, storeWeight}
 use Rattle.language.specs.Identifiers.{isIdentifier, isString}
-use Rattle.language.specs.Valid.{wellFormed, validStore, valid}
+use Rattle.language.specs.Valid.{wellFormed, validStore}
 use Rattle.language.specs.Outcomes.{Outcome, gives, fails, fills}
 use Rattle.language.specs.Values.{Session}
 use Rattle.language.specs.Commands.{Effect, effect, denied, heavy, sessionWeight, Step, refused, went, FULL, verdict, step}
-use Rattle.language.specs.Run.{End, refusal, completed, after, next, perform, Login, unknown, mistaken, right, loginAs, login, begin, runAs, run, counted, left}
+use Rattle.language.specs.Run.{End, refusal, completed, after, next, perform, Login, unknown, mistaken, right, loginAs, login, begin, tallied, runAs, run}
 use Rattle.language.proofs.Parsing.ValidPrograms.{validCommand, endsOnce, validProgram}
 use Rattle.language.proofs.Logic.Tests.{both, and}
 use Rattle.language.proofs.Logic.Outcomes.{Where}
 use Rattle.language.proofs.Logic.Giving.{Giving}
 use Rattle.language.proofs.StateText.Shape.{shape, formed}
 use Rattle.language.proofs.Meaning.ValidValues.{Good}
+use Rattle.language.proofs.Meaning.Counting.{counts-store}
 use Rattle.language.proofs.Meaning.ValidCommands.{Keeps, effect-good}
 
 -- a session between two commands
@@ -113,6 +114,10 @@ module _ (p : Program) (h : T (validProgram p)) where
   pub ends-valid : T (endsOnce (p .commands))
   ends-valid = body-valid .1
 
+tallied-valid : (p : Name) (e : End) → EndsValid e → EndsValid (tallied p e)
+tallied-valid p (refusal r) k = tt
+tallied-valid p (completed lines t) k = counts-store p t k
+
 pub run-valid : (s : Store) → T (validStore s) → (o : Option Program) → Where (λ p. T (validProgram p)) o → EndsValid (run s o)
 run-valid s h none k = tt
 run-valid s h (some p) k = go (login s p) refl
@@ -120,25 +125,14 @@ run-valid s h (some p) k = go (login s p) refl
     go : (l : Login) → login s p ≡ l → EndsValid (runAs l (begin s p) (p .commands))
     go unknown e = tt
     go mistaken e = tt
-    go right e = perform-valid (p .commands) (begin s p) (begin-ready s p h e) (commands-valid p k)
-
--- the state after a program is valid
-pub left-valid : (s : State) → T (valid s) → (e : End) → EndsValid e → T (valid (left s e))
-left-valid s h (refusal r) k = h
-left-valid s h (completed lines t) k =
-    let (c, v) = both (leb (s .count) 4294967295) (validStore (s .store)) h in
-    and (leb (counted (s .count)) 4294967295) (validStore t) (go (ltb (s .count) 4294967295) (ltb→lt (s .count) 4294967295) c) k
-  where
-    go : (b : Bool) → (T b → suc (s .count) ≤ 4294967295) → T (leb (s .count) 4294967295) → T (leb (if b then s .count + 1 else s .count) 4294967295)
-    go true f c = le→leb (s .count + 1) 4294967295 (omega (arith, f tt))
-    go false f c = c
+    go right e = tallied-valid (p .sender) (perform (begin s p) (p .commands)) (perform-valid (p .commands) (begin s p) (begin-ready s p h e) (commands-valid p k))
 
 pub fresh-valid : (password : Text) → T (isString password) → length password ≤ 1024 → T (validStore (fresh password))
 fresh-valid password h l =
     and (wellFormed (fresh password)) (leb (storeWeight (fresh password)) limit)
     (formed (fresh password) (record {
       order = tt;
-      principals-valid = and (isString password) true h tt;
+      principals-valid = and (isString password && true) true (and (isString password) true h tt) tt;
       principals-distinct = tt;
       delegator-known = tt;
       variables-valid = tt;

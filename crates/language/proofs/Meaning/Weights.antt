@@ -75,7 +75,7 @@ changed-other p t (k ∷ ks) n =
     right false m = m
 
     go : (b : Bool) → ¬ T b → sum principalWeight (map (changed p t) ks) ≡ sum principalWeight ks
-        → principalWeight (record { name = k .name; password = if b then some t else k .password }) + sum principalWeight (map (changed p t) ks) ≡ sum principalWeight (k ∷ ks)
+        → principalWeight (record { name = k .name; password = if b then some t else k .password; count = k .count }) + sum principalWeight (map (changed p t) ks) ≡ sum principalWeight (k ∷ ks)
     go true f e = absurd (f tt)
     go false f e = omega (arith, e)
 
@@ -88,7 +88,7 @@ password-weight p t k (l ∷ ks) d e =
   where
     go : (b : Bool) → (T b → l .name ≡ p) → ¬ T (member (l .name) (principalNames ks)) → (if b then some l else named ks p) ≡ some k
         → (named ks p ≡ some k → sum principalWeight (map (changed p t) ks) + passwordWeight (k .password) ≡ sum principalWeight ks + length t)
-        → principalWeight (record { name = l .name; password = if b then some t else l .password }) + sum principalWeight (map (changed p t) ks) + passwordWeight (k .password)
+        → principalWeight (record { name = l .name; password = if b then some t else l .password; count = l .count }) + sum principalWeight (map (changed p t) ks) + passwordWeight (k .password)
         ≡ sum principalWeight (l ∷ ks) + length t
     go true f n e ih =
         let i : l ≡ k = cc in

@@ -20,7 +20,7 @@ use Rattle.language.specs.Commands.{Refusal, elements, replaced, targets
 use Rattle.language.specs.Outcomes.{eachOf}
 use Rattle.language.specs.Values.{Session, isPrincipal, isDefined, isShared, listOf}
 use Rattle.language.specs.Expressions.{value}
-use Rattle.language.specs.Run.{End, refusal, completed, after, next, perform, Login, unknown, mistaken, right, login, begin, runAs, run, refusalLine, output}
+use Rattle.language.specs.Run.{End, refusal, completed, after, next, perform, Login, unknown, mistaken, right, login, begin, tallied, runAs, run, refusalLine, output}
 use Rattle.language.specs.Programs.{parse}
 use Rattle.language.proofs.Parsing.ValidPrograms.{validCommand, isEnding, endsOnce}
 use Rattle.language.proofs.Logic.Tests.{both, three}
@@ -166,12 +166,17 @@ commands-fit p h = omega (arith, h .has-room)
 program-short : (s : Store) → T (validStore s) → (p : Program) → Parsed p → EndsShort (8 * bufferSize) (run s (some p))
 program-short s v p h = go (login s p) refl
   where
+    tally : (n : ℕ) (e : End) → EndsShort n e → EndsShort n (tallied (p .sender) e)
+    tally n (refusal r) k = tt
+    tally n (completed lines t) k = k
+
     go : (l : Login) → login s p ≡ l → EndsShort (8 * bufferSize) (runAs l (begin s p) (p .commands))
     go unknown e = tt
     go mistaken e = tt
     go right e =
-        widen (allowed (p .commands)) (8 * bufferSize) (commands-fit p h) (perform (begin s p) (p .commands))
-        (perform-short (p .commands) (begin s p) (begin-ready s p v e) (commands-valid p (h .is-valid)) (ends-valid p (h .is-valid)))
+        tally (8 * bufferSize) (perform (begin s p) (p .commands))
+        (widen (allowed (p .commands)) (8 * bufferSize) (commands-fit p h) (perform (begin s p) (p .commands))
+        (perform-short (p .commands) (begin s p) (begin-ready s p v e) (commands-valid p (h .is-valid)) (ends-valid p (h .is-valid))))
 
 -- every output fits
 pub output-fits : (s : Store) → T (validStore s) → (text : Text) → length (output (run s (parse text))) ≤ bufferSize

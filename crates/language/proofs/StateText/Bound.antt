@@ -1,23 +1,25 @@
--- The text of a valid state fits the buffer: it has at most five bytes for each of its weight, and 271 more.
-use mathlib.Core.Path.{_≡_, refl, sym, subst, _∙_}
+-- The text of a valid state fits the buffer: it has at most five bytes for each of its weight, and 260 more; in the former lines, 271 more.
+use mathlib.Core.Path.{_≡_, refl, sym, ap, subst, _∙_}
 use Prim.Native.Nat.{ℕ, _+_, _*_, _-_, _≤_}
 use native.Mathlib.Omega.{arith}
 use mathlib.Core.Bool.{Bool, true, false, _||_}
 use mathlib.Core.Option.{Option, none, some}
 use mathlib.Core.List.{List, [], _∷_, _++_}
 use lib.ListN.{length, replicate, length-append, length-replicate}
-use lib.Dec.{T, leb, leb→le, lit≤}
+use lib.Dec.{T, eqb, eqb-refl, leb, leb→le, lit≤}
 use Rattle.language.specs.Text.{Text, bytes, if_then_else_, _==_, all, sum, joined, decimal}
 use Rattle.language.specs.Syntax.{Name, Right, read, write, append, delegate}
-use Rattle.language.specs.State.{Field, Element, string, fields, Value, single, list, Principal, Variable, Assertion, Store, State, lastCount, admin, anyone}
+use Rattle.language.specs.State.{Field, Element, string, fields, Value, single, list, Principal, Variable, Assertion, Store, lastCount, admin, anyone}
 use Rattle.language.specs.Weight.{limit, elementWeight, valueWeight, nameWeight, passwordWeight, principalWeight, variableWeight, assertionWeight, storeWeight}
-use Rattle.language.specs.Encode.{lineOf, fieldText, elementText, variableText, principalText, letter, assertionText, headText, principalsText, delegatorText, variablesText, assertionsText, stateText, bufferSize, padded}
+use Rattle.language.specs.Encode.{lineOf, fieldText, elementText, variableText, principalText, principalLine, letter, assertionText, headText, principalsText, delegatorText, variablesText, assertionsText, stateText, bufferSize, padded}
 use Rattle.language.specs.Identifiers.{isName}
-use Rattle.language.specs.Valid.{validValue, validPassword, validPrincipal, validVariable, wellFormed, validStore, valid}
+use Rattle.language.specs.Valid.{validValue, validPassword, validPrincipal, validVariable, wellFormed, validStore}
+use Rattle.language.specs.Former.{formerHead, formerLine, formerPrincipal, formerText, formerPrincipalWeight, validFormer, FormerHolds}
 use Rattle.language.proofs.Logic.Tests.{both, three, ==→≡}
 use Rattle.language.proofs.StateText.Names.{principal-name}
 use Rattle.language.proofs.StateText.Shape.{Shape, shape, spelled, assertions-spelled}
 use Rattle.language.proofs.StateText.Clean.{name-length, digits-length}
+use Rattle.language.proofs.StateText.Formers.{former-shape}
 
 -- each field, and a tab or a newline after it
 line-length : (t : Text) (fs : List Text) → length (lineOf (t ∷ fs)) ≡ sum (λ u. length u + 1) (t ∷ fs)
@@ -84,14 +86,14 @@ name-bound p h = go (p == admin) (p == anyone) (==→≡ p admin) (==→≡ p an
     go false true f g l = (lit≤ tt, subst (λ y. length y ≤ 6) (sym (g tt)) (lit≤ tt))
     go false false f g l = (l, omega arith)
 
-principal-bound : (k : Principal) → T (validPrincipal k) → length (principalText (k .name) (k .password)) ≤ 5 * principalWeight k
+principal-bound : (k : Principal) → T (validPrincipal k) → length (principalText k) ≤ 5 * principalWeight k
 principal-bound k h =
-    go (k .password) (name-bound (k .name) (both (isName (k .name)) (validPassword (k .password)) h .0))
+    go (k .password) (name-bound (k .name) (three (isName (k .name)) (validPassword (k .password)) (leb (k .count) lastCount) h .0))
   where
     go : (o : Option Text) → (1 ≤ nameWeight (k .name)) × (length (k .name) ≤ nameWeight (k .name) + 5)
-        → length (principalText (k .name) o) ≤ 5 * (1 + nameWeight (k .name) + passwordWeight o)
-    go none (l, m) = omega (arith, line-length (bytes "N") (k .name ∷ []))
-    go (some t) (l, m) = omega (arith, line-length (bytes "P") (k .name ∷ t ∷ []))
+        → length (principalLine (k .name) o (k .count)) ≤ 5 * (11 + nameWeight (k .name) + passwordWeight o)
+    go none (l, m) = omega (arith, line-length (bytes "N") (k .name ∷ decimal (k .count) ∷ []), digits-length 9 (k .count))
+    go (some t) (l, m) = omega (arith, line-length (bytes "P") (k .name ∷ t ∷ decimal (k .count) ∷ []), digits-length 9 (k .count))
 
 letter-length : (r : Right) → length (letter r) ≡ 1
 letter-length read = refl
@@ -116,43 +118,72 @@ variables-bound vs h = joined-bound 4 _ _ validVariable variable-bound vs h
 
 -- ---- the state
 
-head-bound : (b : Bool) (n : ℕ) → length (headText b n) ≤ 13
-head-bound true n = omega (arith, line-length (bytes "O") (decimal n ∷ []), digits-length 9 n)
-head-bound false n = omega (arith, line-length (bytes "C") (decimal n ∷ []), digits-length 9 n)
+head-bound : (b : Bool) → length (headText b) ≤ 2
+head-bound true = lit≤ tt
+head-bound false = lit≤ tt
 
 five-length : (a b c d e : Text) → length ((((a ++ b) ++ c) ++ d) ++ e) ≡ length a + length b + length c + length d + length e
 five-length a b c d e = simp length-append
 
-pub state-bound : (s : State) → T (valid s) → length (stateText s) ≤ bufferSize
-state-bound s h =
-    let (c, v) = both (leb (s .count) lastCount) (validStore (s .store)) h in
-    let (w, l) = both (wellFormed (s .store)) (leb (storeWeight (s .store)) limit) v in
-    go (shape (s .store) w) (leb→le (storeWeight (s .store)) limit l)
-  where
-    t : Store
-    t = s .store
+-- the lines behind the principals
+rest-bound : (t : Store) → Shape t
+    → length (delegatorText (t .delegator)) + length (variablesText (t .variables)) + length (assertionsText (t .assertions))
+    ≤ 258 + 5 * (sum variableWeight (t .variables) + sum assertionWeight (t .assertions))
+rest-bound t g =
+    let d : length (t .delegator) ≤ 255 = name-length (t .delegator) (principal-name (t .delegator) (t .principals) (g .principals-valid) (g .delegator-known)) .1 in
+    let vs : length (variablesText (t .variables)) ≤ 4 * sum variableWeight (t .variables) = variables-bound (t .variables) (g .variables-valid) in
+    let ls : length (assertionsText (t .assertions)) ≤ 5 * sum assertionWeight (t .assertions) = joined-bound 5 _ _ spelled assertion-bound (t .assertions) (assertions-spelled t g) in
+    omega (arith, d, vs, ls, line-length (bytes "D") (t .delegator ∷ []))
 
-    go : Shape (s .store) → storeWeight (s .store) ≤ limit → length (stateText s) ≤ bufferSize
-    go g l =
-        let d : length (t .delegator) ≤ 255 = name-length (t .delegator) (principal-name (t .delegator) (t .principals) (g .principals-valid) (g .delegator-known)) .1 in
-        let hd : length (headText (t .isOpen) (s .count)) ≤ 13 = head-bound (t .isOpen) (s .count) in
-        let ps : length (principalsText (t .principals)) ≤ 5 * sum principalWeight (t .principals) = principals-bound (t .principals) (g .principals-valid) in
-        let vs : length (variablesText (t .variables)) ≤ 4 * sum variableWeight (t .variables) = variables-bound (t .variables) (g .variables-valid) in
-        let ls : length (assertionsText (t .assertions)) ≤ 5 * sum assertionWeight (t .assertions) = joined-bound 5 _ _ spelled assertion-bound (t .assertions) (assertions-spelled t g) in
-        omega (
-          arith,
-          l,
-          d,
-          hd,
-          ps,
-          vs,
-          ls,
-          line-length (bytes "D") (t .delegator ∷ []),
-          five-length (headText (t .isOpen) (s .count)) (principalsText (t .principals)) (delegatorText (t .delegator)) (variablesText (t .variables)) (assertionsText (t .assertions)),
-        )
+-- at most 5 * 8,192 + 260 bytes
+pub state-bound : (t : Store) → T (validStore t) → length (stateText t) ≤ 41220
+state-bound t v =
+    let (w, l) = both (wellFormed t) (leb (storeWeight t) limit) v in
+    let g = shape t w in
+    omega (
+      arith,
+      leb→le (storeWeight t) limit l,
+      head-bound (t .isOpen),
+      principals-bound (t .principals) (g .principals-valid),
+      rest-bound t g,
+      five-length (headText (t .isOpen)) (principalsText (t .principals)) (delegatorText (t .delegator)) (variablesText (t .variables)) (assertionsText (t .assertions)),
+    )
+
+-- ---- the former lines
+
+former-principal-bound : (k : Principal) → T (validPrincipal k) → length (formerPrincipal k) ≤ 5 * formerPrincipalWeight k
+former-principal-bound k h =
+    go (k .password) (name-bound (k .name) (three (isName (k .name)) (validPassword (k .password)) (leb (k .count) lastCount) h .0))
+  where
+    go : (o : Option Text) → (1 ≤ nameWeight (k .name)) × (length (k .name) ≤ nameWeight (k .name) + 5)
+        → length (formerLine (k .name) o) ≤ 5 * (1 + nameWeight (k .name) + passwordWeight o)
+    go none (l, m) = omega (arith, line-length (bytes "N") (k .name ∷ []))
+    go (some t) (l, m) = omega (arith, line-length (bytes "P") (k .name ∷ t ∷ []))
+
+former-head-bound : (b : Bool) (n : ℕ) → length (formerHead b n) ≤ 13
+former-head-bound true n = omega (arith, line-length (bytes "O") (decimal n ∷ []), digits-length 9 n)
+former-head-bound false n = omega (arith, line-length (bytes "C") (decimal n ∷ []), digits-length 9 n)
+
+pub former-bound : (n : ℕ) (t : Store) → T (validFormer n t) → length (formerText n t) ≤ 41231
+former-bound n t v =
+    let f = former-shape n t v in
+    let g = f .shaped in
+    omega (
+      arith,
+      f .light,
+      former-head-bound (t .isOpen) n,
+      joined-bound 5 formerPrincipal formerPrincipalWeight validPrincipal former-principal-bound (t .principals) (g .principals-valid),
+      rest-bound t g,
+      five-length (formerHead (t .isOpen) n) (joined formerPrincipal (t .principals)) (delegatorText (t .delegator)) (variablesText (t .variables)) (assertionsText (t .assertions)),
+    )
 
 pub padded-length : (t : Text) → length t ≤ bufferSize → length (padded t) ≡ bufferSize
 padded-length t h =
     let z : Text = replicate (bufferSize - length t) 0 in
     let e : length z ≡ bufferSize - length t = length-replicate (bufferSize - length t) 0 in
     omega (arith, e, length-append t z)
+
+pub former-sized : {buffer : Text} {n : ℕ} {s : Store} → FormerHolds buffer n s → T (eqb (length buffer) bufferSize)
+former-sized {buffer} {n} {s} h =
+    let e : length buffer ≡ bufferSize = ap length (h .is-text) ∙ padded-length (formerText n s) (omega (arith, former-bound n s (h .is-valid))) in
+    subst (λ k. T (eqb k bufferSize)) (sym e) (eqb-refl bufferSize)

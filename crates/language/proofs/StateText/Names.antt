@@ -4,13 +4,13 @@ use mathlib.Core.Logic.{inl, inr}
 use mathlib.Core.Bool.{Bool, true, false, _||_}
 use mathlib.Core.Option.{some}
 use mathlib.Core.List.{List, [], _∷_, map}
-use lib.Dec.{T}
+use lib.Dec.{T, leb}
 use Rattle.language.specs.Text.{if_then_else_, _==_, all, member, present}
 use Rattle.language.specs.Syntax.{Name}
-use Rattle.language.specs.State.{Principal, Variable, named, valueIn}
+use Rattle.language.specs.State.{Principal, Variable, lastCount, named, valueIn}
 use Rattle.language.specs.Identifiers.{isName}
 use Rattle.language.specs.Valid.{validPrincipal, validPassword, validVariable, validValue}
-use Rattle.language.proofs.Logic.Tests.{both, and, one-of, left-of, right-of, ==→≡, ==-refl, ==-sym}
+use Rattle.language.proofs.Logic.Tests.{both, and, three, one-of, left-of, right-of, ==→≡, ==-refl, ==-sym}
 
 abbrev pub principalNames : List Principal → List Name
 principalNames = map (λ k. k .name)
@@ -73,7 +73,7 @@ principal-name p ks h t = member-all isName p (principalNames ks) (identifiers k
     identifiers [] h = tt
     identifiers (k ∷ ks) h =
         let (h₁, h₂) = both (validPrincipal k) (all validPrincipal ks) h in
-        and (isName (k .name)) (all isName (principalNames ks)) (both (isName (k .name)) (validPassword (k .password)) h₁ .0) (identifiers ks h₂)
+        and (isName (k .name)) (all isName (principalNames ks)) (three (isName (k .name)) (validPassword (k .password)) (leb (k .count) lastCount) h₁ .0) (identifiers ks h₂)
 
 pub variable-name : (x : Name) (vs : List Variable) → T (all validVariable vs) → T (present (valueIn vs x)) → T (isName x)
 variable-name x vs h t = member-all isName x (variableNames vs) (identifiers vs h) (valued-is x vs t)

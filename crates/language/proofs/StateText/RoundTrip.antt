@@ -1,20 +1,20 @@
 -- The decoder reads back what the encoder wrote.
 use mathlib.Core.Path.{_≡_, refl, sym, ap, subst, _∙_}
 use mathlib.Core.Logic.{_↔_}
-use Prim.Native.Nat.{ℕ, zero, suc, _-_, _≤_}
+use Prim.Native.Nat.{ℕ, zero, suc, _-_}
 use mathlib.Core.Bool.{Bool, true, false, _&&_}
 use mathlib.Core.Option.{Option, none, some}
 use mathlib.Core.List.{List, [], _∷_, _++_, map, append-assoc}
 use lib.ListN.{length, replicate}
 use lib.Dec.{T, leb, leb→le, ltb}
-use Rattle.language.specs.Text.{Text, bytes, parts, if_then_else_, _>>=_, _>>_, given, _==_, all, distinct, joined, decimal}
+use Rattle.language.specs.Text.{Text, bytes, parts, _>>=_, _>>_, given, _==_, all, distinct, joined, decimal}
 use Rattle.language.specs.Syntax.{Right, read, write, append, delegate}
-use Rattle.language.specs.State.{Field, Element, string, fields, Value, single, list, Principal, Variable, Assertion, Store, State, lastCount}
+use Rattle.language.specs.State.{Field, Element, string, fields, Value, single, list, Principal, Variable, Assertion, Store, lastCount}
 use Rattle.language.specs.Weight.{storeWeight, limit}
-use Rattle.language.specs.Encode.{newline, headText, principalsText, delegatorText, variablesText, assertionsText, fieldText, elementText, variableText, principalText, letter, assertionText, stateText, lineOf, bufferSize, padded}
+use Rattle.language.specs.Encode.{newline, headText, principalsText, delegatorText, variablesText, assertionsText, fieldText, elementText, variableText, principalText, principalLine, letter, assertionText, stateText, lineOf, bufferSize, padded}
 use Rattle.language.specs.Identifiers.{isName, isString}
-use Rattle.language.specs.Valid.{validField, validFields, validElement, validValue, validVariable, validPassword, validPrincipal, wellFormed, validStore, valid}
-use Rattle.language.specs.Decode.{Holds, rightOf, Below, nothingBelow, withAssertion, withHead, readLines, readState, decode}
+use Rattle.language.specs.Valid.{validField, validFields, validElement, validValue, validVariable, validPassword, validPrincipal, wellFormed, validStore}
+use Rattle.language.specs.Decode.{Holds, rightOf, Below, nothingBelow, number, withAssertion, withPrincipal, readLines, decode}
 use Rattle.language.proofs.Logic.Lists.{six-joined}
 use Rattle.language.proofs.Logic.Tests.{both, and, three, ==→≡, ==-refl}
 use Rattle.language.proofs.Logic.Outcomes.{Where, anything, bind-where, given-where}
@@ -94,51 +94,58 @@ reads-variable m v vs rest h r =
 -- ---- the principals, and the whole
 
 -- what the lines from some principal on say
-abbrev from-principals : Store → List Principal → Below
+abbrev pub from-principals : Store → List Principal → Below
 from-principals s ks = record { loose = []; elements = []; count = 0; store = record { isOpen = false; principals = ks; delegator = s .delegator; variables = s .variables; assertions = s .assertions } }
 
 reads-principal : (s : Store) (k : Principal) (ks : List Principal) (rest : Text) → T (validPrincipal k)
-    → Reads rest (from-principals s ks) → Reads (principalText (k .name) (k .password) ++ rest) (from-principals s (k ∷ ks))
+    → Reads rest (from-principals s ks) → Reads (principalText k ++ rest) (from-principals s (k ∷ ks))
 reads-principal s k ks rest h r =
-    let (p, t) = both (isName (k .name)) (validPassword (k .password)) h in
-    go (k .password) (name-clean (k .name) p) t
+    let (p, t, c) = three (isName (k .name)) (validPassword (k .password)) (leb (k .count) lastCount) h in
+    let e : number 0 (decimal (k .count)) ≡ k .count = decimal-number (k .count) (leb→le (k .count) lastCount c) in
+    go (k .password) (name-clean (k .name) p) t e
   where
-    go : (o : Option Text) → T (isClean (k .name)) → T (validPassword o)
-        → Reads (principalText (k .name) o ++ rest) (from-principals s (record { name = k .name; password = o } ∷ ks))
-    go none p t = reads-line (bytes "N") (k .name ∷ []) rest (and (isClean (k .name)) true p tt) r refl
-    go (some u) p t =
-        reads-line (bytes "P") (k .name ∷ u ∷ []) rest (and (isClean (k .name)) _ p (and (isClean u) true (string-clean u t) tt)) r refl
+    go : (o : Option Text) → T (isClean (k .name)) → T (validPassword o) → number 0 (decimal (k .count)) ≡ k .count
+        → Reads (principalLine (k .name) o (k .count) ++ rest) (from-principals s (record { name = k .name; password = o; count = k .count } ∷ ks))
+    go none p t e =
+        reads-line (bytes "N") (k .name ∷ decimal (k .count) ∷ []) rest (and (isClean (k .name)) _ p (and (isClean (decimal (k .count))) true (digits-clean 9 (k .count)) tt)) r
+        (ap (λ c. some (withPrincipal (from-principals s ks) (k .name) none c)) e)
+    go (some u) p t e =
+        reads-line (bytes "P") (k .name ∷ u ∷ decimal (k .count) ∷ []) rest (and (isClean (k .name)) _ p (and (isClean u) _ (string-clean u t) (and (isClean (decimal (k .count))) true (digits-clean 9 (k .count)) tt))) r
+        (ap (λ c. some (withPrincipal (from-principals s ks) (k .name) (some u) c)) e)
 
-reads-head : (b : Bool) (n : ℕ) (s : Store) (rest : Text) → n ≤ lastCount → Reads rest (from-principals s (s .principals))
-    → Reads (lineOf ((if b then bytes "O" else bytes "C") ∷ decimal n ∷ []) ++ rest)
-    (record { loose = []; elements = []; count = n; store = record { isOpen = b; principals = s .principals; delegator = s .delegator; variables = s .variables; assertions = s .assertions } })
-reads-head true n s rest h r =
-    reads-line (bytes "O") (decimal n ∷ []) rest (and (isClean (decimal n)) true (digits-clean 9 n) tt) r
-    (ap (λ c. some (withHead (from-principals s (s .principals)) true c)) (decimal-number n h))
-reads-head false n s rest h r =
-    reads-line (bytes "C") (decimal n ∷ []) rest (and (isClean (decimal n)) true (digits-clean 9 n) tt) r
-    (ap (λ c. some (withHead (from-principals s (s .principals)) false c)) (decimal-number n h))
+-- the lines behind the principals
+pub reads-rest : (t : Store) → Shape t → (rest : Text) → Reads rest nothingBelow
+    → Reads (delegatorText (t .delegator) ++ (variablesText (t .variables) ++ (assertionsText (t .assertions) ++ rest))) (from-principals t [])
+reads-rest t g rest r =
+    let v = variablesText (t .variables) in
+    let a = assertionsText (t .assertions) in
+    reads-line (bytes "D") (t .delegator ∷ []) (v ++ (a ++ rest)) (and (isClean (t .delegator)) true delegator-clean tt)
+    (reads-joined (λ v. variableText (v .name) (v .value)) validVariable (λ l. below [] [] l (t .assertions)) (reads-variable (t .assertions)) (t .variables) (a ++ rest) (g .variables-valid)
+    (reads-joined assertionText spelled (λ l. below [] [] [] l) reads-assertion (t .assertions) rest (assertions-spelled t g) r))
+    refl
+  where
+    delegator-clean : T (isClean (t .delegator))
+    delegator-clean = name-clean (t .delegator) (principal-name (t .delegator) (t .principals) (g .principals-valid) (g .delegator-known))
 
-reads-state : (s : State) → s .count ≤ lastCount → Shape (s .store) → (rest : Text) → Reads rest nothingBelow
-    → Reads (stateText s ++ rest) (record { loose = []; elements = []; count = s .count; store = s .store })
-reads-state s n g rest r =
-    let t = s .store in
-    let h = headText (t .isOpen) (s .count) in
+-- what the lines of a whole text say
+abbrev pub whole : ℕ → Store → Below
+whole n s = record { loose = []; elements = []; count = n; store = s }
+
+reads-head : (b : Bool) (s : Store) (rest : Text) → Reads rest (from-principals s (s .principals))
+    → Reads (headText b ++ rest) (whole 0 (record { isOpen = b; principals = s .principals; delegator = s .delegator; variables = s .variables; assertions = s .assertions }))
+reads-head true s rest r = reads-line (bytes "O") [] rest tt r refl
+reads-head false s rest r = reads-line (bytes "C") [] rest tt r refl
+
+reads-state : (t : Store) → Shape t → (rest : Text) → Reads rest nothingBelow → Reads (stateText t ++ rest) (whole 0 t)
+reads-state t g rest r =
+    let h = headText (t .isOpen) in
     let k = principalsText (t .principals) in
     let d = delegatorText (t .delegator) in
     let v = variablesText (t .variables) in
     let a = assertionsText (t .assertions) in
     ap (λ y. readLines (parts newline y)) (six-joined h k d v a rest)
-    ∙ reads-head (t .isOpen) (s .count) t (k ++ (d ++ (v ++ (a ++ rest)))) n
-    (reads-joined (λ k. principalText (k .name) (k .password)) validPrincipal (from-principals t) (reads-principal t) (t .principals) (d ++ (v ++ (a ++ rest))) (g .principals-valid)
-    (reads-line (bytes "D") (t .delegator ∷ []) (v ++ (a ++ rest)) (and (isClean (t .delegator)) true delegator-clean tt)
-    (reads-joined (λ v. variableText (v .name) (v .value)) validVariable (λ l. below [] [] l (t .assertions)) (reads-variable (t .assertions)) (t .variables) (a ++ rest) (g .variables-valid)
-    (reads-joined assertionText spelled (λ l. below [] [] [] l) reads-assertion (t .assertions) rest (assertions-spelled t g) r))
-    refl))
-  where
-    delegator-clean : T (isClean (s .store .delegator))
-    delegator-clean =
-        name-clean (s .store .delegator) (principal-name (s .store .delegator) (s .store .principals) (g .principals-valid) (g .delegator-known))
+    ∙ reads-head (t .isOpen) t (k ++ (d ++ (v ++ (a ++ rest))))
+    (reads-joined principalText validPrincipal (from-principals t) (reads-principal t) (t .principals) (d ++ (v ++ (a ++ rest))) (g .principals-valid) (reads-rest t g rest r))
 
 -- ---- the buffer
 
@@ -146,40 +153,36 @@ zeros-free : (n : ℕ) → Free newline (replicate n 0)
 zeros-free zero = tt
 zeros-free (suc n) = zeros-free n
 
-reads-zeros : (n : ℕ) → Reads (replicate n 0) nothingBelow
+pub reads-zeros : (n : ℕ) → Reads (replicate n 0) nothingBelow
 reads-zeros n = ap readLines (parts-free newline (replicate n 0) (zeros-free n))
 
-pub decodes : (s : State) → T (valid s) → decode (padded (stateText s)) ≡ some s
+pub given-true : (b : Bool) (o : Option Store) → T b → (given b >> o) ≡ o
+given-true true o t = refl
+given-true false o t = absurd t
+
+pub decodes : (s : Store) → T (validStore s) → decode (padded (stateText s)) ≡ some s
 decodes s h =
-    let (c, v) = both (leb (s .count) lastCount) (validStore (s .store)) h in
-    let (w, l) = both (wellFormed (s .store)) (leb (storeWeight (s .store)) limit) v in
-    let e = reads-state s (leb→le (s .count) lastCount c) (shape (s .store) w) (replicate (bufferSize - length (stateText s)) 0) (reads-zeros (bufferSize - length (stateText s))) in
-    ap (λ o. (o >>= λ b. some (stateOf b)) >>= λ s. given (valid s && (padded (stateText s) == buffer)) >> some s) e
-    ∙ given-true (valid s && (padded (stateText s) == buffer)) (some s) (and (valid s) (padded (stateText s) == buffer) h (==-refl buffer))
+    let (w, l) = both (wellFormed s) (leb (storeWeight s) limit) h in
+    let e = reads-state s (shape s w) (replicate (bufferSize - length (stateText s)) 0) (reads-zeros (bufferSize - length (stateText s))) in
+    ap (λ o. o >>= λ b. given (validStore (b .store) && (padded (stateText (b .store)) == buffer)) >> some (b .store)) e
+    ∙ given-true (validStore s && (padded (stateText s) == buffer)) (some s) (and (validStore s) (padded (stateText s) == buffer) h (==-refl buffer))
   where
     buffer : Text
     buffer = padded (stateText s)
 
-    stateOf : Below → State
-    stateOf b = record { count = b .count; store = b .store }
-
-    given-true : (b : Bool) (o : Option State) → T b → (given b >> o) ≡ o
-    given-true true o t = refl
-    given-true false o t = absurd t
-
 -- and reads nothing else: one state has one text
-pub decode-holds : (buffer : Text) (s : State) → (decode buffer ≡ some s) ↔ Holds buffer s
+pub decode-holds : (buffer : Text) (s : Store) → (decode buffer ≡ some s) ↔ Holds buffer s
 decode-holds buffer s = (λ e. subst (Where (Holds buffer)) e (decode-sound buffer), λ h. ap decode (h .is-text) ∙ decodes s (h .is-valid))
   where
     decode-sound : (buffer : Text) → Where (Holds buffer) (decode buffer)
     decode-sound buffer =
-        bind-where (λ s. Unit {0}) (Holds buffer) (readState buffer) _ (anything (readState buffer)) (λ s u.
-        given-where (Holds buffer) (valid s && (padded (stateText s) == buffer)) (some s) (λ t.
-        let (v, e) = both (valid s) (padded (stateText s) == buffer) t in
-        record { is-valid = v; is-text = sym (==→≡ (padded (stateText s)) buffer e) }))
+        bind-where (λ b. Unit {0}) (Holds buffer) (readLines (parts newline buffer)) _ (anything (readLines (parts newline buffer))) (λ b u.
+        given-where (Holds buffer) (validStore (b .store) && (padded (stateText (b .store)) == buffer)) (some (b .store)) (λ t.
+        let (v, e) = both (validStore (b .store)) (padded (stateText (b .store)) == buffer) t in
+        record { is-valid = v; is-text = sym (==→≡ (padded (stateText (b .store))) buffer e) }))
 
 -- and one text one state
-pub one-state : {buffer : Text} {s t : State} → Holds buffer s → Holds buffer t → s ≡ t
+pub one-state : {buffer : Text} {s t : Store} → Holds buffer s → Holds buffer t → s ≡ t
 one-state {buffer} {s} {t} h k =
     let e : decode buffer ≡ some s = decode-holds buffer s .1 h in
     let f : decode buffer ≡ some t = decode-holds buffer t .1 k in

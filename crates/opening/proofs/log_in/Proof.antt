@@ -42,7 +42,7 @@ find-requires c κs =
     let start = c .before .before .before .before .before in
     let a = start .args in
     let P = start .pre in
-    some-principals (P .state .store .principals) (part (a .state .now) (a .parts .«principals_from») (a .parts .«principals_to»)) (a .parts .principals) (a .principal-slots .now) (P .represents .principals)
+    some-principals (P .state .principals) (part (a .state .now) (a .parts .«principals_from») (a .parts .«principals_to»)) (a .parts .principals) (a .principal-slots .now) (P .represents .principals)
 
 enum-known-found : tie.Need-enum-known-found
 enum-known-found c = search needs
@@ -51,15 +51,15 @@ opens-requires : tie.Need-opens-requires
 opens-requires c κs =
     let start = c .before .before .before .before .before .before .before .before .before in
     let P = start .pre in
-    let F = principal-found (P .state .store .principals) (start .args .name .now) _ _ _ (found (c .before) (P .state .store .principals) (P .represents .principals)) in
-    (record { principals = P .state .store .principals; held = P .represents .principals }, omega (arith, F .below, P .represents .principals .counted))
+    let F = principal-found (P .state .principals) (start .args .name .now) _ _ _ (found (c .before) (P .state .principals) (P .represents .principals)) in
+    (record { principals = P .state .principals; held = P .represents .principals }, omega (arith, F .below, P .represents .principals .counted))
 
 returns : tie.Need-returns
 returns c vm st s R =
     let start = c .before .before .before .before .before .before .before .before .before .before .before in
     let a = start .args in
-    let-in (s .store) (a .name .now) (a .password .now) _ _ _ (found (c .before .before .before) (s .store .principals) (R .principals))
-    (sym (c .if1 .taken) ∙ c .before .opens .ensures (s .store .principals) (R .principals))
+    let-in s (a .name .now) (a .password .now) _ _ _ (found (c .before .before .before) (s .principals) (R .principals))
+    (sym (c .if1 .taken) ∙ c .before .opens .ensures (s .principals) (R .principals))
 
 enum-told : tie.Need-enum-told
 enum-told c = search needs
@@ -68,16 +68,16 @@ returns-2 : tie.Need-returns-2
 returns-2 c vm st s R =
     let start = c .before .before .before .before .before .before .before .before .before .before .before in
     let a = start .args in
-    turned-away (s .store) (a .name .now) (a .password .now) _ _ _ (found (c .before .before .before) (s .store .principals) (R .principals))
-    (sym (c .if1 .left) ∙ c .before .opens .ensures (s .store .principals) (R .principals))
+    turned-away s (a .name .now) (a .password .now) _ _ _ (found (c .before .before .before) (s .principals) (R .principals))
+    (sym (c .if1 .left) ∙ c .before .opens .ensures (s .principals) (R .principals))
 
 returns-3 : tie.Need-returns-3
 returns-3 c vm st s R =
     let start = c .before .before .before .before .before .before .before .before in
     let a = start .args in
-    not-there (s .store) (a .name .now) (a .password .now)
+    not-there s (a .name .now) (a .password .now)
     (sym (c .enum-told .given .1)
-    ∙ c .before .before .find .ensures (map principalRow (s .store .principals)) (principals-rows (s .store .principals) (part (a .state .now) (a .parts .«principals_from») (a .parts .«principals_to»)) (a .parts .principals) (a .principal-slots .now) (R .principals)))
+    ∙ c .before .before .find .ensures (map principalRow (s .principals)) (principals-rows (s .principals) (part (a .state .now) (a .parts .«principals_from») (a .parts .«principals_to»)) (a .parts .principals) (a .principal-slots .now) (R .principals)))
 
 pub log-in-spec : {M : Type 1} → statement M
 log-in-spec =

@@ -35,7 +35,7 @@ slice-aggregate-search : tie.Need-slice-aggregate-search
 unfolding start
 slice-aggregate-search c =
     let start = c .before .before .before .before .before .before in
-    cut-length (start .args .count) 4096 (omega arith) (start .pre .0)
+    cut-length (start .args .count) 1024 (omega arith) (start .pre .0)
 
 search-requires : tie.Need-search-requires
 unfolding start
@@ -44,12 +44,12 @@ search-requires c κs =
     let s = back-6 in
     let n = s .args .count in
     let pos : 0 < n = omega arith in
-    let e = cut-length n 4096 pos (s .pre .0) in (
+    let e = cut-length n 1024 pos (s .pre .0) in (
       c .before .before .gather .ensures .0,
-      subst (λ (k : ℕ). k ≤ 4096) e (s .pre .0),
+      subst (λ (k : ℕ). k ≤ 4096) e (omega (arith, s .pre .0)),
       omega (arith, c .before .before .before .if2 .left),
       subst (λ (k : ℕ). s .args .principal < k) e (c .before .before .before .before .if1 .left),
-      cut-start n 4096 pos (s .pre .0),
+      cut-start n 1024 pos (s .pre .0),
     )
 
 report-requires : tie.Need-report-requires
@@ -61,7 +61,7 @@ returns-3 c =
     let back-9 = c .before .before .before .before .before .before .before .before .before in
     let s = back-9 in
     subst (Answered (A s) (s .args .principal)) (sym (c .report .ensures))
-    (c .before .before .search .ensures (A s) (sym (c .before .before .before .before .before .gather .ensures .1)) (cut-length (s .args .count) 4096 (omega arith) (s .pre .0)))
+    (c .before .before .search .ensures (A s) (sym (c .before .before .before .before .before .gather .ensures .1)) (cut-length (s .args .count) 1024 (omega arith) (s .pre .0)))
 
 pub shortest-spec : {M : Type 1} → statement M
 shortest-spec =

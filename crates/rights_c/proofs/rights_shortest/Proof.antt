@@ -13,7 +13,7 @@ use Rattle.rights_c.proofs.rights_shortest.Statement.{statement}
 use Rattle.rights_c.proofs.rights_shortest.Tie as tie
 
 -- a right answer, reported by its number
-reported : (s : List ℕ) (count variable right principal r : ℕ) (a : Answer) → count ≤ 4096 → length s ≤ 2048 → Answered (asked (map fields s) count variable right) principal a → r ≡ numberOf a → Reported s count variable right principal r
+reported : (s : List ℕ) (count variable right principal r : ℕ) (a : Answer) → count ≤ 1024 → length s ≤ 2048 → Answered (asked (map fields s) count variable right) principal a → r ≡ numberOf a → Reported s count variable right principal r
 reported s count variable right principal r a few short f e = record { refuses = λ h. absurd (⊎-elim (λ x. omega arith) (λ x. omega arith) h); answers = λ x y. (a, f, e) }
 
 returns : tie.Need-returns

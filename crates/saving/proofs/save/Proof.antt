@@ -9,6 +9,7 @@ use lib.Seq.{length-take-le}
 use Rattle.language.specs.Text.{Text}
 use Rattle.language.specs.Encode.{assertionsText, stateText, padded}
 use Rattle.language.specs.Values.{Session}
+use Rattle.language.specs.Run.{tally}
 use Rattle.value_text.specs.Writing.{Written}
 use Rattle.value_text.proofs.Pieces.{_▸_, written-drop, written-length}
 use Rattle.session.specs.Sessions.{Slices, slices, Running}
@@ -32,9 +33,6 @@ slice-aggregate-shared c =
     let start = c .before .before .before .before .before .before .before .before .before .before in
     sym (length-take-le _ _ (start .pre .0 .running .vars-within))
 
-cast-put-records : tie.Need-cast-put-records
-cast-put-records c = search needs
-
 put-records-requires : tie.Need-put-records-requires
 put-records-requires c κs =
     let back-11 = c .before .before .before .before .before .before .before .before .before .before .before in
@@ -42,9 +40,9 @@ put-records-requires c κs =
     let P = g .pre .0 in
     record {
       store = P .session .store;
+      name = P .session .sender;
       recorded = session-recorded (P .session) (g .args .l) (lent g) (P .running);
-      room = omega (arith, g .pre .1 .0, session-room (P .session) (g .args .l) (lent g) (P .running) (g .args .count) (g .pre .1 .1));
-      first-room = omega (arith, g .pre .1 .0);
+      room = omega (arith, g .pre .1 .0, session-room (P .session) (g .args .l) (lent g) (P .running));
     }
 
 put-all-packed-requires : tie.Need-put-all-packed-requires
@@ -52,12 +50,12 @@ put-all-packed-requires c κs =
     let back-15 = c .before .before .before .before .before .before .before .before .before .before .before .before .before .before .before in
     let g = back-15 in
     let P = g .pre .0 in
-    let w = c .before .before .before .put-records .ensures (P .session .store) (session-recorded (P .session) (g .args .l) (lent g) (P .running)) in
+    let w = c .before .before .before .put-records .ensures (P .session .store) (P .session .sender) (session-recorded (P .session) (g .args .l) (lent g) (P .running)) in
     record {
       store = P .session .store;
       names = session-named (P .session) (g .args .l) (lent g) (P .running);
       assertions = P .running .assertions;
-      room = omega (arith, g .pre .1 .0, w .ends, written-length w, session-room (P .session) (g .args .l) (lent g) (P .running) (g .args .count) (g .pre .1 .1));
+      room = omega (arith, g .pre .1 .0, w .ends, written-length w, session-room (P .session) (g .args .l) (lent g) (P .running));
     }
 
 -- what is written, from the place behind the assertions
@@ -71,21 +69,21 @@ module _ (c : tie.After-slice-known3) where
   abbrev text : Text
   text = c .before .before .put-all-packed .last .0
 
-  records-there : (s : Session) → Running s (start .args .l) (lent start) → Written (start .args .state .now) 0 (recordsText (s .store) (start .args .count)) (c .before .before .before .before .before .before .put-records .result)
+  records-there : (s : Session) → Running s (start .args .l) (lent start) → Written (start .args .state .now) 0 (recordsText (tally (s .sender) (s .store))) (c .before .before .before .before .before .before .put-records .result)
       (c .before .before .before .before .before .before .put-records .last .0)
-  records-there s R = c .before .before .before .before .before .before .put-records .ensures (s .store) (session-recorded s (start .args .l) (lent start) R)
+  records-there s R = c .before .before .before .before .before .before .put-records .ensures (s .store) (s .sender) (session-recorded s (start .args .l) (lent start) R)
 
   assertions-there : (s : Session) → Running s (start .args .l) (lent start) → Written (c .before .before .before .before .before .before .put-records .last .0) (c .before .before .before .before .before .before .put-records .result) (assertionsText (s .store .assertions)) end text
   assertions-there s R = c .before .before .put-all-packed .ensures (s .store) (session-named s (start .args .l) (lent start) R) (R .assertions)
 
-  whole : (s : Session) (R : Running s (start .args .l) (lent start)) → Written (start .args .state .now) 0 (recordsText (s .store) (start .args .count) ++ assertionsText (s .store .assertions)) end text
+  whole : (s : Session) (R : Running s (start .args .l) (lent start)) → Written (start .args .state .now) 0 (recordsText (tally (s .sender) (s .store)) ++ assertionsText (s .store .assertions)) end text
   whole s R = records-there s R ▸ assertions-there s R
 
-  saved-text : (s : Session) (R : Running s (start .args .l) (lent start)) → take end text ++ replicate (length text - end) 0 ≡ padded (stateText (record { count = start .args .count; store = s .store }))
-  saved-text s R = saved (s .store) (start .args .count) (start .args .state .now) _ _ _ _ (start .pre .1 .0) (records-there s R) (assertions-there s R)
+  saved-text : (s : Session) (R : Running s (start .args .l) (lent start)) → take end text ++ replicate (length text - end) 0 ≡ padded (stateText (tally (s .sender) (s .store)))
+  saved-text s R = saved (tally (s .sender) (s .store)) (start .args .state .now) _ _ _ _ (start .pre .1 .0) (records-there s R) (assertions-there s R)
 
   within : start .args .used ≤ length text
-  within = omega (arith, written-length (whole (start .pre .0 .session) (start .pre .0 .running)), start .pre .1 .0, start .pre .1 .2)
+  within = omega (arith, written-length (whole (start .pre .0 .session) (start .pre .0 .running)), start .pre .1 .0, start .pre .1 .1)
 
 same-length : tie.Need-same-length
 same-length c = search needs
@@ -95,7 +93,7 @@ returns c s R =
     let k = c .before in
     let w = whole k s R in
     let p = start k .pre .1 in
-    longer (start k .args .state .now) (text k) (end k) (start k .args .used) (written-length w) (w .fits) (written-drop w) (omega (arith, p .0, p .2)) (p .3 ∙ ap (λ (n : ℕ). replicate (n - start k .args .used) 0) (sym (p .0))) (c .if1 .taken)
+    longer (start k .args .state .now) (text k) (end k) (start k .args .used) (written-length w) (w .fits) (written-drop w) (omega (arith, p .0, p .1)) (p .2 ∙ ap (λ (n : ℕ). replicate (n - start k .args .used) 0) (sym (p .0))) (c .if1 .taken)
     ∙ saved-text k s R
 
 slice-relend-prefix-zero-rest : tie.Need-slice-relend-prefix-zero-rest
@@ -116,7 +114,7 @@ returns-2 c s R =
     let w = whole k s R in
     let p = start k .pre .1 in
     ap (λ (t : Text). t ++ drop (start k .args .used) (text k)) (c .before .before .zero-rest .ensures)
-    ∙ shorter (start k .args .state .now) (text k) (end k) (start k .args .used) (written-length w) (w .fits) (written-drop w) (omega (arith, p .0, p .2)) (p .3 ∙ ap (λ (n : ℕ). replicate (n - start k .args .used) 0) (sym (p .0))) (c .before .before .before .before .if1 .left)
+    ∙ shorter (start k .args .state .now) (text k) (end k) (start k .args .used) (written-length w) (w .fits) (written-drop w) (omega (arith, p .0, p .1)) (p .2 ∙ ap (λ (n : ℕ). replicate (n - start k .args .used) 0) (sym (p .0))) (c .before .before .before .before .if1 .left)
     ∙ saved-text k s R
 
 pub save-spec : {M : Type 1} → statement M
@@ -125,7 +123,6 @@ save-spec =
     (tie.spec
     slice-aggregate-roster
     slice-aggregate-shared
-    cast-put-records
     put-records-requires
     put-all-packed-requires
     same-length

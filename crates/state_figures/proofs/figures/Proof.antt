@@ -40,7 +40,7 @@ returns c =
     let z : n - 0 ≡ n = omega arith in
     let m : length (take n (a .assertions .now)) ≡ n = length-take-le n (a .assertions .now) (start .pre .0) in
     says-both (tally (a .parts)) (take n (a .assertions .now)) (a .out .now) _ _ (omega (arith, m))
-    (c .before .before .copy-numbers .ensures ∙ (λ i. over (back-7 .head .ensures i) 7 (take (z i) (a .assertions .now))))
+    (c .before .before .copy-numbers .ensures ∙ (λ i. over (back-7 .head .ensures i) 6 (take (z i) (a .assertions .now))))
 
 pub figures-spec : {M : Type 1} → statement M
 figures-spec =

@@ -3,7 +3,7 @@ use mathlib.Core.List.{[], _∷_, _++_}
 use Prim.Native.Nat.{ℕ}
 use native.Mathlib.Omega.{arith}
 use lib.ListN.{drop, length-set}
-use Rattle.state_figures.proofs.Filling.{seven}
+use Rattle.state_figures.proofs.Filling.{six}
 use borrow.Author.Needs.{needs}
 use Rattle.state_figures.proofs.head.Statement.{statement}
 use Rattle.state_figures.proofs.head.Tie as tie
@@ -27,10 +27,7 @@ slice-write-out-5 : tie.Need-slice-write-out-5
 slice-write-out-5 c = simp length-set (omega arith)
 
 slice-write-out-6 : tie.Need-slice-write-out-6
-slice-write-out-6 c = simp length-set (omega arith)
-
-slice-write-out-7 : tie.Need-slice-write-out-7
-slice-write-out-7 c = search needs
+slice-write-out-6 c = search needs
 
 same-length : tie.Need-same-length
 same-length c = search needs
@@ -40,8 +37,8 @@ returns c =
     let a = c .before .before .args in
     let p = a .parts in
     let l = a .out .now in
-    seven (c .bit .result) (p .count) (p .weight) (p .principals) (p .delegator) (p .vars) (p .asserted) l (c .before .before .pre)
-    ∙ ap (λ (v : ℕ). (v ∷ p .count ∷ p .weight ∷ p .principals ∷ p .delegator ∷ p .vars ∷ p .asserted ∷ []) ++ drop 7 l) (c .bit .ensures)
+    six (c .bit .result) (p .weight) (p .principals) (p .delegator) (p .vars) (p .asserted) l (c .before .before .pre)
+    ∙ ap (λ (v : ℕ). (v ∷ p .weight ∷ p .principals ∷ p .delegator ∷ p .vars ∷ p .asserted ∷ []) ++ drop 6 l) (c .bit .ensures)
 
 pub head-spec : {M : Type 1} → statement M
 head-spec =
@@ -54,6 +51,5 @@ head-spec =
     slice-write-out-4
     slice-write-out-5
     slice-write-out-6
-    slice-write-out-7
     same-length
     returns)

@@ -5,16 +5,17 @@ use mathlib.Core.List.{[]}
 use lib.ListN.{replicate, length-replicate}
 use Prim.Native.Nat.{ℕ, _-_}
 use native.Mathlib.Omega.{arith}
-use Rattle.language.specs.Run.{run}
+use Rattle.language.specs.Run.{tallied, run}
 use Rattle.language.specs.Calls.{Buffers, endReply}
 use Rattle.opening.proofs.Checks.{checked-valid, checked-some-valid}
 use Rattle.session.specs.Sessions.{Slices, slices, Running}
 use Rattle.parser.specs.Bodies.{bodyFrom}
 use Rattle.outcome.specs.Ends.{endOn, Ends}
 use Rattle.ending.specs.Endings.{endOr}
+use Rattle.ending.proofs.Closings.{closed-tallied}
 use Rattle.admission.proofs.Programs.{sent, opened}
 use Rattle.transaction.specs.Admitted.{Admitted}
-use Rattle.transaction.proofs.Programs.{commands-performed, few-programs}
+use Rattle.transaction.proofs.Programs.{commands-performed}
 use Rattle.transaction.proofs.Replies.{end-reply}
 use borrow.Author.Needs.{needs}
 use Rattle.transaction.proofs.session.Statement.{statement}
@@ -42,17 +43,17 @@ begun c =
 abbrev left : tie.After-perform → Slices
 left c = slices (c .perform .last .0) (c .perform .last .1 .0) (c .perform .last .1 .1 .0) (c .perform .last .1 .1 .1 .0) (c .perform .last .1 .1 .1 .1 .0) (c .perform .last .1 .1 .1 .1 .1 .0) (c .perform .last .1 .1 .1 .1 .1 .1 .0)
 
-begins : (c : tie.After-begin) (a : Known (start-after-begin c)) → Running (opened (a .understood .state .store) (a .sent-by .opening)) (c .begin .result) (begun c)
+begins : (c : tie.After-begin) (a : Known (start-after-begin c)) → Running (opened (a .understood .state) (a .sent-by .opening)) (c .begin .result) (begun c)
 begins c a =
     let start = start-after-begin c in
     let g = start .args in
     c .begin .ensures (a .understood .state) (sent (a .sent-by .opening) []) (a .understood .represents) (checked-valid (g .state .now) (g .principal-slots .now) (g .variable-slots .now) (g .assertions .now) (g .parts) (a .understood)) (a .sent-by .logged-in) (a .sent-by .numbered)
 
-ends : (c : tie.After-perform) (a : Known (start-after-perform c)) → Ends (c .perform .result)
-    (endOn (opened (a .understood .state .store) (a .sent-by .opening)) (bodyFrom (start-after-perform c .args .program .now) (start-after-perform c .args .at))) (left c) (start-after-perform c .args .output .now) (c .perform .last .1 .1 .1 .1 .1 .1 .1 .1 .1 .1 .1 .1 .0)
+ends : (c : tie.After-perform) (a : Known (start-after-perform c)) → Ends (c .perform .result) (a .sent-by .opening .sender)
+    (endOn (opened (a .understood .state) (a .sent-by .opening)) (bodyFrom (start-after-perform c .args .program .now) (start-after-perform c .args .at))) (left c) (start-after-perform c .args .output .now) (c .perform .last .1 .1 .1 .1 .1 .1 .1 .1 .1 .1 .1 .1 .0)
 ends c a =
     let back-14 = c .before .before .before .before .before .before .before .before .before .before .before .before .before .before in
-    c .perform .ensures (opened (a .understood .state .store) (a .sent-by .opening)) (begins back-14 a)
+    c .perform .ensures (opened (a .understood .state) (a .sent-by .opening)) (begins back-14 a)
 
 slice-aggregate-begin : tie.Need-slice-aggregate-begin
 slice-aggregate-begin c = search needs
@@ -70,7 +71,7 @@ begin-requires c κs =
     let P = start .pre .1 in (
       checked-some-valid (g .state .now) (g .principal-slots .now) (g .variable-slots .now) (g .assertions .now) (g .parts) (start .pre .0 .understood),
       record {
-        principals-size = length-replicate {A = ℕ} 20992 0;
+        principals-size = length-replicate {A = ℕ} 11008 0;
         principal-slots-size = P .1 .0;
         vars-size = P .0 .1;
         variable-slots-size = P .1 .1;
@@ -100,7 +101,7 @@ perform-requires c κs =
     let back-13 = c .before .before .before .before .before .before .before .before .before .before .before .before .before in
     let start = back-13 .before .before .before .before .before .before .before .before .before .before .before .before .before .before .before .before in
     let a = start .pre .0 in (
-      record { session = opened (a .understood .state .store) (a .sent-by .opening); running = begins back-13 a },
+      record { session = opened (a .understood .state) (a .sent-by .opening); running = begins back-13 a },
       ((length-replicate {A = ℕ} 45056 0, length-replicate {A = ℕ} 4096 0), (a .sent-by .placed, a .sent-by .not-longer, start .pre .1 .0 .2)),
     )
 
@@ -108,7 +109,7 @@ slice-aggregate-settle : tie.Need-slice-aggregate-settle
 slice-aggregate-settle c =
     let back-16 = c .before .before .before .before .before .before .before .before .before .before .before .before .before .before .before .before in
     let back-30 = back-16 .before .before .before .before .before .before .before .before .before .before .before .before .before .before in
-    sym (back-16 .perform .kept .0 ∙ back-30 .begin .kept .1 .1 .1 .1 .1 .1 .0 ∙ length-replicate {A = ℕ} 20992 0)
+    sym (back-16 .perform .kept .0 ∙ back-30 .begin .kept .1 .1 .1 .1 .1 .1 .0 ∙ length-replicate {A = ℕ} 11008 0)
 
 slice-aggregate-settle-2 : tie.Need-slice-aggregate-settle-2
 slice-aggregate-settle-2 c =
@@ -128,12 +129,11 @@ settle-requires c κs =
     let a = start .pre .0 in
     let g = start .args in
     let k = back-24 .perform .kept in (
-      record { end = endOn (opened (a .understood .state .store) (a .sent-by .opening)) (bodyFrom (g .program .now) (g .at)); before = g .output .now; ends = ends back-24 a },
+      record { sender = a .sent-by .opening .sender; end = endOn (opened (a .understood .state) (a .sent-by .opening)) (bodyFrom (g .program .now) (g .at)); before = g .output .now; ends = ends back-24 a },
       (
         k .1 .1 .0 ∙ back-38 .begin .kept .1 .1 .1 .1 .1 .1 .1 .0 ∙ start .pre .1 .0 .1,
         start .pre .1 .0 .0,
         k .1 .1 .1 .1 .1 .1 .1 .1 .1 .1 .1 .1 .0 ∙ start .pre .1 .0 .2,
-        few-programs (g .state .now) (g .principal-slots .now) (g .variable-slots .now) (g .assertions .now) (g .parts) (a .understood),
         omega (arith, a .understood .represents .used-within, start .pre .1 .0 .0),
         a .understood .represents .rest-zero ∙ ap (λ (n : ℕ). replicate (n - g .parts .used) 0) (start .pre .1 .0 .0),
       ),
@@ -169,10 +169,11 @@ returns c a =
     let g = start .args in
     let s = a .understood .state in
     let o = bodyFrom (g .program .now) (g .at) in
-    let e = endOn (opened (s .store) (a .sent-by .opening)) o in
-    let S = back-6 .settle .ensures e (start .args .output .now) (ends back-31 a) in
-    end-reply (lent start) s (endOr e) _ _ _ _ (S .0) (S .1 s (sym (a .understood .represents .counted)))
-    ∙ ap (endReply (lent start) s) (sym (ap (run (s .store)) (a .sent-by .parsed) ∙ commands-performed (s .store) (a .sent-by .opening) o (a .sent-by .logged-in)))
+    let e = endOn (opened s (a .sent-by .opening)) o in
+    let q = a .sent-by .opening .sender in
+    let S = back-6 .settle .ensures q e (start .args .output .now) (ends back-31 a) in
+    end-reply (lent start) (tallied q (endOr e)) _ _ _ _ (closed-tallied q (endOr e) (S .0)) (S .1)
+    ∙ ap (endReply (lent start)) (sym (ap (run s) (a .sent-by .parsed) ∙ commands-performed s (a .sent-by .opening) o (a .sent-by .logged-in)))
 
 pub session-spec : {M : Type 1} → statement M
 session-spec =

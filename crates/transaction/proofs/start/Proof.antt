@@ -30,10 +30,10 @@ start-after-admit c =
 abbrev start-after-admission2 : tie.After-admission2 → tie.Start
 start-after-admission2 c = start-after-admit (c .before .before)
 
-answered : (c : tie.After-admit) (u : Known (start-after-admit c)) (r : Admission) → c .admit .result ≡ r → Admits r (u .state .store) (start-after-admit c .args .program .now)
+answered : (c : tie.After-admit) (u : Known (start-after-admit c)) (r : Admission) → c .admit .result ≡ r → Admits r (u .state) (start-after-admit c .args .program .now)
 answered c u r is =
     let a = start-after-admit c .args in
-    subst (λ (o : Admission). Admits o (u .state .store) (a .program .now)) is (c .admit .ensures (a .variable-slots .now) (a .assertions .now) (u .state) (u .represents))
+    subst (λ (o : Admission). Admits o (u .state) (a .program .now)) is (c .admit .ensures (a .variable-slots .now) (a .assertions .now) (u .state) (u .represents))
 
 abbrev admitted : (c : tie.After-admission2) (u : Known (start-after-admission2 c))
     → let a = start-after-admission2 c .args in Admitted (a .state .now) (a .principal-slots .now) (a .variable-slots .now) (a .assertions .now) (a .parts) (a .program .now) (c .admission2 .given .0 .0) (c .admission2 .given .0 .1 .0)
@@ -77,7 +77,7 @@ returns c u =
     let R = c .before .before .before .before .refuse .ensures in
     let t = start .args .program .now in
     let h = answered back-10 u (Is.Refused (back-8 .admission .given .0 .0)) (back-8 .admission .given .1) in
-    end-reply (lent start) (u .state) (run (u .state .store) (parse t)) _ _ _ _ (closed-refusal R h) (kept R h (start .args .state .now) (u .state))
+    end-reply (lent start) (run (u .state) (parse t)) _ _ _ _ (closed-refusal R h) (kept R h (start .args .state .now))
 
 same-length-5 : tie.Need-same-length-5
 same-length-5 c = search needs

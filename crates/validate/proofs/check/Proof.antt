@@ -1,111 +1,22 @@
-use mathlib.Core.Path.{_≡_, sym, subst, _∙_}
-use mathlib.Core.List.{List, map}
-use Prim.Native.Nat.{ℕ}
+use mathlib.Core.Path.{subst}
 use native.Mathlib.Omega.{arith}
-use borrow.Author.Needs.{needs}
-use borrow.Author.Tests.{not-true, not-false, eqb-true, eqb-false}
 use denote.Ref.{now}
-use lib.ListN.{length, drop}
-use Rattle.store.specs.Rows.{Row, rowNames, principalRow, variableRow}
-use Rattle.store.proofs.Records.{slots-long}
+use Rattle.language.specs.Encode.{headText}
 use Rattle.record_fields.specs.Sections.{Reads, anyText}
-use Rattle.frame.specs.Edges.{Top, topText, fineTop, HeadMeant, total}
-use Rattle.principal_lines.specs.Principals.{PrincipalsMeant}
-use Rattle.references.specs.Known.{Delegating, DelegatorMeant}
-use Rattle.validate.specs.Shared.{VariablesMeant}
-use Rattle.assertion_lines.specs.Assertions.{Granted, AssertionsMeant}
-use Rattle.validate.proofs.Verdicts.{Principals, Values, bad-head, bad-principals, rows-of-principals, principals-light, bad-delegator, bad-variables, values-rows, values-light, bad-assertions, bad-behind, all-good}
+use Rattle.frame.specs.Edges.{fineHead, HeadMeant}
+use Rattle.validate.proofs.Heads.{bad-head, headed-body}
+use borrow.Author.Needs.{needs}
 use Rattle.validate.proofs.check.Statement.{statement}
 use Rattle.validate.proofs.check.Tie as tie
 use Rattle.validate.proofs.check.Reads as reads
 use Rattle.validate.proofs.check.Lts as lts
-use Rattle.assertion_lines.proofs.assertions.Reads as assertions-reads
 use Rattle.frame.proofs.head_at.Reads as head-at-reads
-use Rattle.frame.proofs.zeros_from.Reads as zeros-from-reads
-use Rattle.references.proofs.delegator_at.Reads as delegator-at-reads
-use Rattle.principal_lines.proofs.principals.Reads as principals-reads
-use Rattle.validate.proofs.shared.variables.Reads as variables-reads
+use Rattle.validate.proofs.body.body_at.Reads as body-at-reads
 
-abbrev text : (c : tie.Start) → List ℕ
-text c = now (c .args .state)
-
--- the function's start, as these places see it
-abbrev start-after-head : tie.After-head → tie.Start
-start-after-head c = c .before .before .before .before .before .before .before
-
-abbrev start-after-line : tie.After-line → tie.Start
-start-after-line c = c .before .before .before .before .before .before .before .before .before .before .before .before .before .before .before .before .before .before .before
-
-abbrev start-after-values : tie.After-values → tie.Start
-start-after-values c = c .before .before .before .before .before .before .before .before .before .before .before .before .before .before .before .before .before .before .before .before .before .before .before .before .before .before
-
-abbrev start-after-listed : tie.After-listed → tie.Start
-start-after-listed c =
-    let back-17 = c .before .before .before .before .before .before .before .before .before .before .before .before .before .before .before .before .before in
-    back-17 .before .before .before .before .before .before .before .before .before .before .before .before .before .before .before .before .before .before
-
-abbrev e₁ : (c : tie.After-head) → ℕ
-e₁ c = c .head .given .0 .1 .1 .0
-
-abbrev top : (c : tie.After-head) → Top
-top c = record { isOpen = c .head .given .0 .0; count = c .head .given .0 .1 .0 }
-
-heads : (c : tie.After-head) → Reads topText fineTop anyText (text (start-after-head c)) 0 (top c) (e₁ c)
+heads : (c : tie.After-head) → Reads headText fineHead anyText (now (c .before .before .before .before .before .before .before .args .state)) 0 (c .head .given .0 .0) (c .head .given .0 .1 .0)
 heads c =
-    let back-7 = start-after-head c in
-    subst (λ k. HeadMeant (text back-7) k) (c .head .given .1) (c .before .before .head-at .ensures)
-
-abbrev slots-p : (c : tie.After-principals) → List ℕ
-slots-p c = c .principals .last .1 .1 .0
-
-roster : (c : tie.After-roster) → Principals (text (c .before .before .before .before .before .before .before .before .before .before .before .before .before .before)) (e₁ (c .before .before .before .before .before .before .before))
-    (slots-p (c .before .before .before .before)) (c .roster .given .0 .0) (c .roster .given .0 .1 .0) (c .roster .given .0 .1 .1 .0)
-roster c =
-    let back-4 = c .before .before .before .before in
-    let back-7 = back-4 .before .before .before in
-    let back-14 = back-7 .before .before .before .before .before .before .before in
-    subst (λ k. PrincipalsMeant (text back-14) (e₁ back-7) (slots-p back-4) k) (c .roster .given .1) (back-4 .principals .ensures)
-
-abbrev prows : (c : tie.After-roster) → List Row
-prows c = map principalRow (roster c .records .rows)
-
-delegating : (c : tie.After-line) → Delegating (rowNames (prows (c .before .before .before .before .before))) (text (start-after-line c)) (c .before .before .before .before .before .roster .given .0 .0) (c .line .given .0 .0) (c .line .given .0 .1 .0)
-delegating c =
-    let back-5 = c .before .before .before .before .before in
-    let back-12 = back-5 .before .before .before .before .before .before .before in
-    let back-19 = back-12 .before .before .before .before .before .before .before in
-    subst (λ k. DelegatorMeant (rowNames (prows back-5)) (text back-19) (back-5 .roster .given .0 .0) k) (c .line .given .1)
-    (c .before .before .delegator-at .ensures (prows back-5) (rows-of-principals (text back-19) (top back-12) (e₁ back-12) (heads back-12) _ _ _ _ (roster back-5)))
-
-abbrev slots-v : (c : tie.After-variables) → List ℕ
-slots-v c = c .variables .last .1 .1 .1 .0
-
-values : (c : tie.After-values) → Values (text (start-after-values c)) (c .before .before .before .before .before .before .before .line .given .0 .1 .0)
-    (c .before .before .before .before .before .before .before .before .before .before .before .before .roster .given .0 .1 .1 .0) (slots-v (c .before .before .before .before)) (c .values .given .0 .0) (c .values .given .0 .1 .0) (c .values .given .0 .1 .1 .0)
-values c =
-    let back-4 = c .before .before .before .before in
-    let back-7 = back-4 .before .before .before in
-    let back-12 = back-7 .before .before .before .before .before in
-    let back-26 = back-12 .before .before .before .before .before .before .before .before .before .before .before .before .before .before in
-    subst (λ k. VariablesMeant (text back-26) (back-7 .line .given .0 .1 .0) (back-12 .roster .given .0 .1 .1 .0) (slots-v back-4) k) (c .values .given .1) (back-4 .variables .ensures)
-
-abbrev vrows : (c : tie.After-values) → List Row
-vrows c = map variableRow (values c .records .rows)
-
-granted : (c : tie.After-listed) → Granted (rowNames (prows (c .before .before .before .before .before .before .before .before .before .before .before .before .before .before .before .before .before .before .before .before .before)))
-    (rowNames (vrows (c .before .before .before .before .before .before .before .before .before))) (text (start-after-listed c)) (c .before .before .before .before .before .before .before .before .before .values .given .0 .0)
-    (c .before .before .before .before .before .before .before .before .before .values .given .0 .1 .1 .0) (c .before .before .before .before .assertions .last .1 .1 .1 .1 .1 .1 .0) (c .listed .given .0 .0) (c .listed .given .0 .1 .0) (c .listed .given .0 .1 .1 .0)
-granted c =
-    let back-4 = c .before .before .before .before in
-    let back-9 = back-4 .before .before .before .before .before in
-    let back-16 = back-9 .before .before .before .before .before .before .before in
-    let back-21 = back-16 .before .before .before .before .before in
-    let back-28 = back-21 .before .before .before .before .before .before .before in
-    let back-35 = back-28 .before .before .before .before .before .before .before in
-    subst (λ k. AssertionsMeant (rowNames (prows back-21)) (rowNames (vrows back-9)) (text back-35) (back-9 .values .given .0 .0) (back-9 .values .given .0 .1 .1 .0) (back-4 .assertions .last .1 .1 .1 .1 .1 .1 .0) k) (c .listed .given .1)
-    (back-4 .assertions .ensures (prows back-21) (vrows back-9)
-    (rows-of-principals (text back-35) (top back-28) (e₁ back-28) (heads back-28) _ _ _ _ (roster back-21))
-    (values-rows (text back-35) (top back-28) (e₁ back-28) (heads back-28) _ _ _ _ (roster back-21) _ _ (delegating back-16) _ _ _ _ (values back-9)))
+    let start = c .before .before .before .before .before .before .before in
+    subst (λ k. HeadMeant (now (start .args .state)) k) (c .head .given .1) (c .before .before .head-at .ensures)
 
 head-at-requires : tie.Need-head-at-requires
 head-at-requires c κs = search needs
@@ -118,195 +29,36 @@ enum-told c = search needs
 
 returns : tie.Need-returns
 returns c =
-    let back-7 = c .before .before .before .before .before .before .before in
-    bad-head (text back-7) (subst (λ k. HeadMeant (text back-7) k) (c .enum-told .given .1) (c .before .before .head-at .ensures))
+    let start = c .before .before .before .before .before .before .before in
+    bad-head (now (start .args .state)) (subst (λ k. HeadMeant (now (start .args .state)) k) (c .enum-told .given .1) (c .before .before .head-at .ensures))
 
-principals-requires : tie.Need-principals-requires
-principals-requires c κs =
-    let start = c .before .before .before .before .before .before .before .before .before in
-    let h = heads (c .before .before) .high in (h, omega (arith, start .pre .0), start .pre .1)
-
-enum-known-roster : tie.Need-enum-known-roster
-enum-known-roster c = search needs
-
-enum-told-2 : tie.Need-enum-told-2
-enum-told-2 c = search needs
+body-at-requires : tie.Need-body-at-requires
+body-at-requires c κs =
+    let p = c .before .before .before .before .before .before .before .before .before .before .before .pre in
+    record {
+      start = heads (c .before .before .before .before) .high;
+      size = p .0;
+      principals-few = omega (arith, p .1);
+      principals-room = omega (arith, p .1);
+      variables-size = p .2;
+      assertions-size = p .3;
+    }
 
 same-length : tie.Need-same-length
 same-length c = search needs
 
-returns-2 : tie.Need-returns-2
-returns-2 c =
-    let back-4 = c .before .before .before .before in
-    let back-7 = back-4 .before .before .before in
-    let back-14 = back-7 .before .before .before .before .before .before .before in
-    bad-principals (text back-14) (top back-7) (e₁ back-7) (heads back-7)
-    (subst (λ k. PrincipalsMeant (text back-14) (e₁ back-7) (slots-p back-4) k) (c .enum-told2 .given .1) (back-4 .principals .ensures))
-
-delegator-at-requires : tie.Need-delegator-at-requires
-delegator-at-requires c κs =
-    let back-9 = c .before .before .before .before .before .before .before .before .before in
-    let back-16 = back-9 .before .before .before .before .before .before .before in
-    let P = roster (c .before .before) in
-    (P .records .reads .low, P .records .reads .high, record { rows = prows (c .before .before); held = rows-of-principals (text back-16) (top back-9) (e₁ back-9) (heads back-9) _ _ _ _ P })
-
-enum-known-line : tie.Need-enum-known-line
-enum-known-line c = search needs
-
-enum-told-3 : tie.Need-enum-told-3
-enum-told-3 c = search needs
-
 same-length-2 : tie.Need-same-length-2
 same-length-2 c = search needs
-
-returns-3 : tie.Need-returns-3
-returns-3 c =
-    let back-5 = c .before .before .before .before .before in
-    let back-12 = back-5 .before .before .before .before .before .before .before in
-    let back-19 = back-12 .before .before .before .before .before .before .before in
-    bad-delegator (text back-19) (top back-12) (e₁ back-12) (heads back-12) _ _ _ _ (roster back-5)
-    (subst (λ k. DelegatorMeant (rowNames (prows back-5)) (text back-19) (back-5 .roster .given .0 .0) k) (c .enum-told3 .given .1)
-    (c .before .before .delegator-at .ensures (prows back-5) (rows-of-principals (text back-19) (top back-12) (e₁ back-12) (heads back-12) _ _ _ _ (roster back-5))))
-
-variables-requires : tie.Need-variables-requires
-variables-requires c κs =
-    let back-7 = c .before .before .before .before .before .before .before in
-    let back-14 = back-7 .before .before .before .before .before .before .before in
-    let start = back-14 .before .before .before .before .before .before .before in
-    let l = principals-light (text start) (top back-14) (e₁ back-14) (heads back-14) _ _ _ _ (roster back-7) in
-    (delegating (c .before .before) .reads .high, omega (arith, start .pre .0), start .pre .2, l .0)
-
-enum-known-values : tie.Need-enum-known-values
-enum-known-values c = search needs
-
-enum-told-4 : tie.Need-enum-told-4
-enum-told-4 c = search needs
 
 same-length-3 : tie.Need-same-length-3
 same-length-3 c = search needs
 
-same-length-4 : tie.Need-same-length-4
-same-length-4 c = search needs
-
-returns-4 : tie.Need-returns-4
-returns-4 c =
-    let back-4 = c .before .before .before .before in
-    let back-7 = back-4 .before .before .before in
-    let back-12 = back-7 .before .before .before .before .before in
-    let back-19 = back-12 .before .before .before .before .before .before .before in
-    let back-26 = back-19 .before .before .before .before .before .before .before in
-    bad-variables (text back-26) (top back-19) (e₁ back-19) (heads back-19) _ _ _ _ (roster back-12) _ _ (delegating back-7)
-    (subst (λ k. VariablesMeant (text back-26) (back-7 .line .given .0 .1 .0) (back-12 .roster .given .0 .1 .1 .0) (slots-v back-4) k) (c .enum-told4 .given .1) (back-4 .variables .ensures))
-
-assertions-requires : tie.Need-assertions-requires
-assertions-requires c κs =
-    let back-4 = c .before .before .before .before in
-    let back-8 = back-4 .before .before .before .before in
-    let back-11 = back-8 .before .before .before in
-    let back-16 = back-11 .before .before .before .before .before in
-    let back-20 = back-16 .before .before .before .before in
-    let back-23 = back-20 .before .before .before in
-    let start = back-23 .before .before .before .before .before .before .before in
-    let P = roster back-16 in
-    let W = values back-4 in
-    let p = rows-of-principals (text start) (top back-23) (e₁ back-23) (heads back-23) _ _ _ _ P in
-    let v = values-rows (text start) (top back-23) (e₁ back-23) (heads back-23) _ _ _ _ P _ _ (delegating back-11) _ _ _ _ W in
-    let lp = slots-long (prows back-16) _ _ _ p in
-    let lv = slots-long (vrows back-4) _ _ _ v in
-    let kp : length (slots-p back-20) ≡ 4096 = back-20 .principals .kept .1 .1 .0 ∙ start .pre .1 in
-    let kv : length (slots-v back-8) ≡ 4096 = back-8 .variables .kept .1 .1 .1 .0 ∙ start .pre .2 in (
-      record {
-        small = omega (arith, start .pre .0);
-        principals-order = P .records .reads .low;
-        principals-within = P .records .reads .high;
-        principals-few = omega (arith, lp, kp);
-        principals-some = record { rows = prows back-16; held = p };
-        vars-order = W .records .reads .low;
-        vars-within = W .records .reads .high;
-        vars-few = omega (arith, lv, kv);
-        vars-some = record { rows = vrows back-4; held = v };
-      },
-      W .records .reads .high,
-      values-light (text start) (top back-23) (e₁ back-23) (heads back-23) _ _ _ _ P _ _ (delegating back-11) _ _ _ _ W,
-      start .pre .3,
-    )
-
-enum-known-listed : tie.Need-enum-known-listed
-enum-known-listed c = search needs
-
-enum-told-5 : tie.Need-enum-told-5
-enum-told-5 c = search needs
-
-same-length-5 : tie.Need-same-length-5
-same-length-5 c = search needs
-
-same-length-6 : tie.Need-same-length-6
-same-length-6 c = search needs
-
-same-length-7 : tie.Need-same-length-7
-same-length-7 c = search needs
-
-returns-5 : tie.Need-returns-5
-returns-5 c =
-    let back-4 = c .before .before .before .before in
-    let back-9 = back-4 .before .before .before .before .before in
-    let back-16 = back-9 .before .before .before .before .before .before .before in
-    let back-21 = back-16 .before .before .before .before .before in
-    let back-28 = back-21 .before .before .before .before .before .before .before in
-    let back-35 = back-28 .before .before .before .before .before .before .before in
-    bad-assertions (text back-35) (top back-28) (e₁ back-28) (heads back-28) _ _ _ _ (roster back-21) _ _ (delegating back-16) _ _ _ _ (values back-9)
-    (subst (λ k. AssertionsMeant (rowNames (prows back-21)) (rowNames (vrows back-9)) (text back-35) (back-9 .values .given .0 .0) (back-9 .values .given .0 .1 .1 .0) (back-4 .assertions .last .1 .1 .1 .1 .1 .1 .0) k) (c .enum-told5 .given .1)
-    (back-4 .assertions .ensures (prows back-21) (vrows back-9)
-    (rows-of-principals (text back-35) (top back-28) (e₁ back-28) (heads back-28) _ _ _ _ (roster back-21))
-    (values-rows (text back-35) (top back-28) (e₁ back-28) (heads back-28) _ _ _ _ (roster back-21) _ _ (delegating back-16) _ _ _ _ (values back-9))))
-
-zeros-from-requires : tie.Need-zeros-from-requires
-zeros-from-requires c κs =
-    let back-18 = c .before .before .before .before .before .before .before .before .before .before .before .before .before .before .before .before .before .before in
-    let start = back-18 .before .before .before .before .before .before .before .before .before .before .before .before .before .before .before .before .before .before in
-    (granted (c .before) .records .reads .high, omega (arith, start .pre .0))
-
-same-length-8 : tie.Need-same-length-8
-same-length-8 c =
-    let back-28 = c .before .before .before .before .before .before .before .before .before .before .before .before .before .before .before .before .before .before .before .before .before .before .before .before .before .before .before .before in
-    back-28 .principals .kept .1 .1 .0
-
-same-length-9 : tie.Need-same-length-9
-same-length-9 c = search needs
-
-same-length-10 : tie.Need-same-length-10
-same-length-10 c = search needs
-
-returns-6 : tie.Need-returns-6
-returns-6 c =
-    let back-12 = c .before .before .before .before .before .before .before .before .before .before .before .before in
-    let back-19 = back-12 .before .before .before .before .before .before .before in
-    let back-24 = back-19 .before .before .before .before .before in
-    let back-31 = back-24 .before .before .before .before .before .before .before in
-    let back-38 = back-31 .before .before .before .before .before .before .before in
-    bad-behind (text back-38) (top back-31) (e₁ back-31) (heads back-31) _ _ _ _ (roster back-24) _ _ (delegating back-19) _ _ _ _ (values back-12) _ _ _ _ (granted (c .before .before .before))
-    (eqb-false (total (drop (c .before .before .before .listed .given .0 .0) (text back-38))) 0 (sym (c .before .zeros-from .ensures) ∙ not-true (c .before .zeros-from .result) (c .if1 .taken)))
-
-same-length-11 : tie.Need-same-length-11
-same-length-11 c =
-    let back-28 = c .before .before .before .before .before .before .before .before .before .before .before .before .before .before .before .before .before .before .before .before .before .before .before .before .before .before .before .before in
-    back-28 .principals .kept .1 .1 .0
-
-same-length-12 : tie.Need-same-length-12
-same-length-12 c = search needs
-
-same-length-13 : tie.Need-same-length-13
-same-length-13 c = search needs
-
-returns-7 : tie.Need-returns-7
-returns-7 c =
-    let back-12 = c .before .before .before .before .before .before .before .before .before .before .before .before in
-    let back-19 = back-12 .before .before .before .before .before .before .before in
-    let back-24 = back-19 .before .before .before .before .before in
-    let back-31 = back-24 .before .before .before .before .before .before .before in
-    let start = back-31 .before .before .before .before .before .before .before in
-    all-good (text start) (top back-31) (e₁ back-31) (heads back-31) _ _ _ _ (roster back-24) _ _ (delegating back-19) _ _ _ _ (values back-12) _ _ _ _ (granted (c .before .before .before)) (start .pre .0)
-    (eqb-true (total (drop (c .before .before .before .listed .given .0 .0) (text start))) 0 (sym (c .before .zeros-from .ensures) ∙ not-false (c .before .zeros-from .result) (c .if1 .left)))
+returns-2 : tie.Need-returns-2
+returns-2 c =
+    let back-6 = c .before .before .before .before .before .before in
+    let back-11 = back-6 .before .before .before .before .before in
+    let start = back-11 .before .before .before .before .before .before .before in
+    headed-body (now (start .args .state)) _ _ (heads back-11) (start .pre .0) (back-6 .body-at .last .1 .1 .1 .1 .0) (back-6 .body-at .last .1 .1 .1 .1 .1 .0) (back-6 .body-at .last .1 .1 .1 .1 .1 .1 .0) (back-6 .body-at .result) (back-6 .body-at .ensures)
 
 pub check-spec : {M : Type 1} → statement M
 check-spec =
@@ -316,35 +68,8 @@ check-spec =
     enum-known-head
     enum-told
     returns
-    principals-requires
-    enum-known-roster
-    enum-told-2
+    body-at-requires
     same-length
-    returns-2
-    delegator-at-requires
-    enum-known-line
-    enum-told-3
     same-length-2
-    returns-3
-    variables-requires
-    enum-known-values
-    enum-told-4
     same-length-3
-    same-length-4
-    returns-4
-    assertions-requires
-    enum-known-listed
-    enum-told-5
-    same-length-5
-    same-length-6
-    same-length-7
-    returns-5
-    zeros-from-requires
-    same-length-8
-    same-length-9
-    same-length-10
-    returns-6
-    same-length-11
-    same-length-12
-    same-length-13
-    returns-7)
+    returns-2)

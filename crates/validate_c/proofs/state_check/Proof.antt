@@ -3,7 +3,7 @@ use mathlib.Core.List.{List}
 use Prim.Native.Nat.{ℕ}
 use native.Mathlib.Omega.{arith}
 use lib.ListN.{length}
-use Rattle.language.specs.State.{State}
+use Rattle.language.specs.State.{Store}
 use Rattle.validate.specs.Checked.{Understood, CheckedMeant}
 use Rattle.validate_c.specs.Reported.{figures}
 use Rattle.state_lookups.specs.Looks.{Look, found, Says}
@@ -12,7 +12,7 @@ use borrow.Author.Needs.{needs}
 use Rattle.validate_c.proofs.state_check.Statement.{statement}
 use Rattle.validate_c.proofs.state_check.Tie as tie
 
-abbrev look : (c : tie.Start) → State → Look
+abbrev look : (c : tie.Start) → Store → Look
 look c s = found 0 (figures s)
 
 understood : (c : tie.After-checked) → Understood (c .before .before .before .before .before .before .before .before .before .before .before .before .before .args .state .now)
@@ -23,12 +23,12 @@ understood c =
     subst (λ k. CheckedMeant (start .args .state .now) (back-5 .check .last .1 .0) (back-5 .check .last .1 .1 .0) (back-5 .check .last .1 .1 .1 .0) k) (c .checked .given .1) (back-5 .check .ensures)
 
 returns : tie.Need-returns
-returns c = no-size 2055 (look (c .before .before .before)) (c .before .before .before .args .state .now) (c .before .before .before .args .out .now) (c .if1 .taken)
+returns c = no-size 2054 (look (c .before .before .before)) (c .before .before .before .args .state .now) (c .before .before .before .args .out .now) (c .if1 .taken)
 
 returns-2 : tie.Need-returns-2
 returns-2 c =
     let start = c .before .before .before .before in
-    no-room 2055 (look start) (start .args .state .now) (start .args .out .now) (c .if2 .taken)
+    no-room 2054 (look start) (start .args .state .now) (start .args .out .now) (c .if2 .taken)
 
 slice-aggregate-check : tie.Need-slice-aggregate-check
 slice-aggregate-check c = search needs
@@ -69,7 +69,7 @@ returns-3 c =
     let back-16 = back-15 .before in
     let start = back-16 .before .before .before in
     let U = understood back-6 in
-    formed 2055 (look start) (start .args .state .now) (start .args .out .now) (back-16 .if1 .left) (back-15 .if2 .left) (U .state) (U .decoded)
+    formed 2054 (look start) (start .args .state .now) (start .args .out .now) (back-16 .if1 .left) (back-15 .if2 .left) (U .state) (U .decoded)
     (subst (λ (l : List ℕ). Says (found 0 l) (start .args .out .now) (c .before .before .figures .last .1 .1 .0) (c .before .before .figures .result)) (sym (figures-are _ _ _ _ _ _ (U .represents)))
     (c .before .before .figures .ensures))
 
@@ -79,7 +79,7 @@ returns-4 c =
     let back-9 = back-5 .before .before .before .before in
     let back-10 = back-9 .before in
     let start = back-10 .before .before .before in
-    not-formed 2055 (look start) (start .args .state .now) (start .args .out .now) (back-10 .if1 .left) (back-9 .if2 .left)
+    not-formed 2054 (look start) (start .args .state .now) (start .args .out .now) (back-10 .if1 .left) (back-9 .if2 .left)
     (subst (λ k. CheckedMeant (start .args .state .now) (back-5 .check .last .1 .0) (back-5 .check .last .1 .1 .0) (back-5 .check .last .1 .1 .1 .0) k) (c .enum-told .given .1) (back-5 .check .ensures))
 
 pub state-check-spec : {M : Type 1} → statement M

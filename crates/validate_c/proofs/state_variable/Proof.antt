@@ -1,7 +1,7 @@
 use mathlib.Core.Path.{_≡_, subst}
 use native.Mathlib.Omega.{arith}
 use lib.ListN.{length}
-use Rattle.language.specs.State.{State}
+use Rattle.language.specs.State.{Store}
 use Rattle.validate.specs.Checked.{Understood, CheckedMeant}
 use Rattle.state_lookups.specs.Looks.{Look, variableOf}
 use Rattle.validate_c.proofs.Reporting.{no-size, no-room, formed, not-formed, few-variables}
@@ -9,8 +9,8 @@ use borrow.Author.Needs.{needs}
 use Rattle.validate_c.proofs.state_variable.Statement.{statement}
 use Rattle.validate_c.proofs.state_variable.Tie as tie
 
-abbrev look : (c : tie.Start) → State → Look
-look c s = variableOf (s .store .variables) (c .args .name .now)
+abbrev look : (c : tie.Start) → Store → Look
+look c s = variableOf (s .variables) (c .args .name .now)
 
 understood : (c : tie.After-checked) → Understood (c .before .before .before .before .before .before .before .before .before .before .before .before .before .before .args .state .now)
     (c .before .before .before .before .before .check .last .1 .0) (c .before .before .before .before .before .check .last .1 .1 .0) (c .before .before .before .before .before .check .last .1 .1 .1 .0) (c .checked .given .0 .0)
@@ -62,7 +62,7 @@ variable-requires c κs =
     let back-13 = back-9 .before .before .before .before in
     let U = understood (c .before .before .before .before) in
     let k : length (back-9 .check .last .1 .1 .0) ≡ 4096 = back-9 .check .kept .1 .1 .0 in
-    (record { rows = U .state .store .variables; held = U .represents .variables }, few-variables _ _ _ _ _ _ (U .represents) k, back-13 .if2 .left)
+    (record { rows = U .state .variables; held = U .represents .variables }, few-variables _ _ _ _ _ _ (U .represents) k, back-13 .if2 .left)
 
 enum-told : tie.Need-enum-told
 enum-told c = search needs
@@ -78,7 +78,7 @@ returns-3 c =
     let start = back-17 .before .before .before .before in
     let U = understood back-7 in
     formed 65536 (look start) (start .args .state .now) (start .args .out .now) (back-17 .if1 .left) (back-16 .if2 .left) (U .state) (U .decoded)
-    (c .before .before .variable .ensures (U .state .store .variables) (U .represents .variables))
+    (c .before .before .variable .ensures (U .state .variables) (U .represents .variables))
 
 returns-4 : tie.Need-returns-4
 returns-4 c =

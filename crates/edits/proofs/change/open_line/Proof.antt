@@ -1,20 +1,18 @@
 use mathlib.Core.Path.{_≡_, sym, _∙_}
 use mathlib.Core.List.{List, [], _∷_, map}
-use mathlib.Core.Option.{some}
 use Prim.Native.Nat.{_+_, _≤_, _<_}
 use native.Mathlib.Omega.{arith}
 use borrow.Author.Needs.{needs}
 use lib.ListN.{length, take}
 use lib.Seq.{length-take-le}
 use Rattle.language.specs.State.{Principal}
-use Rattle.language.specs.Encode.{newline}
 use Rattle.store.specs.Held.{Principals}
 use Rattle.store.specs.Rows.{principalRow, Placed}
 use Rattle.store.specs.Contents.{principalAt}
 use Rattle.store.proofs.Holders.{principals-rows, some-principals}
 use Rattle.store.proofs.Places.{lies}
 use Rattle.edits.proofs.Rewriting.{respelled-spot}
-use Rattle.edits.proofs.PasswordChanges.{bare-respelled, opened, store-outside}
+use Rattle.edits.proofs.PasswordChanges.{tabbed, bare-respelled, opened, store-outside}
 use Rattle.edits.proofs.change.open_line.Statement.{statement}
 use Rattle.edits.proofs.change.open_line.Tie as tie
 
@@ -70,7 +68,7 @@ rewrite-requires c κs =
       p .0,
       fits s,
       respelled-spot (map principalRow (S .principals)) t (a .count) (a .slots .now) (principals-rows (S .principals) t (a .count) (a .slots .now) (S .held)) (a .number)
-          (q .mid) (q .mid) (9 ∷ []) (record { letter = 78; name = principalAt (S .principals) (a .number) .name; body = some (newline ∷ []) }) (S .below) R,
+          (q .mid) (q .mid) (9 ∷ []) (tabbed (principalAt (S .principals) (a .number))) (S .below) R,
       omega (arith, safe (c .before .before .before), p .1),
     )
 
@@ -103,7 +101,7 @@ returns c =
         store-outside (a .buf .now) (E .last .0) (E .result) (a .slots .now) (E .last .1 .1 .0) (a .count) (q .start) 80 (omega (arith, f, size)) (E .ensures .1 .0),
         λ ks K e.
             opened ks t (a .count) (a .slots .now) K (a .number) k (E .last .0) (E .result) (q .start) (E .last .1 .1 .0)
-            (E .ensures .1 .1 (map principalRow ks) (record { letter = 78; name = principalAt ks (a .number) .name; body = some (newline ∷ []) }) (principals-rows ks t (a .count) (a .slots .now) K)
+            (E .ensures .1 .1 (map principalRow ks) (tabbed (principalAt ks (a .number))) (principals-rows ks t (a .count) (a .slots .now) K)
             (bare-respelled ks t (a .count) (a .slots .now) K (a .number) k q (placed back-8 ks K) e))
             (placed back-8 ks K .starts) (omega (arith, f, size)),
       ),

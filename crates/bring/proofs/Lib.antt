@@ -1,0 +1,4 @@
+-- Laws that belong to no one function.
+pub mod Brought
+pub mod Refused
+pub mod Copying

@@ -1,0 +1,2 @@
+-- Laws of a principal's count.
+pub mod Reading

@@ -1,0 +1,2 @@
+-- Where a principal's count stands, and what it is.
+pub mod Counted
