@@ -14,6 +14,17 @@ pub enum MakeError {
     Unexpected,
 }
 
+/// Why a former state was not brought over.
+#[derive(Clone, Copy, PartialEq, Eq, Debug)]
+pub enum BringError {
+    /// The former state is not well formed in the former lines.
+    NotWellFormed,
+    /// It would weigh too much: each principal weighs ten more than it did.
+    TooHeavy,
+    /// An answer that the server does not give.
+    Unexpected,
+}
+
 /// Why a program was not run.
 #[derive(Clone, Copy, PartialEq, Eq, Debug)]
 pub enum RunError {
@@ -51,6 +62,16 @@ impl fmt::Display for MakeError {
     }
 }
 
+impl fmt::Display for BringError {
+    fn fmt(&self, f: &mut fmt::Formatter<'_>) -> fmt::Result {
+        f.write_str(match self {
+            BringError::NotWellFormed => "the state is not well formed in the former lines",
+            BringError::TooHeavy => "the state would weigh more than 8,192, since each principal now weighs 10 more",
+            BringError::Unexpected => UNEXPECTED,
+        })
+    }
+}
+
 impl fmt::Display for RunError {
     fn fmt(&self, f: &mut fmt::Formatter<'_>) -> fmt::Result {
         f.write_str(match self {
@@ -73,5 +94,6 @@ impl fmt::Display for AskError {
 }
 
 impl Error for MakeError {}
+impl Error for BringError {}
 impl Error for RunError {}
 impl Error for AskError {}

@@ -30,7 +30,7 @@ mod right;
 
 use std::fmt;
 
-pub use error::{AskError, MakeError, RunError};
+pub use error::{AskError, BringError, MakeError, RunError};
 use raw::Answer;
 pub use raw::Kind;
 pub use right::{NoSuchRight, Right};
@@ -90,6 +90,17 @@ impl Server {
             Answer::Wrong(8) => Err(MakeError::PasswordByte),
             Answer::Wrong(9) => Err(MakeError::PasswordLength),
             _ => Err(MakeError::Unexpected),
+        }
+    }
+
+    /// A server from a former state, one that was kept by 0.3.0 or before, with one count for all programs. Every principal's count starts from 0.
+    pub fn bring(former: &Buffer) -> Result<Server, BringError> {
+        let mut server = Server::over(zeros());
+        match raw::bring(&former[..], &mut server.state[..]) {
+            Answer::Ready => Ok(server),
+            Answer::Wrong(10) => Err(BringError::NotWellFormed),
+            Answer::Wrong(11) => Err(BringError::TooHeavy),
+            _ => Err(BringError::Unexpected),
         }
     }
 

@@ -8,6 +8,7 @@ mod exported {
     // A slice passes as a pointer and then a length. crates/server_c/src/lib.rt has the other side of each line.
     extern "C" {
         pub fn kivzurg_make(state: *mut u8, state_size: usize, password: *const u8, password_size: usize) -> u64;
+        pub fn kivzurg_bring(former: *const u8, former_size: usize, state: *mut u8, state_size: usize) -> u64;
         pub fn kivzurg_run(
             state: *mut u8,
             state_size: usize,
@@ -60,7 +61,7 @@ impl fmt::Display for Kind {
 /// What a function answers.
 #[derive(Clone, Copy, PartialEq, Eq, Debug)]
 pub enum Answer {
-    /// The call was refused with this number, from 1 to 9. Nothing has changed.
+    /// The call was refused with this number, from 1 to 11. Nothing has changed.
     Wrong(u8),
     /// A program was run.
     Ended {
@@ -75,7 +76,7 @@ pub enum Answer {
     Yes(usize),
     /// The right is not held.
     No,
-    /// A server was made.
+    /// A server was made, or brought over.
     Ready,
     /// A number that stands for nothing. It does not come.
     Unknown(u64),
@@ -88,7 +89,7 @@ impl Answer {
         let lines = (number >> 24 & 0xff_ffff) as usize;
         let ended = |kind| Answer::Ended { kind, lines, bytes: low };
         match number >> 48 {
-            code @ 1..=9 => Answer::Wrong(code as u8),
+            code @ 1..=11 => Answer::Wrong(code as u8),
             16 => ended(Kind::Returned),
             17 => ended(Kind::Exited),
             18 => ended(Kind::Denied),
@@ -106,6 +107,12 @@ impl Answer {
 pub fn make(state: &mut [u8], password: &[u8]) -> Answer {
     // Sound: the function reads `password`, writes within `state`, and keeps nothing of either.
     Answer::of(unsafe { exported::kivzurg_make(state.as_mut_ptr(), state.len(), password.as_ptr(), password.len()) })
+}
+
+/// Brings a former state over into `state`: `Ready`, or `Wrong` with 2, 10 or 11.
+pub fn bring(former: &[u8], state: &mut [u8]) -> Answer {
+    // Sound: the function reads `former`, writes within `state`, which does not overlap it, and keeps nothing of either.
+    Answer::of(unsafe { exported::kivzurg_bring(former.as_ptr(), former.len(), state.as_mut_ptr(), state.len()) })
 }
 
 /// Runs a program: `Ended`, or `Wrong` with a number from 1 to 5.

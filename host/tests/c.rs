@@ -32,7 +32,8 @@ fn the_header() {
     let version = env!("CARGO_PKG_VERSION");
     let expected = format!(
         "version {version}, buffer {BUFFER}, stack {STACK_BYTES}\nmade 48\nran 16, 2 lines, 53 bytes\n{{\"status\":\"SET\"}}\n\
-         {{\"status\":\"RETURNING\",\"output\":\"1\"}}\nasked 32, 0 long\nrefused 6\nrefused 3\nrefused 1\nran 19, 1 lines\n"
+         {{\"status\":\"RETURNING\",\"output\":\"1\"}}\nasked 32, 0 long\nrefused 6\nrefused 3\nrefused 1\nran 19, 1 lines\n\
+         brought 48\nO\nP\tadmin\tpppp\t0\nN\tanyone\t0\nD\tanyone\nrefused 11\nrefused 10\nrefused 2\n"
     );
     assert_eq!(printed("tests/header.c"), expected);
 }

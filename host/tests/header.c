@@ -1,14 +1,25 @@
-/* The header by itself: its constants, a server made, a program, a question, refusals, and null pointers with the size 0. */
+/* The header by itself: its constants, a server made, a program, a question, a former state brought over, refusals, and null pointers with the
+ * size 0. */
 #include "kivzurg.h"
 
 #include <stdio.h>
 #include <string.h>
 
-static uint8_t state[KIVZURG_BUFFER], work[KIVZURG_BUFFER], output[KIVZURG_BUFFER];
+static uint8_t state[KIVZURG_BUFFER], work[KIVZURG_BUFFER], output[KIVZURG_BUFFER], former[KIVZURG_BUFFER];
 
 static uint64_t run(size_t work_size, const char *program) {
     size_t size = program == NULL ? 0 : strlen(program);
     return kivzurg_run(state, sizeof state, work, work_size, output, sizeof output, (const uint8_t *)program, size);
+}
+
+/* A former state with a password of so many bytes, brought over. */
+static uint64_t bring(size_t length) {
+    static const char before[] = "O\t7\nP\tadmin\t", after[] = "\nN\tanyone\nD\tanyone\n";
+    memset(former, 0, sizeof former);
+    memcpy(former, before, strlen(before));
+    memset(former + strlen(before), 'p', length);
+    memcpy(former + strlen(before) + length, after, strlen(after));
+    return kivzurg_bring(former, sizeof former, state, sizeof state);
 }
 
 int main(void) {
@@ -30,5 +41,10 @@ int main(void) {
     printf("refused %u\n", KIVZURG_CODE(answer));
     answer = run(sizeof work, NULL);
     printf("ran %u, %zu lines\n", KIVZURG_CODE(answer), KIVZURG_LINES(answer));
+    answer = bring(4);
+    printf("brought %u\n%s", KIVZURG_CODE(answer), (const char *)state);
+    printf("refused %u\n", KIVZURG_CODE(bring(8188)));
+    printf("refused %u\n", KIVZURG_CODE(bring(8189)));
+    printf("refused %u\n", KIVZURG_CODE(kivzurg_bring(NULL, 0, NULL, 0)));
     return 0;
 }

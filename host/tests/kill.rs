@@ -1,5 +1,5 @@
 //! The host is killed at one moment after the other. What it has answered is in the journal and in the state afterwards, in order, and of the rest at
-//! most the program that it had in hand. Its next start brings the two together.
+//! most the program that it had in hand. Its next start brings the two together. A state that is being brought over is there whole or not at all.
 
 mod common;
 
@@ -8,7 +8,7 @@ use std::io::{Read, Write};
 use std::thread;
 use std::time::Duration;
 
-use common::Folder;
+use common::{former, Folder, BROUGHT, FORMER};
 use kivzurg::{Buffer, Server};
 
 const ROUNDS: u64 = 30;
@@ -83,4 +83,35 @@ fn what_was_answered_is_kept() {
     assert!(folder.printed(0, &["replay", "journal", "state"], "").ends_with("the same bytes\n"));
     println!("{total} programs kept in {ROUNDS} rounds, {cut} of them cut short, {apart} between journal and state");
     assert!(total > 0 && cut > 0, "nothing was kept, or nothing was cut short");
+}
+
+/// Killed while it brings a state over, it leaves the old file as it was and the new one whole or not there; given again, it is done.
+#[test]
+fn a_state_is_brought_over_whole_or_not_at_all() {
+    let folder = Folder::of("kill-bring");
+    let (old, new) = (former(FORMER), former(BROUGHT));
+    fs::write(folder.path("old"), &old[..]).expect("written");
+    let (mut none, mut half, mut whole) = (0, 0, 0);
+    for round in 0..5 * ROUNDS {
+        let mut host = folder.command(&["bring", "old", "new"]).spawn().expect("the host starts");
+        // Most rounds are short, since it takes a millisecond or two; the last wait long enough for a slow disk.
+        thread::sleep(Duration::from_micros(4 * round * round));
+        host.kill().expect("the host is killed");
+        host.wait().expect("the host is gone");
+        half += usize::from(folder.path("new.next").exists());
+        match fs::read(folder.path("new")) {
+            Ok(bytes) => {
+                assert_eq!(bytes, new[..], "half of it is there");
+                whole += 1;
+            }
+            Err(_) => none += 1,
+        }
+        folder.printed(0, &["bring", "old", "new"], "");
+        assert_eq!(fs::read(folder.path("new")).expect("it is there"), new[..]);
+        assert!(!folder.path("new.next").exists());
+        assert_eq!(fs::read(folder.path("old")).expect("it is there"), old[..]);
+        fs::remove_file(folder.path("new")).expect("it goes");
+    }
+    println!("killed {} times: {none} with no new state, {half} with one half made, {whole} with a whole one", none + whole);
+    assert!(none > 0 && whole > 0, "it was never killed in time, or always");
 }

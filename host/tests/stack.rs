@@ -41,6 +41,19 @@ fn chained(steps: usize) -> Vec<String> {
     commands.chunks(60).map(|some| program(&format!("{}\nreturn \"\"", some.join("\n")))).collect()
 }
 
+/// A state as 0.3.0 kept it: the first line has a count, and the principals' lines have none.
+fn former(state: &Buffer) -> Vec<u8> {
+    let text = String::from_utf8_lossy(state).trim_end_matches('\0').to_string();
+    let line = |line: &str| match line.as_bytes()[0] {
+        b'O' | b'C' => format!("{line}\t0\n"),
+        b'P' | b'N' => format!("{}\n", line.rsplit_once('\t').expect("a count").0),
+        _ => format!("{line}\n"),
+    };
+    let mut bytes = text.lines().map(line).collect::<String>().into_bytes();
+    bytes.resize(kivzurg::BUFFER, 0);
+    bytes
+}
+
 /// Every kind of call. The servers' buffers are not on this thread's stack.
 fn calls(servers: &mut [Server; 3], damaged: &mut Buffer) {
     let [plain, full, long] = servers;
@@ -55,6 +68,9 @@ fn calls(servers: &mut [Server; 3], damaged: &mut Buffer) {
     assert_eq!(long.ask(Principal(b"p199"), Variable(b"l"), Right::Write), Ok(None));
     assert_eq!(raw::ask(&damaged[..], b"admin", b"l", b'r'), raw::Answer::Wrong(4));
     assert_eq!(raw::make(&mut damaged[..], b"p"), raw::Answer::Ready);
+    let mut old = former(long.state());
+    assert_eq!(raw::bring(&old, &mut damaged[..]), raw::Answer::Ready);
+    assert_eq!(raw::bring(&damaged[..], &mut old), raw::Answer::Wrong(10));
 }
 
 /// Makes the calls in a thread of this size and answers what `after` says there.

@@ -66,13 +66,13 @@ fn files_are_secret() {
 fn shown_without_passwords() {
     let folder = venue("show");
     let expected = "state: well formed; the tool's own reading, without passwords
-open; programs completed: 2; default delegator: anyone
+open; default delegator: anyone
 
-principals, in order of creation
-  admin
-  anyone (no password: cannot log in)
-  rosa
-  tom
+principals, in order of creation, each with the programs that it completed
+  admin: 1
+  anyone: 0 (no password: cannot log in)
+  rosa: 1
+  tom: 0
 
 variables, in order of creation
   queue, a list of 1
@@ -209,7 +209,7 @@ fn what_is_refused() {
     folder.printed(3, &["make", "another"], "pass\tword\n");
     folder.printed(3, &["make", "another"], "");
     folder.printed(3, &["run", "another"], APPENDING);
-    fs::write(folder.path("short"), "O\t0\n").expect("written");
+    fs::write(folder.path("short"), "O\n").expect("written");
     folder.printed(3, &["show", "short"], "");
     fs::write(folder.path("damaged"), [7; 65_536]).expect("written");
     folder.printed(3, &["who", "damaged", "queue"], "");
@@ -223,7 +223,7 @@ fn what_is_refused() {
 fn command_lines() {
     let folder = Folder::of("words");
     let help = folder.printed(0, &["--help"], "");
-    for command in ["make", "run", "show", "who", "why", "check", "replay"] {
+    for command in ["make", "bring", "run", "show", "who", "why", "check", "replay"] {
         assert!(help.contains(&format!("  kivzurg {command} ")), "{command}");
         assert!(folder.printed(0, &[command, "--help"], "").starts_with(&format!("kivzurg {command} ")));
         folder.printed(2, &[command], "");

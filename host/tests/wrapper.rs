@@ -3,7 +3,7 @@
 use std::error::Error;
 use std::thread;
 
-use kivzurg::{AskError, Kind, MakeError, NoSuchRight, Principal, Right, RunError, Server, Variable};
+use kivzurg::{AskError, BringError, Kind, MakeError, NoSuchRight, Principal, Right, RunError, Server, Variable};
 
 const OPENING: &[u8] = b"as principal admin password \"secret\" do\nset x = \"1\"\nreturn x\n***";
 
@@ -30,10 +30,13 @@ fn servers_are_sent_and_shared() {
 
 #[test]
 fn errors_have_words() {
-    let errors: [Box<dyn Error + Send + Sync>; 10] = [
+    let errors: [Box<dyn Error + Send + Sync>; 13] = [
         Box::new(MakeError::PasswordByte),
         Box::new(MakeError::PasswordLength),
         Box::new(MakeError::Unexpected),
+        Box::new(BringError::NotWellFormed),
+        Box::new(BringError::TooHeavy),
+        Box::new(BringError::Unexpected),
         Box::new(RunError::NotWellFormed),
         Box::new(RunError::Closed),
         Box::new(RunError::Unexpected),

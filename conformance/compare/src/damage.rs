@@ -1,8 +1,9 @@
-//! State texts with one thing changed: a byte, a line, a field, or what a rule of document 01 forbids.
+//! State texts with one thing changed, in the lines of now or in the former ones: a byte, a line, a field, or what a rule of document 01 forbids.
 
+use crate::former::{former, padded, Form};
 use crate::random::Random;
 use model::state::HEAVIEST;
-use model::text::decode;
+use model::text::{decode, decode_former};
 
 type Bytes = Vec<u8>;
 
@@ -32,9 +33,19 @@ pub enum Damage {
     NameTooLong,
     EmptyRecord,
     WrongCount,
+    CountMissing,
+    /// A count that belongs to the other form.
+    CountTooMany,
+    /// The whole text in the other form.
+    OtherForm,
     WrongRight,
     PasswordLost,
 }
+
+/// What is no count: empty, with a leading zero, too large, or with other bytes.
+const NO_COUNTS: [&str; 15] = [
+    "", "00", "01", "0000000001", "4294967296", "4294967300", "9999999999", "42949672950", "99999999999999999999", "1a", "-1", "+1", " 1", "1 ", "1.",
+];
 
 const KEYWORDS: [&str; 31] = [
     "all", "append", "as", "change", "create", "default", "delegate", "delegation", "delegator", "delete", "do", "exit",
@@ -70,7 +81,7 @@ fn two_of(random: &mut Random, lines: &[Bytes], letters: &[u8]) -> Option<(usize
 }
 
 impl Damage {
-    pub const ALL: [Damage; 26] = [
+    pub const ALL: [Damage; 29] = [
         Damage::ByteChanged,
         Damage::ByteRemoved,
         Damage::ByteAdded,
@@ -95,6 +106,9 @@ impl Damage {
         Damage::NameTooLong,
         Damage::EmptyRecord,
         Damage::WrongCount,
+        Damage::CountMissing,
+        Damage::CountTooMany,
+        Damage::OtherForm,
         Damage::WrongRight,
         Damage::PasswordLost,
     ];
@@ -105,7 +119,7 @@ impl Damage {
     }
 
     /// The damaged text, or nothing where the text has no place for such a damage.
-    pub fn done(self, random: &mut Random, text: &[u8]) -> Option<Bytes> {
+    pub fn done(self, random: &mut Random, text: &[u8], form: Form) -> Option<Bytes> {
         match self {
             Damage::ByteChanged | Damage::ByteRemoved | Damage::ByteAdded | Damage::TextCut | Damage::ByteBehind => {
                 Some(self.by_bytes(random, text))
@@ -118,7 +132,9 @@ impl Damage {
             | Damage::FieldDoubled
             | Damage::FieldsSwapped
             | Damage::FieldEmptied => self.by_fields(random, lines(text)),
-            Damage::TooHeavy => too_heavy(text),
+            Damage::TooHeavy => too_heavy(text, form),
+            Damage::WrongCount | Damage::CountMissing | Damage::CountTooMany => self.by_counts(random, lines(text), form),
+            Damage::OtherForm => Some(other_form(text, form)),
             Damage::LabelTwice | Damage::PrincipalTwice | Damage::VariableTwice | Damage::AssertionTwice => {
                 self.twice(random, lines(text))
             }
@@ -208,23 +224,41 @@ impl Damage {
         Some(joined(&lines))
     }
 
+    /// In the lines that have a count, or in those that have none.
+    fn by_counts(self, random: &mut Random, mut lines: Vec<Bytes>, form: Form) -> Option<Bytes> {
+        let (counted, others): (&[u8], &[u8]) = match form {
+            Form::Former => (b"OC", b"PND"),
+            Form::Counted => (b"PN", b"OCD"),
+        };
+        let letters = if self == Damage::CountTooMany { others } else { counted };
+        let at = line_of(random, &lines, letters)?;
+        let mut all = fields(&lines[at]);
+        match self {
+            Damage::CountTooMany => all.push(b"0".to_vec()),
+            _ => drop(all.pop()),
+        }
+        if self == Damage::WrongCount {
+            all.push(NO_COUNTS[random.below(NO_COUNTS.len())].into());
+        }
+        lines[at] = all.join(&b'\t');
+        Some(joined(&lines))
+    }
+
     fn by_rule(self, random: &mut Random, mut lines: Vec<Bytes>) -> Option<Bytes> {
         let (letters, place, new): (&[u8], usize, Bytes) = match self {
             Damage::UnknownName => (b"DA", 1, b"nobody_of_this_name".to_vec()),
             Damage::KeywordAsName => (b"PVF", 1, KEYWORDS[random.below(KEYWORDS.len())].into()),
             Damage::NameTooLong => (b"PVF", 1, vec![b'n'; 256]),
             Damage::WrongRight => (b"A", 3, [&b""[..], b"x", b"rr", b"R", b"0"][random.below(5)].to_vec()),
-            Damage::WrongCount => {
-                let counts = ["", "00", "01", "4294967296", "4294967300", "9999999999", "42949672950", "99999999999999999999", "1a", "-1", "+1", " 1"];
-                (b"OC", 1, counts[random.below(counts.len())].into())
-            }
             Damage::PasswordLost => {
                 let at = line_of(random, &lines, b"P")?;
-                let all = fields(&lines[at]);
+                let mut all = fields(&lines[at]);
                 if all[1] == b"anyone" {
                     return None;
                 }
-                lines[at] = [&b"N\t"[..], &all[1]].concat();
+                all.remove(2);
+                all[0] = b"N".to_vec();
+                lines[at] = all.join(&b'\t');
                 return Some(joined(&lines));
             }
             _ => {
@@ -243,13 +277,30 @@ impl Damage {
 }
 
 /// One more variable, so that the state weighs one too much.
-fn too_heavy(text: &[u8]) -> Option<Bytes> {
-    let mut buffer = text.to_vec();
-    buffer.resize(model::text::BUFFER, 0);
-    let weight = decode(&buffer)?.0.weight();
+fn too_heavy(text: &[u8], form: Form) -> Option<Bytes> {
+    let buffer = padded(text);
+    let weight = match form {
+        Form::Former => decode_former(&buffer)?.former_weight(),
+        Form::Counted => decode(&buffer)?.0.weight(),
+    };
     let length = (HEAVIEST + 1).checked_sub(weight + 1 + 8)?;
     let mut lines = lines(text);
     let end = lines.iter().position(|line| line.starts_with(b"A\t")).unwrap_or(lines.len());
     lines.insert(end, [&b"V\ttoomuch_\tS\t"[..], &vec![b't'; length]].concat());
     Some(joined(&lines))
+}
+
+/// What it says, in the other lines.
+fn other_form(text: &[u8], form: Form) -> Bytes {
+    if form == Form::Counted {
+        return former(text, 0);
+    }
+    let mut lines = lines(text);
+    lines[0].truncate(1);
+    for line in &mut lines {
+        if line.starts_with(b"P\t") || line.starts_with(b"N\t") {
+            line.extend_from_slice(b"\t0");
+        }
+    }
+    joined(&lines)
 }

@@ -1,6 +1,7 @@
 //! The proved code behind safe functions, for tests and benchmarks to call beside the model.
 
 pub mod damage;
+pub mod former;
 pub mod histories;
 pub mod parser;
 pub mod plans;

@@ -1,9 +1,10 @@
 //! States that look random, of many shapes: planned with their own bytes, and then built and written by the model.
 
+use crate::former::{self, Form};
 use crate::random::Random;
 use model::names::keyword;
 use model::rights::Assertion;
-use model::state::{Principals, State, HEAVIEST};
+use model::state::{Principals, State, COUNT_WEIGHT, HEAVIEST};
 use model::text::encode;
 use model::value::{Field, Item, List, Record, Value};
 use std::rc::Rc;
@@ -22,11 +23,16 @@ enum Content {
     Many(Vec<Part>),
 }
 
+/// A name, a password or none, and the programs completed.
+type Person = (Bytes, Option<Bytes>, u32);
+
 #[derive(Clone)]
 pub struct Plan {
+    form: Form,
     open: bool,
+    /// The one count of the former lines.
     completed: u32,
-    principals: Vec<(Bytes, Option<Bytes>)>,
+    principals: Vec<Person>,
     delegator: u16,
     variables: Vec<(Bytes, Content)>,
     assertions: Vec<Assertion>,
@@ -46,6 +52,8 @@ pub enum Shape {
     LongNames,
     /// At the limit of the weight, or one or two below.
     Full,
+    /// For a former state: brought over, it weighs as much as it may, or one or two more or less.
+    FullWhenBrought,
 }
 
 impl Shape {
@@ -63,12 +71,13 @@ impl Shape {
     ];
 
     /// Most are small, because the others take long.
-    pub fn any(random: &mut Random) -> Shape {
+    pub fn any(random: &mut Random, form: Form) -> Shape {
         match random.below(200) {
             at @ 0..=8 => Shape::ALL[at + 1],
             9..=12 => Shape::Fresh,
             13..=20 => Shape::LongNames,
             21..=40 => Shape::Full,
+            41..=80 if form == Form::Former => Shape::FullWhenBrought,
             _ => Shape::Small,
         }
     }
@@ -78,7 +87,7 @@ const LETTERS: &[u8] = b"abcdefghijklmnopqrstuvwxyzABCDEFGHIJKLMNOPQRSTUVWXYZ";
 const WORD: &[u8] = b"abcdefghijklmnopqrstuvwxyzABCDEFGHIJKLMNOPQRSTUVWXYZ0123456789_";
 const STRING: &[u8] = b"abcdefghijklmnopqrstuvwxyzABCDEFGHIJKLMNOPQRSTUVWXYZ0123456789_ ,;.?!-";
 
-/// Names that are easy to mistake for others: keywords with more or less of them, and some with the same print.
+/// Names that are easy to mistake for others: keywords with more or less of them, and some with the same hash.
 const NAMES: [&str; 22] = [
     "rosa", "queue", "x", "y", "admi", "admins", "anyon", "anyones", "a9_", "Set", "sets", "al", "alls", "Aa", "BB", "AaAa",
     "AaBB", "BBAa", "BBBB", "wit", "splits", "tolowe",
@@ -123,6 +132,14 @@ pub fn short_name(n: usize) -> Bytes {
     name
 }
 
+/// So many names, the shortest that there are.
+pub fn shortest_names(count: usize) -> Vec<String> {
+    let ones = LETTERS.iter().map(|first| vec![*first]);
+    let twos = LETTERS.iter().flat_map(|first| WORD.iter().map(|second| vec![*first, *second]));
+    let names = ones.chain(twos).filter(|name| keyword(name).is_none());
+    names.take(count).map(|name| String::from_utf8_lossy(&name).into_owned()).collect()
+}
+
 fn fields(random: &mut Random, count: usize) -> Vec<(Bytes, Bytes)> {
     let mut all: Vec<(Bytes, Bytes)> = Vec::new();
     for _ in 0..count {
@@ -154,17 +171,6 @@ fn content(random: &mut Random) -> Content {
     }
 }
 
-/// Few digits and many, and both sides of each width.
-fn completed(random: &mut Random) -> u32 {
-    match random.below(5) {
-        0 => u32::MAX,
-        1 => random.number() as u32,
-        2 => 10u32.pow(random.below(10) as u32),
-        3 => 10u32.pow(random.below(10) as u32) - 1,
-        _ => random.below(20) as u32,
-    }
-}
-
 fn assertions(random: &mut Random, plan: &Plan, count: usize) -> Vec<Assertion> {
     if plan.variables.is_empty() {
         return Vec::new();
@@ -180,12 +186,13 @@ fn assertions(random: &mut Random, plan: &Plan, count: usize) -> Vec<Assertion> 
 }
 
 impl Plan {
-    fn fresh(random: &mut Random) -> Plan {
-        let admin = (b"admin".to_vec(), Some(string(random)));
-        let anyone = (b"anyone".to_vec(), (random.below(4) == 0).then(|| string(random)));
+    fn fresh(random: &mut Random, form: Form) -> Plan {
+        let admin = (b"admin".to_vec(), Some(string(random)), former::count(random));
+        let anyone = (b"anyone".to_vec(), (random.below(4) == 0).then(|| string(random)), former::count(random));
         Plan {
+            form,
             open: random.below(3) > 0,
-            completed: completed(random),
+            completed: former::count(random),
             principals: vec![admin, anyone],
             delegator: 1,
             variables: Vec::new(),
@@ -193,11 +200,11 @@ impl Plan {
         }
     }
 
-    fn small(random: &mut Random) -> Plan {
-        let mut plan = Plan::fresh(random);
+    fn small(random: &mut Random, form: Form) -> Plan {
+        let mut plan = Plan::fresh(random, form);
         for _ in 0..random.below(5) {
             let (name, password) = (name(random), string(random));
-            plan.add_principal(name, password);
+            plan.add_principal(name, password, former::count(random));
         }
         for _ in 0..random.below(6) {
             let (name, content) = (name(random), content(random));
@@ -209,9 +216,9 @@ impl Plan {
         plan
     }
 
-    fn add_principal(&mut self, name: Bytes, password: Bytes) {
+    fn add_principal(&mut self, name: Bytes, password: Bytes, completed: u32) {
         if self.principals.iter().all(|other| other.0 != name) {
-            self.principals.push((name, Some(password)));
+            self.principals.push((name, Some(password), completed));
         }
     }
 
@@ -221,88 +228,119 @@ impl Plan {
         }
     }
 
-    /// A state of a shape, within the limit of the weight.
-    pub fn of(random: &mut Random, shape: Shape) -> Plan {
+    /// A state of a shape, within the limit of the weight of its form.
+    pub fn of(random: &mut Random, shape: Shape, form: Form) -> Plan {
         let mut plan = match shape {
-            Shape::Fresh => Plan::fresh(random),
-            _ => Plan::small(random),
+            Shape::Fresh => Plan::fresh(random, form),
+            _ => Plan::small(random, form),
         };
-        let few = 1 + random.below(LETTERS.len());
+        plan.take_shape(random, shape);
+        plan.lighten();
+        plan
+    }
+
+    fn take_shape(&mut self, random: &mut Random, shape: Shape) {
         match shape {
             Shape::Fresh | Shape::Small => {}
-            Shape::ManyPrincipals => {
-                plan.principals.truncate(2);
-                let count = random.below(2_400);
-                plan.principals.extend((0..count).map(|n| (short_name(n), Some(Vec::new()))));
-                plan.delegator = random.below(plan.principals.len()) as u16;
-                let count = random.below(40);
-                plan.assertions = assertions(random, &plan, count);
-            }
+            Shape::ManyPrincipals => self.many_principals(random, 2_400),
             Shape::ManyVariables => {
                 let count = random.below(2_400);
-                plan.variables = (0..count).map(|n| (short_name(n), Content::One(Part::Text(Vec::new())))).collect();
-                plan.assertions = assertions(random, &plan, 40);
+                self.variables = (0..count).map(|n| (short_name(n), Content::One(Part::Text(Vec::new())))).collect();
+                self.assertions = assertions(random, self, 40);
             }
             Shape::ManyElements => {
                 let count = random.below(7_000);
                 let some = random.below(50) == 0;
                 let element = if some { Part::Fields(vec![(b"l".to_vec(), Vec::new())]) } else { Part::Text(Vec::new()) };
-                plan.add_variable(b"elements".to_vec(), Content::Many(vec![element; count]));
+                self.add_variable(b"elements".to_vec(), Content::Many(vec![element; count]));
             }
             Shape::ManyFields => {
                 let count = 1 + random.below(1_500);
                 let all = (0..count).map(|n| (short_name(n), Vec::new())).collect();
-                plan.add_variable(b"labels".to_vec(), Content::One(Part::Fields(all)));
+                self.add_variable(b"labels".to_vec(), Content::One(Part::Fields(all)));
             }
-            Shape::ManyAssertions => {
-                plan.principals.truncate(2);
-                plan.principals.extend(LETTERS[..few].iter().map(|letter| (vec![*letter], Some(Vec::new()))));
-                plan.delegator = random.below(plan.principals.len()) as u16;
-                plan.variables = LETTERS[..few].iter().map(|letter| (vec![*letter], Content::Many(Vec::new()))).collect();
-                let count = random.below(2_000);
-                plan.assertions = assertions(random, &plan, count);
-            }
+            Shape::ManyAssertions => self.many_assertions(random),
             Shape::LongString => {
                 let length = random.below(7_500);
                 let text = run(random, STRING, length);
-                plan.add_variable(b"long".to_vec(), Content::One(Part::Text(text)));
+                self.add_variable(b"long".to_vec(), Content::One(Part::Text(text)));
             }
-            Shape::LongNames => {
-                for at in 0..random.below(8) {
-                    let mut long = run(random, WORD, 254);
-                    long.insert(0, LETTERS[at]);
-                    plan.add_variable(long.clone(), Content::One(Part::Fields(vec![(long.clone(), Vec::new())])));
-                    plan.add_principal(long, Vec::new());
-                }
-                let count = random.below(6);
-                plan.assertions = assertions(random, &plan, count);
-            }
+            Shape::LongNames => self.long_names(random),
             Shape::Full => {
-                plan.lighten();
+                self.lighten();
                 let below = random.below(3);
-                plan.fill(HEAVIEST - below);
+                self.fill(HEAVIEST - below);
             }
+            Shape::FullWhenBrought => self.full_when_brought(random),
         }
-        plan.lighten();
-        plan
     }
 
+    fn many_principals(&mut self, random: &mut Random, most: usize) {
+        self.principals.truncate(2);
+        let count = random.below(most);
+        self.principals.extend((0..count).map(|n| (short_name(n), Some(Vec::new()), former::count(random))));
+        self.delegator = random.below(self.principals.len()) as u16;
+        let count = random.below(40);
+        self.assertions = assertions(random, self, count);
+    }
+
+    fn many_assertions(&mut self, random: &mut Random) {
+        let few = 1 + random.below(LETTERS.len());
+        self.principals.truncate(2);
+        self.principals.extend(LETTERS[..few].iter().map(|letter| (vec![*letter], Some(Vec::new()), former::count(random))));
+        self.delegator = random.below(self.principals.len()) as u16;
+        self.variables = LETTERS[..few].iter().map(|letter| (vec![*letter], Content::Many(Vec::new()))).collect();
+        let count = random.below(2_000);
+        self.assertions = assertions(random, self, count);
+    }
+
+    fn long_names(&mut self, random: &mut Random) {
+        for at in 0..random.below(8) {
+            let mut long = run(random, WORD, 254);
+            long.insert(0, LETTERS[at]);
+            self.add_variable(long.clone(), Content::One(Part::Fields(vec![(long.clone(), Vec::new())])));
+            self.add_principal(long, Vec::new(), former::count(random));
+        }
+        let count = random.below(6);
+        self.assertions = assertions(random, self, count);
+    }
+
+    /// The more principals there are, the lighter the former state.
+    fn full_when_brought(&mut self, random: &mut Random) {
+        if random.below(3) == 0 {
+            self.many_principals(random, 640);
+        }
+        while self.with(|state| state.weight()) > HEAVIEST {
+            self.thin_out();
+        }
+        let spared = COUNT_WEIGHT * self.principals.len() + 1;
+        self.fill(HEAVIEST - spared + random.below(4));
+    }
+
+    /// By the rules of its form.
     fn weight(&self) -> usize {
-        self.with(|state| state.weight())
+        match self.form {
+            Form::Former => self.with(|state| state.former_weight()),
+            Form::Counted => self.with(|state| state.weight()),
+        }
     }
 
-    /// Takes assertions, variables and principals away until the weight is within the limit.
     fn lighten(&mut self) {
         while self.weight() > HEAVIEST {
-            self.assertions.truncate(self.assertions.len() * 3 / 4);
-            self.variables.truncate(self.variables.len() * 7 / 8);
-            self.principals.truncate(2.max(self.principals.len() * 7 / 8));
-            let (people, variables) = (self.principals.len(), self.variables.len());
-            self.delegator = self.delegator.min(people as u16 - 1);
-            self.assertions.retain(|a| {
-                usize::from(a.variable) < variables && usize::from(a.from) < people && usize::from(a.to) < people
-            });
+            self.thin_out();
         }
+    }
+
+    /// Takes some assertions, variables and principals away.
+    fn thin_out(&mut self) {
+        self.assertions.truncate(self.assertions.len() * 3 / 4);
+        self.variables.truncate(self.variables.len() * 7 / 8);
+        self.principals.truncate(2.max(self.principals.len() * 7 / 8));
+        let (people, variables) = (self.principals.len(), self.variables.len());
+        self.delegator = self.delegator.min(people as u16 - 1);
+        self.assertions.retain(|a| {
+            usize::from(a.variable) < variables && usize::from(a.from) < people && usize::from(a.to) < people
+        });
     }
 
     /// One more variable, so that the state weighs so much, where there is room for it.
@@ -313,19 +351,22 @@ impl Plan {
         }
     }
 
-    /// The text of the state, as the model writes it.
+    /// The text of the state, as the model writes it, or the same in the former lines.
     pub fn text(&self, buffer: &mut [u8]) -> Bytes {
         let length = self.with(|state| encode(state, buffer));
-        buffer[..length].to_vec()
+        match self.form {
+            Form::Former => former::former(&buffer[..length], self.completed),
+            Form::Counted => buffer[..length].to_vec(),
+        }
     }
 
     /// Builds the state by the model's own types.
     fn with<T>(&self, use_it: impl FnOnce(&State) -> T) -> T {
         let mut principals = Principals::default();
-        for (name, password) in &self.principals {
-            principals.add(name, password.as_deref());
+        for (name, password, completed) in &self.principals {
+            principals.add(name, password.as_deref(), *completed);
         }
-        let mut state = State::new(self.open, self.completed, principals, self.delegator);
+        let mut state = State::new(self.open, principals, self.delegator);
         for (name, content) in &self.variables {
             state.variables.add(name, value(content));
         }

@@ -38,6 +38,11 @@ pub fn make(state: &mut [u8], password: &[u8]) -> Answer {
     answer(raw::make(state, password))
 }
 
+/// Brings a former state over.
+pub fn bring(former: &[u8], state: &mut [u8]) -> Answer {
+    answer(raw::bring(former, state))
+}
+
 /// Runs a program.
 pub fn run(state: &mut [u8], work: &mut [u8], output: &mut [u8], program: &[u8]) -> Answer {
     answer(raw::run(state, work, output, program))

@@ -12,6 +12,7 @@ extern "C" {
     fn state_variable(state: *const u8, size: usize, name: *const u8, length: usize, out: *mut u8, room: usize) -> u64;
     fn state_principal_name(state: *const u8, size: usize, number: usize, out: *mut u8, room: usize) -> u64;
     fn state_variable_name(state: *const u8, size: usize, number: usize, out: *mut u8, room: usize) -> u64;
+    fn state_principal_count(state: *const u8, size: usize, name: *const u8, length: usize) -> u64;
 }
 
 /// What the number for an answer says (crates/validate_c/specs/Reported.antt, crates/state_lookups/specs/Looks.antt).
@@ -24,12 +25,15 @@ pub enum Answer<T> {
     Missing,
     /// A record's number; it keeps no text.
     Unkept(usize),
-    /// A record's number, and what was asked for.
+    /// A record's number, and what was asked for. Figures and counts have no number, and 0 stands for it.
     Found(usize, T),
 }
 
-/// The room that every state's figures fit in: seven, and at most 2,048 assertions.
-pub const FIGURES: usize = 2_055;
+/// The room that every state's figures fit in: six, and at most 2,048 assertions.
+pub const FIGURES: usize = 2_054;
+
+/// The place of the weight among the figures.
+pub const WEIGHT: usize = 1;
 
 /// The room that every text fits in.
 pub const ROOM: usize = BUFFER;
@@ -85,11 +89,20 @@ pub fn variable_name<'a>(state: &[u8], number: usize, out: &'a mut [u8]) -> Answ
     answer(number, out)
 }
 
+/// How many programs the principal of a name has completed.
+pub fn principal_count(state: &[u8], name: &[u8]) -> Answer<u32> {
+    match unsafe { state_principal_count(state.as_ptr(), state.len(), name.as_ptr(), name.len()) } {
+        REFUSED => Answer::Refused,
+        BAD => Answer::Bad,
+        MISSING => Answer::Missing,
+        count => Answer::Found(0, u32::try_from(count).expect("a count or one of the three answers")),
+    }
+}
+
 /// The model's figures, in the order of `check`.
 pub fn figures(state: &State) -> Vec<u64> {
     let mut all = vec![
         u64::from(state.open),
-        u64::from(state.completed),
         state.weight() as u64,
         state.principals.count() as u64,
         u64::from(state.delegator),

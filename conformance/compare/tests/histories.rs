@@ -1,5 +1,6 @@
 //! Histories of calls, beside the model: programs of several principals, damaged programs and states, buffers of wrong sizes, a question
-//! after every call. The answer, and every byte of the state, of the work buffer and of the output, are compared.
+//! after every call. The answer, and every byte of the state, of the work buffer and of the output, are compared. Some go on from a state whose counts
+//! stand near the end of a width, some from a former state brought over.
 //!
 //! In the gate 20,000 histories are run. For more of them, or others:
 //!
@@ -9,14 +10,16 @@ use std::collections::BTreeMap;
 use std::env;
 use std::thread;
 
+use compare::former::{count, former, padded, recounted, text};
 use compare::histories::{next, opening, World, PRINCIPALS, VARIABLES};
 use compare::random::Random;
-use compare::server::{ask, make, run, Answer};
+use compare::server::{ask, bring, make, run, Answer};
 use model::calls;
-use model::observe::{self, FUNCTIONS, MISHAPS, PLACES, SHAPES};
+use model::engine::End;
+use model::observe::{self, COUNTS, FUNCTIONS, MISHAPS, PLACES, SHAPES};
 use model::text::BUFFER;
 
-/// How often each status, each kind of end, each number, each answer, each form of a call and each mishap of one came.
+/// How often each status, each kind of end, each number, each answer, each form of a call and each mishap of one came, and what became of counts.
 type Seen = BTreeMap<String, u64>;
 
 const STATUSES: [&str; 11] = [
@@ -27,6 +30,11 @@ const ENDS: [&str; 5] = ["Returned", "Exited", "Denied", "Failed", "Full"];
 const NUMBERS: [&str; 12] =
     ["run 1", "run 2", "run 3", "run 4", "run 5", "ask 2", "ask 4", "ask 6", "ask 7", "make 2", "make 8", "make 9"];
 const ANSWERS: [&str; 3] = ["yes", "no", "ready"];
+/// Histories that start otherwise than from a server just made, and what came after.
+const STARTS: [&str; 8] = [
+    "counts set", "brought over", "brought over: Returned", "brought over: Exited", "brought over: Denied", "brought over: Failed", "brought over: Full",
+    "bring 10",
+];
 
 fn note(seen: &mut Seen, key: &str) {
     *seen.entry(key.to_string()).or_default() += 1;
@@ -49,16 +57,20 @@ fn statuses(seen: &mut Seen, output: &[u8]) {
     }
 }
 
-/// The same program on both sides. What became of the calls in it is told by the model.
-fn run_both(seen: &mut Seen, proved: &mut Lent, model: &mut Lent, program: &[u8]) {
+/// The same program on both sides. What became of the calls in it, and of its sender's count, is told by the model.
+fn run_both(seen: &mut Seen, proved: &mut Lent, model: &mut Lent, program: &[u8]) -> Answer {
     if [&proved.state, &proved.work, &proved.output].iter().all(|lent| lent.len() == BUFFER) {
         observe::calls(&model.state, program).iter().for_each(|told| note(seen, told));
     }
+    let before = model.state.clone();
     let answer = run(&mut proved.state, &mut proved.work, &mut proved.output, program);
     let expected = match calls::run(&mut model.state, &mut model.work, &mut model.output, program) {
         Ok(report) => {
             note(seen, &format!("{:?}", report.end));
             statuses(seen, &model.output[..report.bytes]);
+            if matches!(report.end, End::Returned | End::Exited) {
+                observe::count(&before, program, &model.state).iter().for_each(|told| note(seen, told));
+            }
             Answer::Ended(report)
         }
         Err(refusal) => {
@@ -71,6 +83,7 @@ fn run_both(seen: &mut Seen, proved: &mut Lent, model: &mut Lent, program: &[u8]
     assert!(proved.output == model.output, "output of {text}");
     assert!(proved.state == model.state, "state after {text}");
     assert!(proved.work == model.work, "work buffer after {text}");
+    answer
 }
 
 fn one<'a>(random: &mut Random, words: &[&'a str]) -> &'a str {
@@ -137,6 +150,42 @@ fn call_aside(seen: &mut Seen, random: &mut Random, lent: &Lent, program: &[u8])
     run_both(seen, &mut aside, &mut expected, program);
 }
 
+/// The state as a former one, brought over on both sides into a buffer that held something else. Rarely it is damaged first, and the history goes on
+/// with the state that it had.
+fn bring_both(seen: &mut Seen, random: &mut Random, state: &[u8]) -> Option<Vec<u8>> {
+    let mut old = padded(&former(text(state), count(random)));
+    if random.below(8) == 0 {
+        let used = text(&old).len();
+        old[random.below(used)] = b"OCPNDVSRLFA\t\n01ab\0\xff"[random.below(19)];
+    }
+    let (lent, mut proved) = (old.clone(), vec![random.below(256) as u8; BUFFER]);
+    let mut expected = proved.clone();
+    let answer = bring(&lent, &mut proved);
+    let outcome = calls::bring(&old, &mut expected);
+    assert_eq!(answer, outcome.map_or_else(|refusal| Answer::Wrong(refusal.number()), |()| Answer::Ready));
+    assert!(lent == old && proved == expected, "the buffers of a bringing");
+    match outcome {
+        Ok(()) => note(seen, "brought over"),
+        Err(refusal) => note(seen, &format!("bring {}", refusal.number())),
+    }
+    outcome.is_ok().then_some(proved)
+}
+
+/// Some histories go on from a state with other counts, some from one brought over; whether this is one of these.
+fn goes_on_from_another(seen: &mut Seen, random: &mut Random, proved: &mut Lent, model: &mut Lent) -> bool {
+    let (state, is_brought) = match random.below(6) {
+        0 | 1 => {
+            note(seen, "counts set");
+            (Some(padded(&recounted(random, text(&proved.state)))), false)
+        }
+        2 => (bring_both(seen, random, &proved.state), true),
+        _ => (None, false),
+    };
+    let Some(state) = state else { return false };
+    (proved.state, model.state) = (state.clone(), state);
+    is_brought
+}
+
 fn history(seen: &mut Seen, random: &mut Random) {
     match random.below(24) {
         0 => drop(make_both(seen, [0, BUFFER - 1, BUFFER + 1][random.below(3)], b"s")),
@@ -150,12 +199,16 @@ fn history(seen: &mut Seen, random: &mut Random) {
     let world = World::new(random);
     let first = opening(random, world);
     run_both(seen, &mut proved, &mut model, &first);
+    let is_brought = goes_on_from_another(seen, random, &mut proved, &mut model);
     for at in 0..calls {
         let program = next(random, world, at + 3 > calls);
         if random.below(16) == 0 {
             call_aside(seen, random, &proved, &program);
         }
-        run_both(seen, &mut proved, &mut model, &program);
+        let answer = run_both(seen, &mut proved, &mut model, &program);
+        if let (true, Answer::Ended(report)) = (is_brought, answer) {
+            note(seen, &format!("brought over: {:?}", report.end));
+        }
         ask_both(seen, random, &model.state);
     }
 }
@@ -190,7 +243,7 @@ fn histories() {
     for (key, times) in &seen {
         println!("{key}: {times}");
     }
-    for key in STATUSES.iter().chain(&ENDS).chain(&NUMBERS).chain(&ANSWERS).chain(&MISHAPS).chain(&SHAPES) {
+    for key in STATUSES.iter().chain(&ENDS).chain(&NUMBERS).chain(&ANSWERS).chain(&STARTS).chain(&COUNTS).chain(&MISHAPS).chain(&SHAPES) {
         assert!(seen.contains_key(*key), "{key} never came");
     }
     for (function, place) in FUNCTIONS.iter().flat_map(|function| PLACES.map(|place| (function, place))) {

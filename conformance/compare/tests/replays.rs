@@ -4,10 +4,14 @@
 //! A script has one step a line; `#` starts a comment, and `{{TEXT*N}}` stands for TEXT N times.
 //!
 //!     make PASSWORD                  a server in the state's buffer; `make-sized N PASSWORD` in one of N bytes
-//!     load                           the lines up to `end` become the state's text, `|` standing for a tab
+//!     load                           the lines up to `end` become the state's text, `|` standing for a tab; a line `each N LINE` is N lines, one for
+//!                                    each of the N shortest names, which stands for `*`
+//!     former                         the same for the former state's text; `former-byte AT NUMBER` then changes one byte of its buffer
+//!     bring                          brings the former state over into the state's buffer; `bring-sized FORMER STATE` lends buffers of these sizes
 //!     run                            the lines up to `***` are the program; `run-sized STATE WORK OUTPUT` lends buffers of these sizes
 //!     ask NAME VARIABLE RIGHT        the question; `ask-sized N NAME VARIABLE RIGHT` on N bytes
-//!     show                           the state's text and its weight, which each side tells by itself
+//!     show                           the state's text and its weight, which each side tells by itself; `weigh` its weight and how many bytes it has
+//!     counts NAME..                  the count of each of these principals, which each side tells by itself
 //!
 //! A transcript is written anew, by the proved server, with REPLAYS=write in the environment; read what changed before it is stored.
 
@@ -17,20 +21,22 @@ use std::fs;
 use std::path::{Path, PathBuf};
 
 use compare::server::{self, Answer};
-use compare::states::{self, FIGURES};
+use compare::former::{padded, text};
+use compare::plans::shortest_names;
+use compare::states::{self, FIGURES, WEIGHT};
 use model::calls;
 use model::text::{decode, BUFFER};
-
-/// The place of the weight among the figures of a state's check.
-const WEIGHT: usize = 2;
 
 /// One of the two sides.
 trait Side {
     fn make(&self, state: &mut [u8], password: &[u8]) -> Answer;
+    fn bring(&self, former: &[u8], state: &mut [u8]) -> Answer;
     fn run(&self, state: &mut [u8], work: &mut [u8], output: &mut [u8], program: &[u8]) -> Answer;
     fn ask(&self, state: &[u8], name: &[u8], variable: &[u8], right: u8) -> Answer;
     /// None where the state is not well formed.
     fn weight(&self, state: &[u8]) -> Option<usize>;
+    /// None where there is no such principal either.
+    fn count(&self, state: &[u8], name: &[u8]) -> Option<u32>;
 }
 
 struct Proved;
@@ -38,6 +44,10 @@ struct Proved;
 impl Side for Proved {
     fn make(&self, state: &mut [u8], password: &[u8]) -> Answer {
         server::make(state, password)
+    }
+
+    fn bring(&self, former: &[u8], state: &mut [u8]) -> Answer {
+        server::bring(former, state)
     }
 
     fn run(&self, state: &mut [u8], work: &mut [u8], output: &mut [u8], program: &[u8]) -> Answer {
@@ -55,6 +65,13 @@ impl Side for Proved {
             _ => None,
         }
     }
+
+    fn count(&self, state: &[u8], name: &[u8]) -> Option<u32> {
+        match states::principal_count(state, name) {
+            states::Answer::Found(_, count) => Some(count),
+            _ => None,
+        }
+    }
 }
 
 struct Model;
@@ -62,6 +79,10 @@ struct Model;
 impl Side for Model {
     fn make(&self, state: &mut [u8], password: &[u8]) -> Answer {
         calls::make(state, password).map_or_else(|refusal| Answer::Wrong(refusal.number()), |()| Answer::Ready)
+    }
+
+    fn bring(&self, former: &[u8], state: &mut [u8]) -> Answer {
+        calls::bring(former, state).map_or_else(|refusal| Answer::Wrong(refusal.number()), |()| Answer::Ready)
     }
 
     fn run(&self, state: &mut [u8], work: &mut [u8], output: &mut [u8], program: &[u8]) -> Answer {
@@ -78,6 +99,11 @@ impl Side for Model {
 
     fn weight(&self, state: &[u8]) -> Option<usize> {
         decode(state).map(|(state, _)| state.weight())
+    }
+
+    fn count(&self, state: &[u8], name: &[u8]) -> Option<u32> {
+        let (state, _) = decode(state)?;
+        Some(state.principals.get(state.principals.find(name)?).completed)
     }
 }
 
@@ -99,6 +125,7 @@ fn expanded(line: &str) -> String {
 struct Play<'a> {
     side: &'a dyn Side,
     state: Vec<u8>,
+    former: Vec<u8>,
     transcript: String,
 }
 
@@ -123,6 +150,19 @@ impl Play<'_> {
         }
     }
 
+    /// Into a buffer that holds other bytes. The former state's never change.
+    fn bring(&mut self, step: &str, sizes: [usize; 2]) {
+        let mut former = self.former.clone();
+        former.resize(sizes[0], 0);
+        let (before, mut state) = (former.clone(), vec![7; sizes[1]]);
+        let answer = self.side.bring(&former, &mut state);
+        assert!(former == before, "the former state after {step}");
+        self.say(step, answer, state == vec![7; sizes[1]]);
+        if answer == Answer::Ready {
+            self.state = state;
+        }
+    }
+
     fn run(&mut self, step: &str, sizes: [usize; 3], program: &str) {
         let mut state = self.state.clone();
         state.resize(sizes[0], 0);
@@ -139,10 +179,32 @@ impl Play<'_> {
     }
 
     fn show(&mut self) {
-        let used = self.state.iter().rposition(|b| *b != 0).map_or(0, |at| at + 1);
-        self.transcript += &String::from_utf8_lossy(&self.state[..used]).replace('\t', "|");
-        let weight = self.side.weight(&self.state).map_or("none".to_string(), |weight| weight.to_string());
+        self.transcript += &String::from_utf8_lossy(text(&self.state)).replace('\t', "|");
+        let weight = self.weight();
         writeln!(self.transcript, "weight {weight}").expect("a line");
+    }
+
+    fn weight(&self) -> String {
+        self.side.weight(&self.state).map_or("none".to_string(), |weight| weight.to_string())
+    }
+
+    fn weigh(&mut self) {
+        let (weight, bytes) = (self.weight(), text(&self.state).len());
+        writeln!(self.transcript, "weight {weight}, bytes {bytes}").expect("a line");
+    }
+
+    fn counts(&mut self, names: &[&str]) {
+        for name in names {
+            let count = self.side.count(&self.state, name.as_bytes()).map_or("none".to_string(), |count| count.to_string());
+            writeln!(self.transcript, "count of {name}: {count}").expect("a line");
+        }
+    }
+
+    fn ask(&mut self, step: &str, size: usize, words: &[&str]) {
+        let mut state = self.state.clone();
+        state.resize(size, 0);
+        let answer = self.side.ask(&state, words[0].as_bytes(), words[1].as_bytes(), words[2].as_bytes()[0]);
+        self.say(step, answer, true);
     }
 }
 
@@ -158,8 +220,25 @@ fn block<'a>(lines: &mut impl Iterator<Item = &'a str>, last: &str) -> Vec<Strin
     taken
 }
 
+/// A buffer with the text of the lines up to `end`.
+fn loaded<'a>(lines: &mut impl Iterator<Item = &'a str>) -> Vec<u8> {
+    let mut written = block(lines, "end");
+    written.pop();
+    let mut all = String::new();
+    for line in written {
+        match line.strip_prefix("each ").and_then(|rest| rest.split_once(' ')) {
+            Some((count, line)) => {
+                let names = shortest_names(count.parse().expect("a number after each"));
+                names.iter().for_each(|name| all += &(line.replace('*', name) + "\n"));
+            }
+            None => all += &(line + "\n"),
+        }
+    }
+    padded(all.replace('|', "\t").as_bytes())
+}
+
 fn played(side: &dyn Side, script: &str) -> String {
-    let mut play = Play { side, state: vec![0; BUFFER], transcript: String::new() };
+    let mut play = Play { side, state: vec![0; BUFFER], former: vec![0; BUFFER], transcript: String::new() };
     let mut lines = script.lines();
     while let Some(line) = lines.next() {
         if line.is_empty() || line.starts_with('#') {
@@ -174,28 +253,21 @@ fn played(side: &dyn Side, script: &str) -> String {
         match word {
             "make" => play.make(step, BUFFER, &rest),
             "make-sized" => play.make(step, number(0), words[1]),
-            "load" => {
-                let mut text = block(&mut lines, "end");
-                text.pop();
-                play.state = text.iter().map(|line| line.replace('|', "\t") + "\n").collect::<String>().into_bytes();
-                play.state.resize(BUFFER, 0);
-            }
+            "load" => play.state = loaded(&mut lines),
+            "former" => play.former = loaded(&mut lines),
+            "former-byte" => play.former[number(0)] = number(1) as u8,
+            "bring" => play.bring(step, [BUFFER; 2]),
+            "bring-sized" => play.bring(step, [number(0), number(1)]),
             "run" => play.run(step, [BUFFER; 3], &block(&mut lines, "***").join("\n")),
             "run-sized" => {
                 let sizes = [number(0), number(1), number(2)];
                 play.run(step, sizes, &block(&mut lines, "***").join("\n"));
             }
-            "ask" => {
-                let answer = side.ask(&play.state, words[0].as_bytes(), words[1].as_bytes(), words[2].as_bytes()[0]);
-                play.say(step, answer, true);
-            }
-            "ask-sized" => {
-                let mut state = play.state.clone();
-                state.resize(number(0), 0);
-                let answer = side.ask(&state, words[1].as_bytes(), words[2].as_bytes(), words[3].as_bytes()[0]);
-                play.say(step, answer, true);
-            }
+            "ask" => play.ask(step, BUFFER, &words),
+            "ask-sized" => play.ask(step, number(0), &words[1..]),
             "show" => play.show(),
+            "weigh" => play.weigh(),
+            "counts" => play.counts(&words),
             other => panic!("no step is called {other}"),
         }
     }

@@ -7,7 +7,7 @@ use model::rights::Assertion;
 use std::collections::BTreeMap;
 
 const GRAPHS: usize = 20_000;
-const COUNTS: usize = 4096;
+const COUNTS: usize = 1024;
 const ASSERTIONS: usize = 2048;
 
 /// Assertions among `count` principals; now and then one that names a principal past them.
@@ -146,15 +146,15 @@ fn fields_do_not_run_into_each_other() {
         variable: 65_535,
         from: 0,
         right: 65_535,
-        to: 4095,
+        to: 1023,
     };
     let packed = [pack(&top)];
     assert_eq!(
-        shortest(&packed, 4096, 65_535, 65_535, 4095),
+        shortest(&packed, 1024, 65_535, 65_535, 1023),
         Answer::Yes(1)
     );
-    assert_eq!(shortest(&packed, 4096, 65_535, 65_534, 4095), Answer::No);
-    assert_eq!(shortest(&packed, 4096, 65_534, 65_535, 4095), Answer::No);
-    assert_eq!(shortest(&packed, 4096, 65_535, 65_535, 4094), Answer::No);
-    assert_eq!(shortest(&packed, 4095, 65_535, 65_535, 4095), Answer::No);
+    assert_eq!(shortest(&packed, 1024, 65_535, 65_534, 1023), Answer::No);
+    assert_eq!(shortest(&packed, 1024, 65_534, 65_535, 1023), Answer::No);
+    assert_eq!(shortest(&packed, 1024, 65_535, 65_535, 1022), Answer::No);
+    assert_eq!(shortest(&packed, 1023, 65_535, 65_535, 1023), Answer::No);
 }

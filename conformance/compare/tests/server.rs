@@ -123,14 +123,14 @@ fn session() {
     let first = "create principal rosa \"r1\"\nset queue = []\nset delegation queue admin append -> rosa\nreturn queue";
     sent(&mut state, ADMIN, first, End::Returned);
     sent(&mut state, ROSA, "append to queue with {song=\"Blue Moon\",key=\"F\"}\nreturn \"ok\"", End::Returned);
-    let text = "O|2\nP|admin|desk\nN|anyone\nP|rosa|r1\nD|anyone\nV|queue|L\nR\nF|song|Blue Moon\nF|key|F\nA|queue|admin|a|rosa\n";
+    let text = "O\nP|admin|desk|1\nN|anyone|0\nP|rosa|r1|1\nD|anyone\nV|queue|L\nR\nF|song|Blue Moon\nF|key|F\nA|queue|admin|a|rosa\n";
     assert!(state.starts_with(text.replace('|', "\t").as_bytes()));
     sent(&mut state, ROSA, "append to queue with \"x\"\nreturn queue", End::Denied);
     sent(&mut state, ROSA, "set own = \"a\"\nreturn nosuch", End::Failed);
     sent(&mut state, "rosa password \"r2\"", "return \"\"", End::Denied);
     sent(&mut state, "nobody password \"r1\"", "return \"\"", End::Failed);
     sent(&mut state, ROSA, "return", End::Failed);
-    let long = "s".repeat(8_183);
+    let long = "s".repeat(8_163);
     sent(&mut state, ADMIN, &format!("set x = \"{long}\"\nreturn x"), End::Full);
     for (at, size) in [0, BUFFER - 1, BUFFER + 1].into_iter().enumerate() {
         let mut sizes = [BUFFER; 3];

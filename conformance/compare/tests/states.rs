@@ -2,6 +2,7 @@
 //! not, every figure, every assertion, principals and variables by name and by number.
 
 use compare::damage::Damage;
+use compare::former::Form;
 use compare::plans::{name, Plan, Shape};
 use compare::random::Random;
 use compare::states::{self, figures, value_text, Answer, FIGURES, ROOM};
@@ -39,6 +40,7 @@ impl Comparison {
         let Some(state) = model else {
             let answer = owned(states::principal(buffer, b"admin", &mut self.room));
             same(&answer, &Answer::Bad, buffer);
+            same(&states::principal_count(buffer, b"admin"), &Answer::Bad, buffer);
             return false;
         };
         let few = state.principals.count() + usize::from(state.variables.count()) < 20;
@@ -108,6 +110,22 @@ impl Comparison {
         };
         let proved = owned(states::principal(buffer, name, &mut self.room));
         self.settle("principal by name", proved, expected, buffer);
+        self.principal_count(buffer, state, name);
+    }
+
+    fn principal_count(&mut self, buffer: &[u8], state: &State, name: &[u8]) {
+        let expected = match state.principals.find(name) {
+            None => Answer::Missing,
+            Some(number) => Answer::Found(0, state.principals.get(number).completed),
+        };
+        same(&states::principal_count(buffer, name), &expected, buffer);
+        let kind = match expected {
+            Answer::Missing => "no count: no such principal",
+            Answer::Found(_, 1_000_000_000..) => "count of ten digits",
+            Answer::Found(_, 0) => "count of 0",
+            _ => "another count",
+        };
+        *self.looked_up.entry(kind).or_default() += 1;
     }
 
     fn variable(&mut self, buffer: &[u8], state: &State, name: &[u8]) {
@@ -192,12 +210,12 @@ fn states(seed: u64, count: usize) -> Seen {
     let mut buffer = vec![0; BUFFER];
     let mut scratch = vec![0; BUFFER];
     for at in 0..count {
-        let shape = Shape::any(&mut random);
-        let mut text = Plan::of(&mut random, shape).text(&mut scratch);
+        let shape = Shape::any(&mut random, Form::Counted);
+        let mut text = Plan::of(&mut random, shape, Form::Counted).text(&mut scratch);
         let mut done = None;
         while at % 2 == 1 && done.is_none() {
             let damage = Damage::ALL[random.below(Damage::ALL.len())];
-            if let Some(damaged) = damage.done(&mut random, &text) {
+            if let Some(damaged) = damage.done(&mut random, &text, Form::Counted) {
                 text = damaged;
                 done = Some(damage);
             }
@@ -222,6 +240,12 @@ fn states(seed: u64, count: usize) -> Seen {
     seen
 }
 
+/// What look-ups must have met.
+const KINDS: [&str; 11] = [
+    "principal by name", "variable by name", "principal by number", "variable by number", "found", "missing", "no password kept", "count of 0",
+    "count of ten digits", "another count", "no count: no such principal",
+];
+
 /// Two runs side by side, and what each of them must have met.
 #[test]
 fn random_states() {
@@ -244,7 +268,7 @@ fn random_states() {
             let (_, broken) = seen.damages.get(&damage).copied().unwrap_or_default();
             assert!(broken > 0, "never came, or never broke a state: {damage:?}");
         }
-        for kind in ["principal by name", "variable by name", "principal by number", "variable by number", "found", "missing", "no password kept"] {
+        for kind in KINDS {
             assert!(seen.looked_up.contains_key(kind), "never came: {kind}");
         }
     }
@@ -254,28 +278,43 @@ fn random_states() {
 #[test]
 fn around_the_limit() {
     let mut comparison = Comparison::new(1);
-    for length in 8_150..8_200 {
-        let mut text = b"O\t0\nP\tadmin\tdesk\nN\tanyone\nD\tanyone\nV\tx\tS\t".to_vec();
+    for length in 8_130..8_200 {
+        let mut text = b"O\nP\tadmin\tdesk\t0\nN\tanyone\t0\nD\tanyone\nV\tx\tS\t".to_vec();
         text.resize(text.len() + length, b's');
         text.push(b'\n');
         text.resize(BUFFER, 0);
-        assert_eq!(comparison.compare(&text), length <= 8_182);
+        assert_eq!(comparison.compare(&text), length <= 8_162);
+    }
+}
+
+/// Every width that a count has, at the limit of the weight: it weighs the same whatever it is.
+#[test]
+fn counts_of_every_width() {
+    let mut comparison = Comparison::new(2);
+    for digits in 0..11 {
+        for count in [10u64.pow(digits), 10u64.pow(digits) - 1, u64::from(u32::MAX) + u64::from(digits)] {
+            let text = format!("O\nP\tadmin\tdesk\t{count}\nN\tanyone\t{count}\nD\tanyone\nV\tx\tS\t{}\n", "s".repeat(8_162));
+            let mut text = text.into_bytes();
+            text.resize(BUFFER, 0);
+            assert_eq!(comparison.compare(&text), count <= u64::from(u32::MAX), "{count}");
+        }
     }
 }
 
 #[test]
 fn wrong_sizes() {
-    let mut fresh = b"O\t0\nP\tadmin\tdesk\nN\tanyone\nD\tanyone\n".to_vec();
+    let mut fresh = b"O\nP\tadmin\tdesk\t0\nN\tanyone\t7\nD\tanyone\n".to_vec();
     fresh.resize(BUFFER + 1, 0);
     let mut figures = vec![7; FIGURES];
     let mut room = vec![DIRT; ROOM];
-    for size in [0, 1, 38, BUFFER - 1, BUFFER + 1] {
+    for size in [0, 1, 37, BUFFER - 1, BUFFER + 1] {
         let state = &fresh[..size];
         assert_eq!(states::check(state, &mut figures), Answer::Refused);
         assert_eq!(states::principal(state, b"admin", &mut room), Answer::Refused);
         assert_eq!(states::variable(state, b"admin", &mut room), Answer::Refused);
         assert_eq!(states::principal_name(state, 0, &mut room), Answer::Refused);
         assert_eq!(states::variable_name(state, 0, &mut room), Answer::Refused);
+        assert_eq!(states::principal_count(state, b"admin"), Answer::Refused);
     }
     let state = &fresh[..BUFFER];
     assert_eq!(states::check(state, &mut figures[1..]), Answer::Refused);
@@ -285,4 +324,6 @@ fn wrong_sizes() {
     assert_eq!(states::variable_name(state, 0, &mut room[1..]), Answer::Refused);
     assert!(figures.iter().all(|number| *number == 7) && room.iter().all(|byte| *byte == DIRT));
     assert_eq!(states::principal(state, b"admin", &mut room), Answer::Found(0, &b"desk"[..]));
+    assert_eq!(states::principal_count(state, b"anyone"), Answer::Found(0, 7));
+    assert_eq!(states::principal_count(state, b"rosa"), Answer::Missing);
 }

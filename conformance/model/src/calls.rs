@@ -1,18 +1,18 @@
 //! The calls of the host program and of the installer, on lent buffers (01,
-//! Who gets which number). A refused call changes no byte.
+//! Who gets which number; 02, M-101). A refused call changes no byte.
 
 use crate::bytes::STRING;
 use crate::engine::{self, End};
 use crate::lines::Lines;
 use crate::rights::{self, Right};
-use crate::state::State;
+use crate::state::{State, HEAVIEST};
 use crate::strings::Strings;
-use crate::text::{decode, encode, BUFFER};
+use crate::text::{decode, decode_former, encode, BUFFER};
 
 /// The longest first password of admin.
 pub const LONGEST_PASSWORD: usize = 1_024;
 
-/// Why a call was refused; the number is 01's.
+/// Why a call was refused; the numbers are 01's, and from 10 on 02's.
 #[derive(Clone, Copy, PartialEq, Eq, Debug)]
 pub enum Refusal {
     OutputSize = 1,
@@ -24,6 +24,8 @@ pub enum Refusal {
     UnknownVariableOrRight = 7,
     PasswordByte = 8,
     PasswordLength = 9,
+    FormerNotWellFormed = 10,
+    BroughtTooHeavy = 11,
 }
 
 impl Refusal {
@@ -54,8 +56,24 @@ pub fn make(state: &mut [u8], password: &[u8]) -> Result<(), Refusal> {
     require(state.len() == BUFFER, Refusal::StateSize)?;
     require(STRING.holds_all(password), Refusal::PasswordByte)?;
     require(password.len() <= LONGEST_PASSWORD, Refusal::PasswordLength)?;
-    let length = encode(&State::fresh(password), state);
-    state[length..].fill(0);
+    write(&State::fresh(password), state);
+    Ok(())
+}
+
+/// The buffer then holds the state's text and zeros.
+fn write(state: &State, buffer: &mut [u8]) {
+    let length = encode(state, buffer);
+    buffer[length..].fill(0);
+}
+
+/// Brings a text in the former lines over into a second buffer, every count
+/// starting from 0.
+pub fn bring(former: &[u8], state: &mut [u8]) -> Result<(), Refusal> {
+    let sized = former.len() == BUFFER && state.len() == BUFFER;
+    require(sized, Refusal::StateSize)?;
+    let brought = decode_former(former).ok_or(Refusal::FormerNotWellFormed)?;
+    require(brought.weight() <= HEAVIEST, Refusal::BroughtTooHeavy)?;
+    write(&brought, state);
     Ok(())
 }
 

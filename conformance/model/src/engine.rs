@@ -63,7 +63,7 @@ fn complete<'a>(
     }
     let end = session.last(&program.last, lines)?;
     let mut state = session.state;
-    state.completed = state.completed.saturating_add(1);
+    state.principals.complete(sender);
     Ok((end, state))
 }
 
@@ -225,7 +225,7 @@ impl<'a> Session<'a> {
     /// default delegator has delegate on the same variables before each of
     /// the four rights.
     fn create_principal(&mut self, name: &'a [u8], password: &'a [u8]) -> Option<()> {
-        let number = self.state.principals.add(name, Some(password))?;
+        let number = self.state.principals.add(name, Some(password), 0)?;
         let delegator = self.state.delegator;
         let variables = self.delegable(delegator);
         for right in Right::ALL {

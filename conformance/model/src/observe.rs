@@ -1,6 +1,6 @@
-//! What became of the calls of functions in a program, told in a few words
-//! each. Random tests count them, so that no form and no mishap is left out
-//! unnoticed.
+//! What became of the calls of functions in a program, and of its sender's
+//! count, told in a few words each. Random tests count them, so that no form
+//! and no mishap is left out unnoticed.
 
 use crate::engine::login;
 use crate::names::Keyword;
@@ -40,6 +40,34 @@ pub const SHAPES: [&str; 5] = [
     "parenthesis missing",
     "parentheses without a function",
 ];
+
+/// How a sender's count may move, where that is worth seeing.
+pub const COUNTS: [&str; 5] = [
+    "count from 9 to 10",
+    "count from 99 to 100",
+    "count to ten digits",
+    "count reaches 4294967295",
+    "count stays at 4294967295",
+];
+
+/// How the sender's count moved, of [`COUNTS`], from the state before a
+/// program to the state after it, where that is one of these.
+pub fn count(before: &[u8], program: &[u8], after: &[u8]) -> Option<&'static str> {
+    let sender = parse(program)?.principal;
+    let completed = |state| {
+        let (state, _) = decode(state)?;
+        let number = state.principals.find(sender)?;
+        Some(state.principals.get(number).completed)
+    };
+    match (completed(before)?, completed(after)?) {
+        (9, 10) => Some(COUNTS[0]),
+        (99, 100) => Some(COUNTS[1]),
+        (999_999_999, 1_000_000_000) => Some(COUNTS[2]),
+        (4_294_967_294, u32::MAX) => Some(COUNTS[3]),
+        (u32::MAX, u32::MAX) => Some(COUNTS[4]),
+        _ => None,
+    }
+}
 
 /// What became of the calls in a program that is run on a state: of each that
 /// was done, and of the one with which the program ended. Where the program

@@ -1,5 +1,5 @@
 //! The state: principals, variables, assertions, and their weight (01, State
-//! text and Weight). Each part keeps its weight as it changes.
+//! text and Weight; 02, M-101). Each part keeps its weight as it changes.
 
 use crate::names::{Numbers, QuickSet};
 use crate::rights::{Assertion, ADMIN, ANYONE};
@@ -8,11 +8,17 @@ use crate::value::{List, Value};
 /// The most that a state with its locals, or one value, may weigh.
 pub const HEAVIEST: usize = 8_192;
 
+/// M-101: what a principal weighs more than in the former lines, for its
+/// count, however many digits that has.
+pub const COUNT_WEIGHT: usize = 10;
+
 #[derive(Clone, Copy, PartialEq, Eq, Debug)]
 pub struct Principal<'a> {
     pub name: &'a [u8],
     /// None is a principal that has no password, which is not an empty one.
     pub password: Option<&'a [u8]>,
+    /// How many programs it has completed.
+    pub completed: u32,
 }
 
 impl Principal<'_> {
@@ -55,16 +61,32 @@ impl<'a> Principals<'a> {
     }
 
     /// The new principal's number; none where the name exists.
-    pub fn add(&mut self, name: &'a [u8], password: Option<&'a [u8]>) -> Option<u16> {
+    pub fn add(
+        &mut self,
+        name: &'a [u8],
+        password: Option<&'a [u8]>,
+        completed: u32,
+    ) -> Option<u16> {
         let number = self.entries.len() as u16;
         if self.find(name).is_some() {
             return None;
         }
         self.numbers.insert(name, number);
-        let principal = Principal { name, password };
+        let principal = Principal {
+            name,
+            password,
+            completed,
+        };
         self.entries.push(principal);
-        self.weight += 1 + self.name_weight(number) + principal.password_weight();
+        self.weight += 1 + COUNT_WEIGHT + self.name_weight(number) + principal.password_weight();
         Some(number)
+    }
+
+    /// The principal has completed one program more. Its count stays at
+    /// 4294967295 once there.
+    pub fn complete(&mut self, number: u16) {
+        let completed = &mut self.entries[usize::from(number)].completed;
+        *completed = completed.saturating_add(1);
     }
 
     pub fn set_password(&mut self, number: u16, password: &'a [u8]) {
@@ -170,8 +192,6 @@ fn member(assertion: &Assertion) -> u64 {
 #[derive(Clone, Debug)]
 pub struct State<'a> {
     pub open: bool,
-    /// How many programs were completed.
-    pub completed: u32,
     pub principals: Principals<'a>,
     /// The default delegator.
     pub delegator: u16,
@@ -182,10 +202,9 @@ pub struct State<'a> {
 
 impl<'a> State<'a> {
     /// A state without variables and assertions.
-    pub fn new(open: bool, completed: u32, principals: Principals<'a>, delegator: u16) -> Self {
+    pub fn new(open: bool, principals: Principals<'a>, delegator: u16) -> Self {
         State {
             open,
-            completed,
             principals,
             delegator,
             variables: Variables::default(),
@@ -196,13 +215,18 @@ impl<'a> State<'a> {
     /// The state that making a server leaves.
     pub fn fresh(password: &'a [u8]) -> State<'a> {
         let mut principals = Principals::default();
-        principals.add(b"admin", Some(password));
-        principals.add(b"anyone", None);
-        State::new(true, 0, principals, ANYONE)
+        principals.add(b"admin", Some(password), 0);
+        principals.add(b"anyone", None, 0);
+        State::new(true, principals, ANYONE)
     }
 
     pub fn weight(&self) -> usize {
         self.principals.weight + self.variables.weight + self.standing.weight
+    }
+
+    /// What it weighed before M-101.
+    pub fn former_weight(&self) -> usize {
+        self.weight() - COUNT_WEIGHT * self.principals.count()
     }
 
     pub fn standing(&self) -> &[Assertion] {

@@ -1,5 +1,6 @@
-//! The state text (01, State text): its writing and its reading. Only a well
-//! formed buffer is read, and what is read has this one text.
+//! The state text (01, State text; 02, M-101): its writing and its reading.
+//! Only a well formed buffer is read, and what is read has this one text. A
+//! text in the former lines, those from before M-101, is read as well.
 
 use std::rc::Rc;
 
@@ -52,12 +53,13 @@ impl Writer<'_> {
     }
 
     fn header(&mut self, state: &State) {
-        let tag = if state.open { b"O" } else { b"C" };
-        self.line(tag, &[state.completed.to_string().as_bytes()]);
+        self.line(if state.open { b"O" } else { b"C" }, &[]);
         for principal in state.principals.iter() {
+            let mut room = [0; 10];
+            let completed = decimal(principal.completed, &mut room);
             match principal.password {
-                Some(password) => self.line(b"P", &[principal.name, password]),
-                None => self.line(b"N", &[principal.name]),
+                Some(password) => self.line(b"P", &[principal.name, password, completed]),
+                None => self.line(b"N", &[principal.name, completed]),
             }
         }
         self.line(b"D", &[state.principals.get(state.delegator).name]);
@@ -99,19 +101,52 @@ impl Writer<'_> {
     }
 }
 
+/// The digits of a count, without a leading zero. A venue has hundreds of them
+/// in a text, so each is written in place.
+fn decimal(mut number: u32, room: &mut [u8; 10]) -> &[u8] {
+    let mut at = room.len();
+    loop {
+        at -= 1;
+        room[at] = b'0' + (number % 10) as u8;
+        number /= 10;
+        if number == 0 {
+            return &room[at..];
+        }
+    }
+}
+
+/// Where the counts stand.
+#[derive(Clone, Copy, PartialEq, Eq)]
+enum Form {
+    /// One for all programs, in the first line. It is read and dropped.
+    Former,
+    /// One for each principal, as the last field of its line.
+    Counted,
+}
+
 /// The state that the buffer holds and the length of its text; none where the
 /// buffer is not well formed.
 pub fn decode(buffer: &[u8]) -> Option<(State<'_>, usize)> {
+    let (state, length) = read(buffer, Form::Counted)?;
+    (state.weight() <= HEAVIEST).then_some((state, length))
+}
+
+/// The state that a buffer in the former lines says, every count being 0; none
+/// where it is not well formed in those lines. By its weight of now it may be
+/// too heavy.
+pub fn decode_former(buffer: &[u8]) -> Option<State<'_>> {
+    let (state, _) = read(buffer, Form::Former)?;
+    (state.former_weight() <= HEAVIEST).then_some(state)
+}
+
+/// What the buffer says, whatever it weighs, and the length of its text.
+fn read(buffer: &[u8], form: Form) -> Option<(State<'_>, usize)> {
     let mut reader = Reader { rest: buffer };
-    let open = reader.takes(b"O\t");
-    if !open && !reader.takes(b"C\t") {
-        return None;
-    }
-    let completed = reader.number()?;
-    let principals = reader.principals()?;
+    let open = reader.first_line(form)?;
+    let principals = reader.principals(form)?;
     reader.the(b"D\t")?;
     let delegator = principals.find(reader.name(b'\n')?)?;
-    let mut state = State::new(open, completed, principals, delegator);
+    let mut state = State::new(open, principals, delegator);
     while reader.takes(b"V\t") {
         let name = reader.name(b'\t')?;
         let value = reader.value()?;
@@ -123,8 +158,7 @@ pub fn decode(buffer: &[u8]) -> Option<(State<'_>, usize)> {
             return None;
         }
     }
-    let well_formed = state.weight() <= HEAVIEST && all_zero(reader.rest);
-    well_formed.then_some((state, buffer.len() - reader.rest.len()))
+    all_zero(reader.rest).then_some((state, buffer.len() - reader.rest.len()))
 }
 
 /// Reads the parts of a text; none is a text that is not well formed.
@@ -160,11 +194,27 @@ impl<'a> Reader<'a> {
         may_be_kept(name).then_some(name)
     }
 
-    fn text(&mut self) -> Option<&'a [u8]> {
-        self.field(STRING.run(self.rest), b'\n')
+    fn text(&mut self, end: u8) -> Option<&'a [u8]> {
+        self.field(STRING.run(self.rest), end)
     }
 
-    /// The count of programs: decimal, no leading zero.
+    /// Whether the server is open.
+    fn first_line(&mut self, form: Form) -> Option<bool> {
+        let open = self.takes(b"O");
+        if !open {
+            self.the(b"C")?;
+        }
+        match form {
+            Form::Former => {
+                self.the(b"\t")?;
+                self.number()?;
+            }
+            Form::Counted => self.the(b"\n")?,
+        }
+        Some(open)
+    }
+
+    /// A count at the end of its line: decimal, no leading zero.
     fn number(&mut self) -> Option<u32> {
         let digits = self.field(WORD.run(self.rest), b'\n')?;
         if digits.is_empty() || digits.len() > 1 && digits[0] == b'0' {
@@ -176,17 +226,26 @@ impl<'a> Reader<'a> {
         })
     }
 
-    fn principals(&mut self) -> Option<Principals<'a>> {
+    fn principals(&mut self, form: Form) -> Option<Principals<'a>> {
+        // What ends the field before the count, or the line without one.
+        let end = match form {
+            Form::Former => b'\n',
+            Form::Counted => b'\t',
+        };
         let mut principals = Principals::default();
         loop {
             let (name, password) = if self.takes(b"P\t") {
-                (self.name(b'\t')?, Some(self.text()?))
+                (self.name(b'\t')?, Some(self.text(end)?))
             } else if self.takes(b"N\t") {
-                (self.name(b'\n')?, None)
+                (self.name(end)?, None)
             } else {
                 break;
             };
-            let fits = match principals.add(name, password)? {
+            let completed = match form {
+                Form::Former => 0,
+                Form::Counted => self.number()?,
+            };
+            let fits = match principals.add(name, password, completed)? {
                 ADMIN => name == b"admin" && password.is_some(),
                 ANYONE => name == b"anyone",
                 _ => password.is_some(),
@@ -214,7 +273,7 @@ impl<'a> Reader<'a> {
     /// A string or record, if one follows; the outer none is a wrong one.
     fn item(&mut self, scratch: &mut Vec<Field<'a>>) -> Option<Option<Item<'a>>> {
         if self.takes(b"S\t") {
-            return Some(Some(Item::Text(self.text()?)));
+            return Some(Some(Item::Text(self.text(b'\n')?)));
         }
         if !self.takes(b"R\n") {
             return Some(None);
@@ -223,7 +282,7 @@ impl<'a> Reader<'a> {
         while self.takes(b"F\t") {
             scratch.push(Field {
                 label: self.name(b'\t')?,
-                text: self.text()?,
+                text: self.text(b'\n')?,
             });
         }
         if scratch.is_empty() || !distinct(scratch.iter().map(|field| field.label)) {

@@ -2,7 +2,7 @@
 
 mod common;
 
-use common::{buffer, program, DIRT, FRESH, SESSION};
+use common::{buffer, program, DIRT, FORMER_SESSION, FRESH, SESSION};
 use model::calls::{ask, make, run, Refusal};
 use model::text::BUFFER;
 
@@ -52,8 +52,11 @@ fn numbers_are_the_papers() {
         Refusal::UnknownVariableOrRight,
         Refusal::PasswordByte,
         Refusal::PasswordLength,
+        Refusal::FormerNotWellFormed,
+        Refusal::BroughtTooHeavy,
     ];
-    assert_eq!(refusals.map(Refusal::number), [1, 2, 3, 4, 5, 6, 7, 8, 9]);
+    let numbers = [1, 2, 3, 4, 5, 6, 7, 8, 9, 10, 11];
+    assert_eq!(refusals.map(Refusal::number), numbers);
 }
 
 #[test]
@@ -78,14 +81,15 @@ fn run_3_work_size_goes_before_the_text() {
     for size in SIZES {
         run_refused(3, &buffer(SESSION), size, BUFFER, &good_program());
         run_refused(3, &buffer("nonsense"), size, BUFFER, &good_program());
-        run_refused(3, &buffer("C|0"), size, BUFFER, &good_program());
+        run_refused(3, &buffer("C\n"), size, BUFFER, &good_program());
     }
 }
 
 #[test]
 fn run_4_not_well_formed_goes_before_closed() {
-    let closed_without_delegator = "C|0\nP|admin|desk\nN|anyone\n";
-    for text in ["", "nonsense", closed_without_delegator] {
+    let closed_without_delegator = "C\nP|admin|desk|0\nN|anyone|0\n";
+    let former = FORMER_SESSION.replace("O|2", "C|2");
+    for text in ["", "nonsense", closed_without_delegator, &former] {
         run_refused(4, &buffer(text), BUFFER, BUFFER, &good_program());
         run_refused(4, &buffer(text), BUFFER, BUFFER, "");
     }
@@ -93,7 +97,7 @@ fn run_4_not_well_formed_goes_before_closed() {
 
 #[test]
 fn run_5_closed() {
-    let closed = buffer(&SESSION.replace("O|2", "C|2"));
+    let closed = buffer(&SESSION.replace("O\n", "C\n"));
     for program in [&good_program(), "", "nonsense", &program("bob", "b", &[])] {
         run_refused(5, &closed, BUFFER, BUFFER, program);
     }
@@ -110,8 +114,10 @@ fn ask_2_state_size() {
 
 #[test]
 fn ask_4_not_well_formed() {
-    let state = buffer("O|0\n");
-    assert_eq!(number_of(ask(&state, b"nobody", b"nothing", b'x')), 4);
+    for text in ["O\n", FORMER_SESSION] {
+        let state = buffer(text);
+        assert_eq!(number_of(ask(&state, b"nobody", b"nothing", b'x')), 4);
+    }
 }
 
 #[test]
@@ -136,7 +142,7 @@ fn ask_7_unknown_variable_or_right() {
 
 #[test]
 fn ask_answers_open_and_closed() {
-    for text in [SESSION.to_string(), SESSION.replace("O|2", "C|2")] {
+    for text in [SESSION.to_string(), SESSION.replace("O\n", "C\n")] {
         let state = buffer(&text);
         assert_eq!(ask(&state, b"admin", b"queue", b'd'), Ok(Some(0)));
         assert_eq!(ask(&state, b"rosa", b"queue", b'a'), Ok(Some(1)));
@@ -195,7 +201,7 @@ fn a_shorter_text_leaves_zeros_behind_it() {
     let shrink = program("admin", "desk", &["set queue = \"\"", "return \"\""]);
     let report = run(&mut state, &mut work, &mut output, shrink.as_bytes());
     assert!(report.is_ok());
-    let text = "O|3\nP|admin|desk\nN|anyone\nP|rosa|r1\nD|anyone\nV|queue|S|\n\
+    let text = "O\nP|admin|desk|2\nN|anyone|0\nP|rosa|r1|1\nD|anyone\nV|queue|S|\n\
                 A|queue|admin|a|rosa\n";
     assert!(state == buffer(text));
     assert!(work == vec![0; BUFFER]);

@@ -28,9 +28,9 @@ fn full() {
 
 #[test]
 fn full_to_the_last_unit() {
-    // x weighs 2, its items 1 each, and 8 is the fresh state.
+    // x weighs 2, its items 1 each, and 28 is the fresh state.
     let list = |count: usize| format!("{FRESH}V|x|L\n{}", "S|\n".repeat(count));
-    let mut server = Server::of_text(&list(8_181));
+    let mut server = Server::of_text(&list(8_161));
     server.one("admin", "append to x with \"a\"", End::Full);
     server.one("admin", "local y = \"\"", End::Full);
     server.one("admin", "append to x with \"\"", End::Returned);
@@ -44,7 +44,7 @@ fn full_to_the_last_unit() {
     server.one("admin", "foreach y in x replacewith \"a\"", End::Full);
     server.one("admin", "foreach y in x replacewith {a=y}", End::Full);
     // Locals count, and go at the end of the program.
-    let mut server = Server::of_text(&list(8_179));
+    let mut server = Server::of_text(&list(8_159));
     let lines = ["local y = \"\"", "append to x with \"\"", "return \"\""];
     server.ends("admin", &lines, End::Returned);
     server.ends("admin", &lines, End::Full);

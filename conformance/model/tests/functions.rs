@@ -330,7 +330,7 @@ fn failed_goes_before_full() {
 #[test]
 fn the_state_with_a_result() {
     let mut server = Server::new("desk");
-    let set = format!("set x = {}", long('A', 8_182));
+    let set = format!("set x = {}", long('A', 8_162));
     let last = ["return tolower(x)"];
     assert_eq!(
         server.admin(&[&[set.as_str()][..], &last].concat()).0,
@@ -338,10 +338,10 @@ fn the_state_with_a_result() {
     );
     // Each value is light enough, and both together are not.
     let mut server = Server::new("desk");
-    server.prepare(&[&format!("set x = {}", long('A', 4_089))]);
+    server.prepare(&[&format!("set x = {}", long('A', 4_079))]);
     server.one("admin", "set y = tolower(x)", End::Returned);
     server.one("admin", "set z = concat(\"\",\"\")", End::Returned);
-    assert_eq!(server.weight(), 8 + 2 * (2 + 4_089) + 2);
+    assert_eq!(server.weight(), 28 + 2 * (2 + 4_079) + 2);
     server.one("admin", "local u = concat(\"\",\"\")", End::Full);
     server.one("admin", "set z = concat(x,x)", End::Full);
     server.one("admin", "set x = concat(x,x)", End::Full);

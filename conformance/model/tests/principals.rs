@@ -33,7 +33,7 @@ fn login() {
 
 #[test]
 fn empty_password_is_a_password() {
-    let mut server = Server::of_text(&SESSION.replace("P|rosa|r1", "P|rosa|"));
+    let mut server = Server::of_text(&SESSION.replace("P|rosa|r1|", "P|rosa||"));
     login_ends(&mut server, "rosa", "", "return \"\"", End::Returned);
     login_ends(&mut server, "rosa", "r1", "return \"\"", End::Denied);
 }
@@ -120,11 +120,11 @@ fn anyone_as_default_delegator() {
     ]);
     assert_eq!(
         server.text(),
-        "O|1\nP|admin|desk\nN|anyone\nP|bob|\nD|anyone\nV|x|S|\nV|y|S|\nA|y|admin|d|anyone\n\
+        "O\nP|admin|desk|1\nN|anyone|0\nP|bob||0\nD|anyone\nV|x|S|\nV|y|S|\nA|y|admin|d|anyone\n\
          A|y|anyone|r|bob\nA|y|anyone|w|bob\nA|y|anyone|a|bob\nA|y|anyone|d|bob\n"
     );
-    // 6 + 2, bob 1 + 3, two variables of 2, then 1 + 1 + 1 + 1 and four of 1 + 1 + 1 + 3.
-    assert_eq!(server.weight(), 8 + 4 + 4 + 4 + 24);
+    // 16 + 12, bob 11 + 3, two variables of 2, then 1 + 1 + 1 + 1 and four of 1 + 1 + 1 + 3.
+    assert_eq!(server.weight(), 28 + 14 + 4 + 4 + 24);
 }
 
 #[test]
@@ -150,14 +150,14 @@ fn anyone_may_get_a_password() {
     assert_eq!(
         server.text(),
         FRESH
-            .replace("O|0", "O|1")
+            .replace("desk|0", "desk|1")
             .replace("N|anyone", "P|anyone|a")
     );
-    assert_eq!(server.weight(), 9);
+    assert_eq!(server.weight(), 29);
     server.one("anyone", "set x = \"\"", End::Returned);
     assert_eq!(
         server.text(),
-        "O|2\nP|admin|desk\nP|anyone|a\nD|anyone\nV|x|S|\nA|x|admin|r|anyone\n\
+        "O\nP|admin|desk|1\nP|anyone|a|1\nD|anyone\nV|x|S|\nA|x|admin|r|anyone\n\
          A|x|admin|w|anyone\nA|x|admin|a|anyone\nA|x|admin|d|anyone\n"
     );
     server.one("anyone", "create principal p \"\"", End::Denied);

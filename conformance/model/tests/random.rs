@@ -10,7 +10,7 @@ use common::{buffer, program, Server, DIRT, FRESH, SESSION};
 use model::calls;
 use model::engine::{self, End};
 use model::lines::Lines;
-use model::observe::{self, FUNCTIONS, MISHAPS, PLACES, SHAPES};
+use model::observe::{self, COUNTS, FUNCTIONS, MISHAPS, PLACES, SHAPES};
 use model::strings::Strings;
 use model::text::{decode, encode, BUFFER};
 
@@ -197,7 +197,7 @@ fn length_by_text(text: &str, name: &str, variable: &str, right: &str) -> Option
                 ["A", x, q, r, p] if (x, r) == (variable, right) && reached.contains(&q) => {
                     next.push(p)
                 }
-                ["P", p, _] if reached.contains(&"anyone") => next.push(p),
+                ["P", p, _, _] if reached.contains(&"anyone") => next.push(p),
                 _ => {}
             }
         }
@@ -233,13 +233,30 @@ fn questions_are_answered(server: &Server) -> (usize, usize) {
     (yes, no)
 }
 
-/// How often each form of a call and each mishap came: every one must.
+/// A state text with counts that a few programs bring to another width, or to
+/// their end.
+fn recounted(numbers: &mut Numbers, text: &str) -> String {
+    let mut near = || {
+        let edge = [10, 100, 1_000_000_000, u32::MAX][numbers.below(4)];
+        edge - numbers.below(4) as u32
+    };
+    let mut counted = |line: &str| match line.split('|').collect::<Vec<_>>()[..] {
+        ["P", name, password, _] => format!("P|{name}|{password}|{}\n", near()),
+        ["N", name, _] => format!("N|{name}|{}\n", near()),
+        _ => format!("{line}\n"),
+    };
+    text.lines().map(&mut counted).collect()
+}
+
+/// How often each form of a call, each mishap and each move of a count came:
+/// every one must.
 fn all_came(seen: &BTreeMap<String, usize>) {
     let forms = FUNCTIONS.iter().flat_map(|function| {
         let told = move |place: &&str| format!("{function} in {place}");
         PLACES.iter().map(told)
     });
-    for key in forms.chain(MISHAPS.iter().chain(&SHAPES).map(|key| key.to_string())) {
+    let others = MISHAPS.iter().chain(&SHAPES).chain(&COUNTS);
+    for key in forms.chain(others.map(|key| key.to_string())) {
         let times = seen.get(&key).copied().unwrap_or(0);
         println!("{key}: {times}");
         assert!(times > 0, "{key} never came");
@@ -253,15 +270,21 @@ fn whole_programs() {
     let mut seen = BTreeMap::new();
     let (mut yes, mut no) = (0, 0);
     for _ in 0..400 {
-        let mut server = peopled();
+        let mut server = Server::of_text(&recounted(&mut numbers, &peopled().text()));
         for _ in 0..60 {
             let program = any_program(&mut numbers);
-            weight_is_kept(&server.state, &program);
+            let before = server.state.clone();
+            weight_is_kept(&before, &program);
             for told in observe::calls(&server.state, program.as_bytes()) {
                 *seen.entry(told).or_default() += 1;
             }
             let (end, _) = server.send(program.as_bytes());
             ends[end as usize] += 1;
+            if matches!(end, End::Returned | End::Exited) {
+                if let Some(told) = observe::count(&before, program.as_bytes(), &server.state) {
+                    *seen.entry(told.to_string()).or_default() += 1;
+                }
+            }
             if end == End::Exited {
                 break;
             }
@@ -336,15 +359,65 @@ fn damaged_states() {
     assert!(good > 100 && bad > 100);
 }
 
+/// A state text in the former lines: the counts go, and the first line gets
+/// one.
+fn former_of(text: &str, count: u32) -> String {
+    let former = |line: &str| match line.split('|').collect::<Vec<_>>()[..] {
+        ["O" | "C"] => format!("{line}|{count}\n"),
+        ["P", name, password, _] => format!("P|{name}|{password}\n"),
+        ["N", name, _] => format!("N|{name}\n"),
+        _ => format!("{line}\n"),
+    };
+    text.lines().map(former).collect()
+}
+
+/// A state text with every count 0.
+fn uncounted(text: &str) -> String {
+    let uncounted = |line: &str| match line.split('|').collect::<Vec<_>>()[..] {
+        ["P", name, password, _] => format!("P|{name}|{password}|0\n"),
+        ["N", name, _] => format!("N|{name}|0\n"),
+        _ => format!("{line}\n"),
+    };
+    text.lines().map(uncounted).collect()
+}
+
+#[test]
+fn former_states() {
+    let mut numbers = Numbers(0x5eed_0bad_5eed_0bad);
+    let (mut brought, mut damaged) = (0, 0);
+    for _ in 0..300 {
+        let mut server = peopled();
+        for _ in 0..10 {
+            let program = any_program(&mut numbers);
+            if server.send(program.as_bytes()).0 == End::Exited {
+                break;
+            }
+        }
+        let count = numbers.below(1 << 31) as u32;
+        let former = former_of(&server.text(), count);
+        assert!(Server::brought(&former).text() == uncounted(&server.text()));
+        brought += 1;
+        let mut bytes = buffer(&former);
+        let at = numbers.below(former.len());
+        bytes[at] = numbers.below(256) as u8;
+        let (before, mut state) = (bytes.clone(), vec![DIRT; BUFFER]);
+        if calls::bring(&bytes, &mut state).is_err() {
+            damaged += 1;
+            assert!(bytes == before && state == [DIRT; BUFFER]);
+        }
+    }
+    assert!(brought > 100 && damaged > 10, "{brought} {damaged}");
+}
+
 #[test]
 fn the_largest_output() {
     // 77 records of 52 fields with labels of one letter, and a string x.
     let labels = (b'a'..=b'z').chain(b'A'..=b'Z').map(char::from);
     let fields: String = labels.map(|label| format!("F|{label}|\n")).collect();
     let list = format!("R\n{fields}").repeat(77);
-    let text = FRESH.replace("|desk", "|");
+    let text = FRESH.replace("desk", "");
     let mut server = Server::of_text(&format!("{text}V|x|S|\nV|l|L\n{list}"));
-    assert_eq!(server.weight(), 2 + 2 + 2 + (2 + 77 * (1 + 52 * 2)));
+    assert_eq!(server.weight(), 12 + 12 + 2 + (2 + 77 * (1 + 52 * 2)));
     let first = "as principal admin password\"\"do\n";
     let commands = (16_384 - first.len() - 12) / 8;
     let program = format!("{first}{}return l\n***", "set x=x\n".repeat(commands));
@@ -367,7 +440,7 @@ fn the_largest_state_text() {
     let names = (b'a'..=b'z').chain(b'A'..=b'Z').map(char::from);
     let variables: String = names.map(|name| format!("V|{name}|R\n{fields}")).collect();
     let mut server = Server::of_text(&format!("{FRESH}{variables}"));
-    assert_eq!(server.weight(), 8 + 52 * (2 + 52 * 2));
+    assert_eq!(server.weight(), 28 + 52 * (2 + 52 * 2));
     server.prepare(&["set more = \"\""]);
     assert!(server.text().ends_with("V|more|S|\n"));
 }

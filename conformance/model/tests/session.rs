@@ -1,5 +1,6 @@
-//! The worked values of 01: the session, the starred cases, the weights, the
-//! wrong turns and the rows of worthless servers that a value can show.
+//! The worked values of 01, as they moved with M-101: the session, the starred
+//! cases, the weights, the wrong turns and the rows of worthless servers that a
+//! value can show.
 
 mod common;
 
@@ -24,7 +25,11 @@ return \"ok\"
 fn fresh_server() {
     let server = Server::new("desk");
     assert_eq!(server.text(), FRESH);
-    assert_eq!(server.weight(), 8);
+    assert_eq!(server.text().len(), 37);
+    assert_eq!(server.weight(), 28);
+    assert_eq!(Server::new("").text(), FRESH.replace("desk", ""));
+    assert_eq!(Server::new("").weight(), 24);
+    assert_eq!(Server::new(&"p".repeat(1_024)).weight(), 1_048);
 }
 
 #[test]
@@ -43,7 +48,8 @@ fn session_lines_state_and_weight() {
          {\"status\":\"RETURNING\",\"output\":\"ok\"}\n"
     );
     assert_eq!(server.text(), SESSION);
-    assert_eq!(server.weight(), 52);
+    assert_eq!(server.text().len(), 107);
+    assert_eq!(server.weight(), 82);
 }
 
 #[test]
@@ -78,18 +84,21 @@ fn star_rosa_sets_own() {
     assert_eq!(text, statuses(&["SET"]) + &returning("\"a\""));
     assert_eq!(
         server.text(),
-        "O|3\nP|admin|desk\nN|anyone\nP|rosa|r1\nD|anyone\nV|queue|L\nR\n\
+        "O\nP|admin|desk|1\nN|anyone|0\nP|rosa|r1|2\nD|anyone\nV|queue|L\nR\n\
          F|song|Blue Moon\nF|key|F\nV|own|S|a\nA|queue|admin|a|rosa\n\
          A|own|admin|r|rosa\nA|own|admin|w|rosa\nA|own|admin|a|rosa\nA|own|admin|d|rosa\n"
     );
     // own: 1 + 3 + 1; each assertion: 3 + 1 + 1 + 4.
-    assert_eq!(server.weight(), 52 + 5 + 4 * 9);
+    assert_eq!(server.weight(), 82 + 5 + 4 * 9);
 }
 
 #[test]
 fn star_chain_through_anyone() {
     let mut server = Server::session();
     server.prepare(&["set delegation queue admin read -> anyone"]);
+    let moved = SESSION.replace("desk|1", "desk|2") + "A|queue|admin|r|anyone\n";
+    assert_eq!(server.text(), moved);
+    assert_eq!(server.weight(), 90);
     assert_eq!(server.ask("rosa", "queue", b'r'), Ok(Some(2)));
     assert_eq!(server.ask("anyone", "queue", b'r'), Ok(Some(1)));
     assert_eq!(server.ask("admin", "queue", b'r'), Ok(Some(0)));
@@ -115,9 +124,13 @@ fn star_rosa_gives_up_append() {
     ]);
     assert_eq!(end, End::Returned);
     assert_eq!(text, statuses(&["DELETE_DELEGATION"]) + &returning("\"\""));
-    assert_eq!(server.weight(), 52 - 11);
+    assert_eq!(server.weight(), 82 - 11);
     let (end, _) = server.rosa(&["append to queue with \"x\"", "return \"\""]);
     assert_eq!(end, End::Denied);
+    let left = SESSION
+        .replace("r1|1", "r1|2")
+        .replace("A|queue|admin|a|rosa\n", "");
+    assert_eq!(server.text(), left);
 }
 
 #[test]
@@ -134,16 +147,16 @@ fn set_characters(count: usize) -> (End, String, Server) {
 }
 
 #[test]
-fn star_8182_characters() {
-    let (end, text, server) = set_characters(8_182);
+fn star_8162_characters() {
+    let (end, text, server) = set_characters(8_162);
     assert_eq!(end, End::Returned);
     assert_eq!(text, statuses(&["SET"]) + &returning("\"\""));
     assert_eq!(server.weight(), 8_192);
 }
 
 #[test]
-fn star_8183_characters() {
-    let (end, _, server) = set_characters(8_183);
+fn star_8163_characters() {
+    let (end, _, server) = set_characters(8_163);
     assert_eq!(end, End::Full);
     assert_eq!(server.text(), FRESH);
 }
@@ -287,7 +300,8 @@ fn exit_closes() {
     let (end, text) = server.admin(&["exit"]);
     assert_eq!(end, End::Exited);
     assert_eq!(text, statuses(&["EXITING"]));
-    assert_eq!(server.text(), SESSION.replace("O|2", "C|3"));
+    let closed = SESSION.replace("O\n", "C\n").replace("desk|1", "desk|2");
+    assert_eq!(server.text(), closed);
     assert_eq!(server.ask("rosa", "queue", b'a'), Ok(Some(1)));
 }
 
@@ -295,15 +309,4 @@ fn exit_closes() {
 fn exit_is_for_admin() {
     let (end, _) = Server::session().rosa(&["exit"]);
     assert_eq!(end, End::Denied);
-}
-
-#[test]
-fn count_stays_at_its_largest() {
-    let mut server = Server::of_text(&FRESH.replace("O|0", "O|4294967294"));
-    for _ in 0..3 {
-        server.prepare(&[]);
-        assert_eq!(server.text(), FRESH.replace("O|0", "O|4294967295"));
-    }
-    server.admin(&["exit"]);
-    assert_eq!(server.text(), FRESH.replace("O|0", "C|4294967295"));
 }

@@ -1,5 +1,5 @@
-//! Which buffers are well formed (01, State text), and that one state has one
-//! text.
+//! Which buffers are well formed (01, State text; 02, M-101), and that one
+//! state has one text. Texts in the former lines have a file of their own.
 
 mod common;
 
@@ -32,12 +32,12 @@ fn accepted(from: &str, to: &str) {
 
 #[test]
 fn the_session_and_its_variants() {
-    accepted("O|2", "O|2");
-    accepted("O|2", "C|0");
-    accepted("O|2", "O|4294967295");
-    accepted("P|rosa|r1", "P|rosa|");
-    accepted("N|anyone", "P|anyone|pw");
-    accepted("N|anyone", "P|anyone|");
+    accepted("O\n", "O\n");
+    accepted("O\n", "C\n");
+    accepted("P|rosa|r1|1", "P|rosa||1");
+    accepted("P|rosa|r1|1", "P|rosa|12|3");
+    accepted("N|anyone|0", "P|anyone|pw|0");
+    accepted("N|anyone|0", "P|anyone||0");
     accepted("D|anyone", "D|rosa");
     accepted("D|anyone", "D|admin");
     accepted("A|queue|admin|a|rosa", "A|queue|rosa|d|rosa");
@@ -48,37 +48,72 @@ fn the_session_and_its_variants() {
 }
 
 #[test]
-fn count_of_programs() {
-    for count in [
-        "00",
-        "02",
-        "",
-        "+2",
-        "-2",
-        " 2",
-        "2 ",
-        "2x",
-        "x",
-        "_",
-        "4294967296",
-        "10000000000",
-        "99999999999999999999",
-        "2|",
+fn first_line() {
+    for line in [
+        "X", "o", "", " O", "O ", "OO", "CO", "O|", "C|", "O|0", "O|2", "C|2", "|O", "O\nO",
     ] {
-        refused("O|2", &format!("O|{count}"));
+        refused("O\nP", &format!("{line}\nP"));
     }
-    for tag in ["X", "o", "", " O", "OO", "C|O"] {
-        refused("O|2", &format!("{tag}|2"));
+    refused("O\n", "");
+    refused("O\n", "O");
+}
+
+/// What is no count.
+const NO_COUNTS: [&str; 19] = [
+    "",
+    "00",
+    "02",
+    "+2",
+    "-2",
+    " 2",
+    "2 ",
+    "2x",
+    "x",
+    "_",
+    "2.",
+    "2|",
+    "2|2",
+    "|2",
+    "4294967296",
+    "4294967300",
+    "9999999999",
+    "10000000000",
+    "99999999999999999999",
+];
+
+#[test]
+fn counts() {
+    for count in ["0", "9", "10", "99", "100", "4294967294", "4294967295"] {
+        accepted("P|admin|desk|1", &format!("P|admin|desk|{count}"));
+        accepted("N|anyone|0", &format!("N|anyone|{count}"));
+        accepted("N|anyone|0", &format!("P|anyone||{count}"));
+        accepted("P|rosa|r1|1", &format!("P|rosa|r1|{count}"));
     }
-    refused("O|2", "O");
+    for count in NO_COUNTS {
+        refused("P|admin|desk|1", &format!("P|admin|desk|{count}"));
+        refused("N|anyone|0", &format!("N|anyone|{count}"));
+        refused("P|rosa|r1|1", &format!("P|rosa|r1|{count}"));
+    }
+    // None at all, or in another place.
+    refused("P|admin|desk|1", "P|admin|desk");
+    refused("P|admin|desk|1", "P|admin|1|desk");
+    refused("P|admin|desk|1", "P|1|admin|desk");
+    refused("P|rosa|r1|1", "P|rosa|12");
+    refused("N|anyone|0", "N|anyone");
+    refused("N|anyone|0", "N|anyone||0");
+    refused("N|anyone|0", "N|0|anyone");
+    refused("D|anyone", "D|anyone|0");
 }
 
 #[test]
 fn order_of_lines() {
-    refused("O|2\nP|admin|desk\n", "P|admin|desk\nO|2\n");
-    refused("P|admin|desk\nN|anyone\n", "N|anyone\nP|admin|desk\n");
-    refused("N|anyone\nP|rosa|r1\n", "P|rosa|r1\nN|anyone\n");
-    refused("P|rosa|r1\nD|anyone\n", "D|anyone\nP|rosa|r1\n");
+    refused("O\nP|admin|desk|1\n", "P|admin|desk|1\nO\n");
+    refused(
+        "P|admin|desk|1\nN|anyone|0\n",
+        "N|anyone|0\nP|admin|desk|1\n",
+    );
+    refused("N|anyone|0\nP|rosa|r1|1\n", "P|rosa|r1|1\nN|anyone|0\n");
+    refused("P|rosa|r1|1\nD|anyone\n", "D|anyone\nP|rosa|r1|1\n");
     refused("D|anyone\nV|queue|L\n", "V|queue|L\nD|anyone\n");
     refused("D|anyone\nV|queue|L\nR\n", "V|queue|L\nR\nD|anyone\n");
     let early = FRESH.to_string() + "A|x|admin|r|anyone\nV|x|L\n";
@@ -89,20 +124,27 @@ fn order_of_lines() {
 
 #[test]
 fn principals() {
-    refused("P|admin|desk", "N|admin");
-    refused("P|admin|desk\n", "");
-    refused("P|admin|desk\nN|anyone\nP|rosa|r1\n", "P|admin|desk\n");
-    refused("P|rosa|r1", "N|rosa");
-    refused("P|rosa|r1", "P|rosa");
-    refused("P|rosa|r1", "P|rosa|r1|");
-    refused("N|anyone", "N|anyone|");
-    refused("P|rosa|r1", "P|rosa|r1\nP|rosa|r1");
-    refused("P|rosa|r1", "P|rosa|r1\nP|rosa|r2");
-    refused("P|rosa|r1", "P|rosa|r1\nP|admin|desk");
-    refused("P|rosa|r1", "P|rosa|r1\nN|anyone");
-    refused("P|rosa|r1", "P|rosa|r1\nP|anyone|x");
-    refused("P|rosa|r1", "P|rosa|\"");
-    refused("P|rosa|r1", "P|rosa|r1\nP||x");
+    refused("P|admin|desk|1", "N|admin|1");
+    refused("P|admin|desk|1\n", "");
+    let all = "P|admin|desk|1\nN|anyone|0\nP|rosa|r1|1\n";
+    refused(all, "P|admin|desk|1\n");
+    let rosa = "P|rosa|r1|1";
+    refused(rosa, "N|rosa|1");
+    refused(rosa, "P|rosa|1");
+    refused(rosa, "P|rosa|r1|1|");
+    refused("N|anyone|0", "N|anyone|0|");
+    for more in [
+        "P|rosa|r1|1",
+        "P|rosa|r2|1",
+        "P|rosa|r1|2",
+        "P|admin|desk|1",
+        "N|anyone|0",
+        "P|anyone|x|0",
+        "P||x|0",
+    ] {
+        refused(rosa, &format!("{rosa}\n{more}"));
+    }
+    refused(rosa, "P|rosa|\"|1");
 }
 
 #[test]
@@ -212,7 +254,7 @@ fn names_and_labels_are_identifiers() {
             !variable_is_well_formed(&format!("x|R\nF|{name}|")),
             "{name}"
         );
-        refused("P|rosa|r1", &format!("P|rosa|r1\nP|{name}|"));
+        refused("P|rosa|r1|1", &format!("P|rosa|r1|1\nP|{name}||0"));
     }
 }
 
@@ -243,22 +285,25 @@ fn assertions() {
 
 #[test]
 fn weight_8192_and_8193() {
-    // Fresh 8, and 1 + 1 + characters.
-    for (characters, good) in [(8_182, true), (8_183, false), (60_000, false)] {
+    // Fresh 28, and 1 + 1 + characters.
+    for (characters, good) in [(8_162, true), (8_163, false), (60_000, false)] {
         let text = format!("{FRESH}V|x|S|{}\n", "a".repeat(characters));
         assert_eq!(is_well_formed(&text), good);
     }
-    // Fresh 8, x 2, and 1 for each empty string in the list.
-    for (elements, good) in [(8_182, true), (8_183, false)] {
+    // Fresh 28, x 2, and 1 for each empty string in the list.
+    for (elements, good) in [(8_162, true), (8_163, false)] {
         let text = format!("{FRESH}V|x|L\n{}", "S|\n".repeat(elements));
         assert_eq!(is_well_formed(&text), good);
     }
     // admin and anyone weigh 1, whatever their names' lengths: 1 + 1 + 1 + 1.
     let text = format!(
         "{FRESH}V|x|S|{}\nA|x|admin|r|anyone\n",
-        "a".repeat(8_182 - 4)
+        "a".repeat(8_162 - 4)
     );
     assert!(is_well_formed(&text));
+    assert_eq!(decode(&buffer(&text)).unwrap().0.weight(), 8_192);
+    // A count weighs the same whatever it is.
+    let text = text.replace("|0\n", "|4294967295\n");
     assert_eq!(decode(&buffer(&text)).unwrap().0.weight(), 8_192);
 }
 

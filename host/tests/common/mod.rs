@@ -1,10 +1,24 @@
-//! A folder of one test's own, and the program `kivzurg` in it.
+//! A folder of one test's own, and the program `kivzurg` in it; and a state as 0.3.0 kept it.
+#![allow(dead_code)]
 
 use std::env;
 use std::fs;
 use std::io::Write;
 use std::path::PathBuf;
 use std::process::{Command, Output, Stdio};
+
+use kivzurg::{Buffer, BUFFER};
+
+/// The state of the paper's session in the former lines, with `|` for a tab, and what it is when it is brought over.
+pub const FORMER: &str = "O|2\nP|admin|desk\nN|anyone\nP|rosa|r1\nD|anyone\nV|queue|L\nR\nF|song|Blue Moon\nF|key|F\nA|queue|admin|a|rosa\n";
+pub const BROUGHT: &str = "O\nP|admin|desk|0\nN|anyone|0\nP|rosa|r1|0\nD|anyone\nV|queue|L\nR\nF|song|Blue Moon\nF|key|F\nA|queue|admin|a|rosa\n";
+
+/// A buffer with a text so written, and zeros.
+pub fn former(text: &str) -> Box<Buffer> {
+    let mut state = Box::new([0; BUFFER]);
+    state[..text.len()].copy_from_slice(text.replace('|', "\t").as_bytes());
+    state
+}
 
 pub struct Folder {
     path: PathBuf,

@@ -10,6 +10,7 @@ use std::hint::black_box;
 use std::path::Path;
 use std::time::Duration;
 
+use compare::former::{former, padded, text};
 use compare::server;
 use compare::timing::time;
 use model::calls;
@@ -90,6 +91,24 @@ fn ask_line(name: &str, state: &[u8], principal: &str, variable: &str) -> Line {
         0
     });
     let model = time(|| black_box(calls::ask(black_box(state), p, x, b'r')).map_or(0, |length| length.unwrap_or(0)));
+    Line { name: name.to_string(), proved, model }
+}
+
+/// Both sides bring the state over, from the former lines into a buffer that holds the state already: it is written whole each time.
+fn bring_line(name: &str, state: &[u8]) -> Line {
+    let old = padded(&former(text(state), 4_294_967_295));
+    let (mut ours, mut theirs) = (vec![1; BUFFER], vec![2; BUFFER]);
+    assert_eq!(server::bring(&old, &mut ours), server::Answer::Ready, "{name}");
+    calls::bring(&old, &mut theirs).expect("a right call");
+    assert!(ours == theirs, "{name}: the two sides differ");
+    let proved = time(|| {
+        black_box(server::bring(black_box(&old), &mut ours));
+        ours[0] as usize
+    });
+    let model = time(|| {
+        black_box(calls::bring(black_box(&old), &mut theirs)).expect("a right call");
+        theirs[0] as usize
+    });
     Line { name: name.to_string(), proved, model }
 }
 
@@ -200,6 +219,21 @@ fn functions() -> Vec<Line> {
     expressions.into_iter().map(line).collect()
 }
 
+/// What it costs to bring states over: the session's, the venue's, and one that then stands at the weight limit.
+fn bringing() -> Vec<Line> {
+    let (fresh, programs) = session();
+    let mut lent = Buffers::new();
+    lent.state.copy_from_slice(&fresh);
+    for program in &programs {
+        calls::run(&mut lent.state, &mut lent.work, &mut lent.output, program).expect("a right call");
+    }
+    vec![
+        bring_line("session of 01: brought over", &lent.state),
+        bring_line("venue of 300, chain of 50: brought over", &venue(50).0),
+        bring_line("state at the weight limit: brought over", &heavy()),
+    ]
+}
+
 /// How the line of concat stands to that of the plain `set`.
 fn relation(lines: &[Line]) -> String {
     let (plain, concat) = (&lines[0], &lines[1]);
@@ -259,6 +293,7 @@ fn main() {
     let functions = functions();
     let relation = relation(&functions);
     lines.extend(functions);
+    lines.extend(bringing());
     let text = format!("{}\nThe session's first program takes {small:.1} times the time of clearing and copying. {relation}\n", table(&lines, clear));
     print!("{text}");
     if let Some(folder) = env::args().nth(1) {

@@ -8,15 +8,15 @@ use model::state::HEAVIEST;
 use model::text::{decode, BUFFER};
 use std::hint::black_box;
 
-const FRESH: &[u8] = b"O\t0\nP\tadmin\tdesk\nN\tanyone\nD\tanyone\n";
+const FRESH: &[u8] = b"O\nP\tadmin\tdesk\t0\nN\tanyone\t0\nD\tanyone\n";
 
 /// The state of document 01's session after its two programs.
-const SESSION: &[u8] = b"O\t2\nP\tadmin\tdesk\nN\tanyone\nP\trosa\tr1\nD\tanyone\nV\tqueue\tL\nR\nF\tsong\tBlue Moon\nF\tkey\tF\n\
+const SESSION: &[u8] = b"O\nP\tadmin\tdesk\t1\nN\tanyone\t0\nP\trosa\tr1\t1\nD\tanyone\nV\tqueue\tL\nR\nF\tsong\tBlue Moon\nF\tkey\tF\n\
                          A\tqueue\tadmin\ta\trosa\n";
 
 /// A fresh state's principals, then others, the delegator, and the rest.
 fn state(people: &[u8], rest: &[u8]) -> Vec<u8> {
-    let head = b"O\t0\nP\tadmin\tdesk\nN\tanyone\n";
+    let head = b"O\nP\tadmin\tdesk\t0\nN\tanyone\t0\n";
     [&head[..], people, b"D\tanyone\n", rest].concat()
 }
 
@@ -40,19 +40,19 @@ fn late_assertions(count: usize, principals: usize) -> Vec<u8> {
     })
 }
 
-/// The shortest names that all have one print (crates/store/specs/Held.antt), as many as weigh so much with a principal's line each.
-fn one_print(weight: usize) -> Vec<Vec<u8>> {
-    const PRINT: u16 = 0x5eed;
+/// The shortest names that all have one hash (crates/store/specs/Held.antt), as many as weigh so much where each has so much of its own beside it.
+fn one_hash(weight: usize, own: usize) -> Vec<Vec<u8>> {
+    const HASH: u16 = 0x5eed;
     let letters: Vec<u8> = (b'0'..=b'z').filter(|byte| byte.is_ascii_alphanumeric() || *byte == b'_').collect();
-    let print = |name: &[u8]| name.iter().fold(0u16, |so_far, byte| so_far.wrapping_mul(31).wrapping_add(u16::from(*byte)));
+    let hash = |name: &[u8]| name.iter().fold(0u16, |so_far, byte| so_far.wrapping_mul(31).wrapping_add(u16::from(*byte)));
     let (mut found, mut left) = (Vec::new(), weight);
     let mut longer: Vec<Vec<u8>> = letters.iter().filter(|byte| byte.is_ascii_alphabetic()).map(|byte| vec![*byte]).collect();
     loop {
-        for name in longer.iter().filter(|name| print(name) == PRINT) {
-            if left < name.len() + 1 {
+        for name in longer.iter().filter(|name| hash(name) == HASH) {
+            if left < name.len() + own {
                 return found;
             }
-            left -= name.len() + 1;
+            left -= name.len() + own;
             found.push(name.clone());
         }
         // Names of five letters are enough, and need not all be made.
@@ -70,23 +70,26 @@ fn cases() -> Vec<(&'static str, Vec<u8>)> {
     let named = |before: &'static str, after: &'static str| {
         move |n: usize| [before.as_bytes(), &short_name(n), after.as_bytes()].concat()
     };
-    let same = one_print(8_180);
-    let people = repeated(16, |n| format!("P\t{}\t\n", letter(n)).into_bytes());
+    let lines = |names: Vec<Vec<u8>>, before: &[u8], after: &[u8]| -> Vec<u8> {
+        names.iter().flat_map(|name| [before, &name[..], after].concat()).collect()
+    };
+    let people = repeated(16, |n| format!("P\t{}\t\t0\n", letter(n)).into_bytes());
     let lists = repeated(4, |n| format!("V\t{}\tL\n", letter(n)).into_bytes());
     vec![
         ("a fresh state", FRESH.to_vec()),
         ("the session of 01", SESSION.to_vec()),
-        ("one long string", state(b"", &[b"V\tx\tS\t", &[b's'; 8_182][..], b"\n"].concat())),
-        ("many empty elements", state(b"", &[b"V\tx\tL\n", &b"S\t\n".repeat(8_182)[..]].concat())),
-        ("many records of one field", state(b"", &[b"V\tx\tL\n", &b"R\nF\tl\t\n".repeat(2_727)[..]].concat())),
+        ("one long string", state(b"", &[b"V\tx\tS\t", &[b's'; 8_162][..], b"\n"].concat())),
+        ("many empty elements", state(b"", &[b"V\tx\tL\n", &b"S\t\n".repeat(8_162)[..]].concat())),
+        ("many records of one field", state(b"", &[b"V\tx\tL\n", &b"R\nF\tl\t\n".repeat(2_720)[..]].concat())),
         ("one record of many fields", state(b"", &[b"V\tx\tR\n", &repeated(2_700, named("F\t", "\t\n"))[..]].concat())),
-        ("many principals", state(&repeated(2_700, named("P\t", "\t\n")), b"")),
-        ("principals of one print", state(&same.iter().flat_map(|name| [b"P\t", &name[..], b"\t\n"].concat()).collect::<Vec<u8>>(), b"")),
+        ("many principals", state(&repeated(628, named("P\t", "\t\t0\n")), b"")),
+        ("principals of one hash", state(&lines(one_hash(8_164, 11), b"P\t", b"\t\t0\n"), b"")),
+        ("variables of one hash", state(b"", &lines(one_hash(8_164, 1), b"V\t", b"\tS\t\n"))),
         ("many variables", state(b"", &repeated(2_700, named("V\t", "\tS\t\n")))),
-        ("many assertions", state(&people, &[lists, assertions(2_034)].concat())),
+        ("many assertions", state(&people, &[lists, assertions(1_991)].concat())),
         (
             "assertions and principals",
-            state(&repeated(1_350, named("P\t", "\t\n")), &[b"V\tx\tL\n".to_vec(), late_assertions(680, 1_350)].concat()),
+            state(&repeated(314, named("P\t", "\t\t0\n")), &[b"V\tx\tL\n".to_vec(), late_assertions(680, 314)].concat()),
         ),
     ]
 }

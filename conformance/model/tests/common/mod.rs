@@ -4,6 +4,7 @@
 
 use model::calls::{self, Refusal, Report};
 use model::engine::End;
+use model::parse::parse;
 use model::text::{decode, BUFFER};
 
 /// What a byte of a lent buffer is before the call, where it does not matter.
@@ -16,10 +17,15 @@ pub struct Server {
 }
 
 /// The state of 01's session after its two programs.
-pub const SESSION: &str = "O|2\nP|admin|desk\nN|anyone\nP|rosa|r1\nD|anyone\nV|queue|L\nR\n\
+pub const SESSION: &str = "O\nP|admin|desk|1\nN|anyone|0\nP|rosa|r1|1\nD|anyone\nV|queue|L\nR\n\
                            F|song|Blue Moon\nF|key|F\nA|queue|admin|a|rosa\n";
 
-pub const FRESH: &str = "O|0\nP|admin|desk\nN|anyone\nD|anyone\n";
+pub const FRESH: &str = "O\nP|admin|desk|0\nN|anyone|0\nD|anyone\n";
+
+/// Both in the former lines, as 01 has them.
+pub const FORMER_SESSION: &str = "O|2\nP|admin|desk\nN|anyone\nP|rosa|r1\nD|anyone\nV|queue|L\n\
+                                  R\nF|song|Blue Moon\nF|key|F\nA|queue|admin|a|rosa\n";
+pub const FORMER_FRESH: &str = "O|0\nP|admin|desk\nN|anyone\nD|anyone\n";
 
 /// A buffer that holds the text and zeros.
 pub fn buffer(text: &str) -> Vec<u8> {
@@ -84,11 +90,35 @@ impl Server {
         server
     }
 
+    /// A server brought over from a text in the former lines.
+    pub fn brought(former: &str) -> Server {
+        let former = buffer(former);
+        let mut state = vec![DIRT; BUFFER];
+        let before = former.clone();
+        assert_eq!(calls::bring(&former, &mut state), Ok(()));
+        assert!(former == before);
+        Server { state }
+    }
+
     /// The state text, which is followed by zeros only.
     pub fn text(&self) -> String {
         let end = self.state.iter().rposition(|&byte| byte != 0).unwrap() + 1;
         let text = std::str::from_utf8(&self.state[..end]).unwrap();
         text.replace('\t', "|")
+    }
+
+    /// Each principal's name and count, by the lines of the text.
+    pub fn counts(&self) -> Vec<(String, u32)> {
+        let of_line = |line: &str| {
+            let fields: Vec<&str> = line.split('|').collect();
+            match fields[..] {
+                ["P", name, _, count] | ["N", name, count] => {
+                    Some((name.to_string(), count.parse().unwrap()))
+                }
+                _ => None,
+            }
+        };
+        self.text().lines().filter_map(of_line).collect()
     }
 
     pub fn weight(&self) -> usize {
@@ -98,6 +128,7 @@ impl Server {
     /// A run that is not refused, and all that 01 says of the buffers after it.
     pub fn send(&mut self, program: &[u8]) -> (End, String) {
         let before = self.state.clone();
+        let counts = self.counts();
         let mut work = vec![DIRT; BUFFER];
         let mut output = vec![DIRT; BUFFER];
         let report = calls::run(&mut self.state, &mut work, &mut output, program);
@@ -118,9 +149,29 @@ impl Server {
                 assert_eq!(text, statuses(&[status]));
                 assert!(self.state == before);
             }
-            None => assert!(decode(&self.state).is_some()),
+            None => {
+                assert!(decode(&self.state).is_some());
+                self.is_counted(&counts, program);
+            }
         }
         (end, text)
+    }
+
+    /// The sender's count is one higher or at its end, every other is as it
+    /// was, and those of new principals are 0.
+    fn is_counted(&self, before: &[(String, u32)], program: &[u8]) {
+        let sender = parse(program).expect("a program").principal;
+        for (at, (name, count)) in self.counts().iter().enumerate() {
+            let expected = match before.get(at) {
+                Some((same, count)) if name == same && name.as_bytes() == sender => {
+                    count.checked_add(1).unwrap_or(u32::MAX)
+                }
+                Some((same, count)) if name == same => *count,
+                Some(_) => panic!("{name} stands where another stood"),
+                None => 0,
+            };
+            assert_eq!(*count, expected, "{name}");
+        }
     }
 
     pub fn run(&mut self, name: &str, password: &str, lines: &[&str]) -> (End, String) {

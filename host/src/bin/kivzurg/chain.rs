@@ -18,7 +18,7 @@ pub fn shortest<'a>(state: &Reading<'a>, variable: &str, right: Right, to: &str)
         }
         let given = state.assertions.iter().filter(|a| a.variable == variable && a.right == right && a.from == name);
         let everyone = state.principals.iter().filter(|_| name == "anyone");
-        for next in given.map(|a| a.to).chain(everyone.copied()) {
+        for next in given.map(|a| a.to).chain(everyone.map(|p| p.name)) {
             if seen.insert(next) {
                 reached.push((next, at));
             }

@@ -4,7 +4,7 @@ use std::ffi::OsString;
 use std::io::{self, Write};
 use std::path::{Path, PathBuf};
 
-use crate::{check, make, replay, run, show, who, why};
+use crate::{bring, check, make, replay, run, show, who, why};
 
 /// Done or yes; no; or what went wrong, in words.
 pub type Outcome = Result<bool, String>;
@@ -34,6 +34,20 @@ pub const COMMANDS: &[Command] = &[
 The first line of standard input is admin's password: letters, digits, space and _ , ; . ? ! -, at most 1,024 of them.
 FILE must not exist. It is a secret, since it holds every password in clear; only its owner may read it (mode 0600).",
         run: make::make,
+    },
+    Command {
+        name: "bring",
+        words: &["OLD", "NEW"],
+        takes_journal: false,
+        gist: "bring a state kept by 0.3.0 or before over, into NEW",
+        detail: "\
+OLD has one count for all programs. It is only read, and stays as it is. NEW gets the same state with a count for each principal, each starting
+from 0; it is as secret as OLD (mode 0600). Each principal weighs 10 more than before, and a state that would weigh more than 8,192 is refused.
+
+NEW is written beside its place, synced and renamed. Killed at any moment, the command can be given again. A NEW that exists already is refused
+unless it is just what OLD gives, since programs may have been run on it. OLD.lock and NEW.lock are held meanwhile.
+A journal goes with its state: the old one stays with OLD, and NEW begins another.",
+        run: bring::bring,
     },
     Command {
         name: "run",

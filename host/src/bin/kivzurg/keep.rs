@@ -5,7 +5,7 @@ use std::io::{self, Write};
 use std::os::unix::fs::OpenOptionsExt;
 use std::path::{Path, PathBuf};
 
-use kivzurg::{Buffer, Server, BUFFER};
+use kivzurg::{BringError, Buffer, Server, BUFFER};
 
 /// Only the owner may read what holds passwords.
 const SECRET: u32 = 0o600;
@@ -15,21 +15,28 @@ pub fn trouble(path: &Path) -> impl Fn(io::Error) -> String + '_ {
     move |error| format!("{}: {error}", path.display())
 }
 
-/// The server whose state is in the file.
-pub fn read(path: &Path) -> Result<Server, String> {
+/// What is in the file, where it has a state's size.
+pub fn buffer(path: &Path) -> Result<Box<Buffer>, String> {
     let bytes = fs::read(path).map_err(|error| match error.kind() {
         io::ErrorKind::NotFound => format!("{}: there is no such file; `kivzurg make FILE` makes a server", path.display()),
         _ => trouble(path)(error),
     })?;
     let size = bytes.len();
     let state: Result<Box<Buffer>, _> = bytes.into_boxed_slice().try_into();
-    let state = state.map_err(|_| format!("{}: a state has {BUFFER} bytes, and this file {size}", path.display()))?;
-    let server = Server::over(state);
+    state.map_err(|_| format!("{}: a state has {BUFFER} bytes, and this file {size}", path.display()))
+}
+
+/// The server whose state is in the file.
+pub fn read(path: &Path) -> Result<Server, String> {
+    let server = Server::over(buffer(path)?);
     if server.is_well_formed() {
-        Ok(server)
-    } else {
-        Err(format!("{}: the state is not well formed", path.display()))
+        return Ok(server);
     }
+    let what = match Server::bring(server.state()) {
+        Ok(_) | Err(BringError::TooHeavy) => "is one of 0.3.0 or before; `kivzurg bring OLD NEW` brings it over",
+        Err(_) => "is not well formed",
+    };
+    Err(format!("{}: the state {what}", path.display()))
 }
 
 /// `path` with something behind its name.

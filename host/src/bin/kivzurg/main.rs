@@ -1,5 +1,6 @@
 //! `kivzurg`: a host that keeps a server in a file, and tools to look at that file. `kivzurg --help` says what there is.
 
+mod bring;
 mod chain;
 mod check;
 mod command;

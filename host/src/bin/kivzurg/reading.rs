@@ -26,14 +26,20 @@ pub struct Assertion<'a> {
     pub to: &'a str,
 }
 
+#[derive(Clone, Copy)]
+pub struct Principal<'a> {
+    pub name: &'a str,
+    /// One without cannot log in.
+    pub has_password: bool,
+    /// How many programs it has completed.
+    pub count: &'a str,
+}
+
 #[derive(Default)]
 pub struct Reading<'a> {
     pub is_open: bool,
-    pub count: &'a str,
     /// In order of creation.
-    pub principals: Vec<&'a str>,
-    /// Those who cannot log in.
-    pub without_password: Vec<&'a str>,
+    pub principals: Vec<Principal<'a>>,
     pub delegator: &'a str,
     pub variables: Vec<Variable<'a>>,
     pub assertions: Vec<Assertion<'a>>,
@@ -52,12 +58,9 @@ impl<'a> Reading<'a> {
 
     fn take(&mut self, fields: &[&'a str]) -> Option<()> {
         match *fields {
-            [word @ ("O" | "C"), count] => (self.is_open, self.count) = (word == "O", count),
-            ["P", name, _] => self.principals.push(name),
-            ["N", name] => {
-                self.principals.push(name);
-                self.without_password.push(name);
-            }
+            [word @ ("O" | "C")] => self.is_open = word == "O",
+            ["P", name, _, count] => self.principals.push(Principal { name, has_password: true, count }),
+            ["N", name, count] => self.principals.push(Principal { name, has_password: false, count }),
             ["D", name] => self.delegator = name,
             ["V", name, "S", text] => self.begin(name, false, vec![Item::Text(text)]),
             ["V", name, "R"] => self.begin(name, false, vec![Item::Record(Vec::new())]),

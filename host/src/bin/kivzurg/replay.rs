@@ -17,7 +17,7 @@ pub fn replay(arguments: &Arguments) -> Outcome {
     let size = file.metadata().map_err(trouble(path))?.len();
     let mut entries = Entries::of(path, BufReader::new(file))?;
     let mut server = match entries.next()? {
-        Some(start) if start.is_start() => started(&start),
+        Some(start) if start.is_start() => started(path, &start)?,
         _ => return Err(format!("{}: the journal has no start", path.display())),
     };
     let mut progress = Progress::of("programs", true);
@@ -38,10 +38,14 @@ pub fn replay(arguments: &Arguments) -> Outcome {
     arguments.path_if_given(1).map_or(Ok(true), |file| compared(file, server.state()))
 }
 
-fn started(start: &Entry) -> Server {
+fn started(path: &Path, start: &Entry) -> Result<Server, String> {
     let mut state = Box::new([0; BUFFER]);
     state[..start.bytes.len()].copy_from_slice(&start.bytes);
-    Server::over(state)
+    let server = Server::over(state);
+    if !server.is_well_formed() {
+        return Err(format!("{}: its start is not well formed; a journal of 0.3.0 or before is replayed by its own version", path.display()));
+    }
+    Ok(server)
 }
 
 /// How a program differs from what the journal says of it.

@@ -4,7 +4,7 @@ use std::fmt::{self, Write};
 
 use crate::command::{print, Arguments, Outcome};
 use crate::keep;
-use crate::reading::{Reading, Variable};
+use crate::reading::{Principal, Reading, Variable};
 
 pub fn show(arguments: &Arguments) -> Outcome {
     let path = arguments.path(0);
@@ -18,11 +18,11 @@ pub fn show(arguments: &Arguments) -> Outcome {
 
 fn put(text: &mut String, state: &Reading) -> fmt::Result {
     let open = if state.is_open { "open" } else { "closed" };
-    writeln!(text, "{open}; programs completed: {}; default delegator: {}", state.count, state.delegator)?;
-    writeln!(text, "\nprincipals, in order of creation")?;
-    for name in &state.principals {
-        let note = if state.without_password.contains(name) { " (no password: cannot log in)" } else { "" };
-        writeln!(text, "  {name}{note}")?;
+    writeln!(text, "{open}; default delegator: {}", state.delegator)?;
+    writeln!(text, "\nprincipals, in order of creation, each with the programs that it completed")?;
+    for Principal { name, has_password, count } in &state.principals {
+        let note = if *has_password { "" } else { " (no password: cannot log in)" };
+        writeln!(text, "  {name}: {count}{note}")?;
     }
     writeln!(text, "\nvariables, in order of creation")?;
     for variable in &state.variables {

@@ -11,10 +11,11 @@ pub fn who(arguments: &Arguments) -> Outcome {
     let server = keep::read(arguments.path(0))?;
     let variable = Variable(arguments.bytes(1));
     let state = Reading::of(server.state())?;
-    let width = state.principals.iter().map(|name| name.len()).max().unwrap_or(0).max("name".len());
+    let names: Vec<&str> = state.principals.iter().map(|principal| principal.name).collect();
+    let width = names.iter().map(|name| name.len()).max().unwrap_or(0).max("name".len());
     let mut text = format!("{:width$}{}\n", "name", Right::ALL.map(|right| format!("  {right}")).concat());
     let mut progress = Progress::of("names", true);
-    for name in &state.principals {
+    for name in names {
         let row = row(&server, name, variable).map_err(|error| error.to_string())?;
         text += &format!("{name:width$}{row}\n");
         progress.step();
