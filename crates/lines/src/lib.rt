@@ -1,4 +1,4 @@
-// The fields of one line of the state text: names, strings and the number of programs.
+// The fields of one line of the state text: names, strings and counts of programs.
 use text::Alphabet;
 use text::Class;
 ghost use mathlib.Core.Path.{_≡_};

@@ -14,7 +14,7 @@ abbrev pub numberOf : Answer → ℕ
 numberOf (Yes n) = n
 numberOf No = 4096
 
--- the number of a question that is refused: more than 4,096 principals or more than 2,048 assertions
+-- the number of a question that is refused: more than 1,024 principals or more than 2,048 assertions
 abbrev pub refused : ℕ
 refused = 4097
 
