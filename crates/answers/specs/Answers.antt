@@ -10,7 +10,7 @@ use Rattle.answers.specs.declared.Kind.{Kind}
 use Rattle.answers.specs.declared.Kind.the-variants.{Returned, Exited, Refused}
 use Rattle.answers.specs.declared.Finish.{Finish}
 use Rattle.answers.specs.declared.Answer.{Answer}
-use Rattle.answers.specs.declared.Answer.the-variants.{Wrong, Ended, Yes, No, Ready}
+use Rattle.answers.specs.declared.Answer.the-variants.{Wrong, Ended, Yes, No, Ready, Listed}
 
 abbrev pub kindMeant : Kind → Run.Kind
 kindMeant Returned = Run.returned
@@ -26,6 +26,7 @@ answerMeant (Ended f) = Calls.ended (finishMeant f)
 answerMeant (Yes n) = Calls.yes n
 answerMeant No = Calls.no
 answerMeant Ready = Calls.ready
+answerMeant (Listed n k) = Calls.listed n k
 
 -- an answer, and what is lent after it
 abbrev pub replied : {Lent : Type 0} → Answer → Lent → Calls.Reply Lent

@@ -25,6 +25,8 @@ pub enum Answer {
     Yes(usize),
     // It is not.
     No,
-    // A server was made.
+    // A server was made, or brought over.
     Ready,
+    // A sheet was written.
+    Listed { lines: usize, bytes: usize },
 }

@@ -18,7 +18,8 @@ use Rattle.store.specs.Rows.{position}
 use Rattle.named_rights.specs.Numbers.{variables, Asks}
 use Rattle.named_rights.proofs.Few.{store-shape}
 use Rattle.delegation_rules.specs.Numbered.{Numbered, Counted}
-use Rattle.delegation_rules.proofs.Places.{member-at, position-own, passing, passing-more, passing-same}
+use Rattle.named_rights.proofs.Places.{member-at, position-own}
+use Rattle.delegation_rules.proofs.Places.{passing, passing-more, passing-same}
 
 -- those among the first k variables
 abbrev pub gathered : Store → Name → ℕ → List ℕ

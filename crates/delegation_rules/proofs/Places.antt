@@ -1,34 +1,17 @@
--- Places of names in a list of distinct names, and the numbers of those of its names that pass a test.
+-- The numbers of those names of a list of distinct names that pass a test.
 -- Assumes nothing.
 use mathlib.Core.Path.{_≡_, refl, sym, ap, _∙_}
-use mathlib.Core.Bool.{Bool, true, false, not}
+use mathlib.Core.Bool.{Bool, true, false}
 use mathlib.Core.List.{List, [], _∷_, _++_, map, map-append, append-nil}
-use Prim.Native.Nat.{ℕ, zero, suc, _+_, _<_}
-use native.Mathlib.Nat.{not-suc-le-zero, le-of-suc-le-suc}
+use Prim.Native.Nat.{ℕ, _+_, _<_}
 use native.Mathlib.Numerals.{add-one}
-use lib.Dec.{T, T-not}
+use lib.Dec.{T}
 use lib.ListN.{length, getD, take}
 use lib.Seq.{take-suc}
-use Rattle.language.specs.Text.{if_then_else_, _==_, keep, member, distinct}
+use Rattle.language.specs.Text.{if_then_else_, keep, distinct}
 use Rattle.language.specs.Syntax.{Name}
-use Rattle.language.proofs.Logic.Tests.{both, left-of, right-of, true-of, ==→≡, ==-refl}
 use Rattle.store.specs.Rows.{position}
-
-pub member-at : (l : List Name) (k : ℕ) → k < length l → T (member (getD l k []) l)
-member-at [] k h = absurd (not-suc-le-zero h)
-member-at (y ∷ l) zero h = left-of (y == y) (member y l) (==-refl y)
-member-at (y ∷ l) (suc k) h = right-of (getD l k [] == y) (member (getD l k []) l) (member-at l k (le-of-suc-le-suc h))
-
-pub position-own : (l : List Name) (k : ℕ) → T (distinct l) → k < length l → position l (getD l k []) ≡ k
-position-own [] k d h = absurd (not-suc-le-zero h)
-position-own (y ∷ l) zero d h = let e : (y == y) ≡ true = true-of (y == y) (==-refl y) in rw e
-position-own (y ∷ l) (suc k) d h =
-    let (d₁, d₂) = both (not (member y l)) (distinct l) d in
-    go (y == getD l k []) (==→≡ y (getD l k [])) (T-not (member y l) d₁) (position-own l k d₂ (le-of-suc-le-suc h))
-  where
-    go : (b : Bool) → (T b → y ≡ getD l k []) → ¬ T (member y l) → position l (getD l k []) ≡ k → (if b then 0 else suc (position l (getD l k []))) ≡ suc k
-    go true e n r = absurd (n (rw (e tt) (member-at l k (le-of-suc-le-suc h))))
-    go false e n r = ap suc r
+use Rattle.named_rights.proofs.Places.{position-own}
 
 keep-append : (f : Name → Bool) (l m : List Name) → keep f (l ++ m) ≡ keep f l ++ keep f m
 keep-append f [] m = refl

@@ -49,6 +49,7 @@ fn serve(
         Answer::Yes(_) => false,
         Answer::No => false,
         Answer::Ready => false,
+        Answer::Listed { lines: _, bytes: _ } => false,
     }
 }
 

@@ -19,8 +19,8 @@ use Rattle.language.specs.Decode.{Holds, decode}
 use Rattle.language.specs.Former.{FormerHolds, decodeFormer}
 use Rattle.language.specs.Programs.{parse}
 use Rattle.language.specs.Run.{End, refusal, completed, run, refusalLine, lineCount, output, left}
-use Rattle.language.specs.Calls.{Answer, wrong, ended, yes, no, ready, Reply, refuse, Buffers, BringBuffers, bringOn, bringCall, decoded, sized, longestPassword, made, stateAfter, endReply, runOn, runCall, makeCall, askCall, lengthAnswer, question, rightByte, askOn}
-use Rattle.language.specs.Demands.{Sent, Asked, Installed, Bringable, RunWrong, QuestionWrong, MakingWrong, BringingWrong, endOf, Demand1, Demand2, Demands}
+use Rattle.language.specs.Calls.{Answer, wrong, ended, yes, no, ready, listed, Reply, refuse, Buffers, BringBuffers, SheetBuffers, bringOn, bringCall, sheetReply, sheetOn, sheetCall, sized, longestPassword, made, stateAfter, endReply, runOn, runCall, makeCall, askCall, lengthAnswer, question, rightByte, askOn}
+use Rattle.language.specs.Demands.{Sent, Asked, Installed, Bringable, Listable, RunWrong, QuestionWrong, MakingWrong, BringingWrong, SheetWrong, endOf, Demand1, Demand2, Demands}
 use Rattle.language.proofs.Logic.Tests.{true-of, false-of}
 use Rattle.language.proofs.StateText.RoundTrip.{decode-holds}
 use Rattle.language.proofs.Meaning.ValidRuns.{EndsValid, run-valid, fresh-valid}
@@ -31,6 +31,7 @@ use Rattle.language.proofs.Histories.Mirror.{store-valid, is-sized, hol
 use Rattle.language.proofs.StateText.Formers.{decode-former}
 use Rattle.language.proofs.StateText.Bound.{former-sized}
 use Rattle.language.proofs.Histories.Starts.{brought-holds}
+use Rattle.language.proofs.Histories.Sheets.{sheeted}
 use Rattle.language.proofs.Histories.Demand.{demand-3}
 use Rattle.language.proofs.Meaning.LineCounts.{line-each}
 
@@ -66,6 +67,7 @@ IsRight (ended r) = Unit {0}
 IsRight (yes n) = Unit {0}
 IsRight no = Unit {0}
 IsRight ready = Unit {0}
+IsRight (listed n k) = Unit {0}
 
 same-number : {m n : ℕ} → wrong m ≡ wrong n → m ≡ n
 same-number e = cc
@@ -336,6 +338,54 @@ module _ (b : BringBuffers) where
       let e : bringCall b .answer ≡ ready = ap (λ (r : Reply BringBuffers). r .answer) (brings n s h) in
       (e, brought-holds b n s (h .holds) e, ap (λ (r : Reply BringBuffers). r .lent .former) (brings n s h))
 
+-- ---- sheets
+
+module _ (b : SheetBuffers) (x : Text) where
+  lists : (s : Store) → Listable b x s → sheetCall b x ≡ sheetReply b x s
+  lists s h =
+      met b (sized (b .output)) _ _ (h .output-sized) ∙ met b (sized (b .state)) _ _ (is-sized (h .holds))
+      ∙ decoded-held b (decode (b .state)) _ (sheetOn b x) s (holds-decodes (h .holds)) ∙ met b (present (valueIn (s .variables) x)) _ _ (h .is-variable)
+
+  sheet-refused : (n : ℕ) → SheetWrong b x n → sheetCall b x ≡ refuse b n
+  sheet-refused n (SheetWrong.output-size h) = unmet b (sized (b .output)) _ _ h
+  sheet-refused n (SheetWrong.state-size h k) = met b (sized (b .output)) _ _ h ∙ unmet b (sized (b .state)) _ _ k
+  sheet-refused n (SheetWrong.no-state h k l) =
+      met b (sized (b .output)) _ _ h ∙ met b (sized (b .state)) _ _ k ∙ decoded-not b (decode (b .state)) _ (sheetOn b x) (none-decoded (b .state) l)
+  sheet-refused n (SheetWrong.no-variable h s m k) =
+      met b (sized (b .output)) _ _ h ∙ met b (sized (b .state)) _ _ (is-sized m)
+      ∙ decoded-held b (decode (b .state)) _ (sheetOn b x) s (holds-decodes m) ∙ unmet b (present (valueIn (s .variables) x)) _ _ k
+
+  sheet-either : ((s : Store) × Listable b x s) ⊎ ((n : ℕ) × SheetWrong b x n)
+  sheet-either = elim (decided (sized (b .output))) [
+    | inr h ↦ inr (1, SheetWrong.output-size h)
+    | inl h ↦ elim (decided (sized (b .state))) [
+      | inr k ↦ inr (2, SheetWrong.state-size h k)
+      | inl k ↦ elim (held-or-not (b .state)) [
+        | inr l ↦ inr (4, SheetWrong.no-state h k l)
+        | inl m ↦ elim (decided (present (valueIn (m .0 .variables) x))) [
+          | inr v ↦ inr (7, SheetWrong.no-variable h (m .0) (m .1) v)
+          | inl v ↦ inl (m .0, record { output-sized = h; holds = m .1; is-variable = v })
+        ]
+      ]
+    ]
+  ]
+
+  sheet-right : ((s : Store) × Listable b x s) ⊎ ((n : ℕ) × SheetWrong b x n) → IsRight (sheetCall b x .answer) ⊎ ((n : ℕ) × SheetWrong b x n)
+  sheet-right (inl (s, h)) = inl (subst (λ (r : Reply SheetBuffers). IsRight (r .answer)) (sym (lists s h)) tt)
+  sheet-right (inr w) = inr w
+
+  sheet-number : (n : ℕ) → (sheetCall b x .answer ≡ wrong n) ↔ SheetWrong b x n
+  sheet-number = exactly b (sheetCall b x) (SheetWrong b x) sheet-refused (sheet-right sheet-either)
+
+  sheet-kept : (n : ℕ) → sheetCall b x .answer ≡ wrong n → sheetCall b x .lent ≡ b
+  sheet-kept = kept b (sheetCall b x) (SheetWrong b x) sheet-refused (sheet-right sheet-either)
+
+  sheet-state : sheetCall b x .lent .state ≡ b .state
+  sheet-state = elim sheet-either [
+    | inl a ↦ ap (λ (r : Reply SheetBuffers). r .lent .state) (lists (a .0) (a .1))
+    | inr w ↦ ap (λ (r : Reply SheetBuffers). r .lent .state) (sheet-refused (w .0) (w .1))
+  ]
+
 -- ---- the demands
 
 demand-1 : Demand1
@@ -365,6 +415,11 @@ demand-1 = record {
   bringing-either = bringing-either;
   bringing-kept = bringing-kept;
   bringing-brought = bringing-brought;
+  sheet-number = sheet-number;
+  sheet-either = sheet-either;
+  sheet-kept = sheet-kept;
+  sheet-state = sheet-state;
+  sheet-listed = λ b x s h. sheeted b (store-valid (h .holds)) (lists b x s h);
 }
 
 demand-2 : Demand2

@@ -5,6 +5,7 @@ pub mod Offences
 pub mod Checks
 pub mod Mirror
 pub mod Counts
+pub mod Sheets
 pub mod Answers
 pub mod Starts
 pub mod Demand

@@ -18,8 +18,8 @@ use Rattle.language.specs.Decode.{Holds}
 use Rattle.language.specs.Former.{FormerHolds}
 use Rattle.language.specs.Programs.{parse}
 use Rattle.language.specs.Run.{End, refusal, completed, run, output, refusalLine, result, left}
-use Rattle.language.specs.Calls.{wrong, ended, ready, Buffers, BringBuffers, sized, longestPassword, makeCall, runCall, askCall, rightByte, bringCall}
-use Rattle.language.specs.History.{Demand3}
+use Rattle.language.specs.Calls.{wrong, ended, ready, Buffers, BringBuffers, SheetBuffers, sized, longestPassword, makeCall, runCall, askCall, rightByte, bringCall, sheetCall}
+use Rattle.language.specs.History.{Sheeted, Demand3}
 
 -- ---- calls that are made rightly
 
@@ -49,6 +49,12 @@ pub record Bringable (b : BringBuffers) (n : ℕ) (s : Store) : Type 0 where
   pub holds : FormerHolds (b .former) n s
   pub is-light : storeWeight s ≤ limit
 
+-- a sheet of a shared variable that the state s has, open or closed
+pub record Listable (b : SheetBuffers) (x : Text) (s : Store) : Type 0 where
+  pub output-sized : T (sized (b .output))
+  pub holds : Holds (b .state) s
+  pub is-variable : T (present (valueIn (s .variables) x))
+
 -- ---- calls that are made wrongly, with their numbers: document 01's tests in their order, of which the last is the first not met
 
 pub data RunWrong (b : Buffers) : ℕ → Type 0 where
@@ -77,6 +83,13 @@ pub data BringingWrong (b : BringBuffers) : ℕ → Type 0 where
   state-size : T (sized (b .former)) → ¬ T (sized (b .state)) → BringingWrong b 2
   no-former : T (sized (b .former)) → T (sized (b .state)) → ((n : ℕ) (s : Store) → ¬ FormerHolds (b .former) n s) → BringingWrong b 10
   too-heavy : T (sized (b .state)) → (n : ℕ) (s : Store) → FormerHolds (b .former) n s → limit < storeWeight s → BringingWrong b 11
+
+-- document 02, M-102
+pub data SheetWrong (b : SheetBuffers) (x : Text) : ℕ → Type 0 where
+  output-size : ¬ T (sized (b .output)) → SheetWrong b x 1
+  state-size : T (sized (b .output)) → ¬ T (sized (b .state)) → SheetWrong b x 2
+  no-state : T (sized (b .output)) → T (sized (b .state)) → ((s : Store) → ¬ Holds (b .state) s) → SheetWrong b x 4
+  no-variable : T (sized (b .output)) → (s : Store) → Holds (b .state) s → ¬ T (present (valueIn (s .variables) x)) → SheetWrong b x 7
 
 -- what a program sent to the state s is by document 01
 abbrev pub endOf : Store → Text → End
@@ -116,6 +129,12 @@ pub record Demand1 : Type 0 where
   -- the state is that of the former text, and the former buffer is as it was
   pub bringing-brought : (b : BringBuffers) (n : ℕ) (s : Store) → Bringable b n s
       → (bringCall b .answer ≡ ready) × Holds (bringCall b .lent .state) s × (bringCall b .lent .former ≡ b .former)
+  pub sheet-number : (b : SheetBuffers) (x : Text) (n : ℕ) → (sheetCall b x .answer ≡ wrong n) ↔ SheetWrong b x n
+  pub sheet-either : (b : SheetBuffers) (x : Text) → ((s : Store) × Listable b x s) ⊎ ((n : ℕ) × SheetWrong b x n)
+  pub sheet-kept : (b : SheetBuffers) (x : Text) (n : ℕ) → sheetCall b x .answer ≡ wrong n → sheetCall b x .lent ≡ b
+  -- the state is never changed, and what is printed says who may do what to the variable
+  pub sheet-state : (b : SheetBuffers) (x : Text) → sheetCall b x .lent .state ≡ b .state
+  pub sheet-listed : (b : SheetBuffers) (x : Text) (s : Store) → Listable b x s → Sheeted s x (sheetCall b x)
 
 -- ---- Demand 2
 --

@@ -25,6 +25,8 @@ pub mod Functions
 pub mod Expressions
 pub mod Output
 pub mod Commands
+-- the sheet of a shared variable, request M-102
+pub mod Sheet
 -- "A run" and "Who gets which number"
 pub mod Run
 pub mod Calls

@@ -1,3 +1,4 @@
 pub mod Places
 pub mod Few
 pub mod Chains
+pub mod Everybody

@@ -11,6 +11,7 @@ use Rattle.language.specs.State.{Assertion, Store}
 use Rattle.store.specs.Rows.{position}
 use Rattle.assertion.specs.Packed as N
 use Rattle.assertion.specs.Packed.{pack}
+use Rattle.rights.specs.Rounds.{answerOf}
 use Rattle.rights.specs.declared.Answer.{Answer}
 use Rattle.rights.specs.declared.Answer.the-variants.{Yes, No}
 
@@ -49,7 +50,18 @@ pub record Asks (s : Store) (r : Right) (x p : Name) (count variable right princ
   pub principal-known : T (member p (principalsOf s))
   pub principal-is : principal ≡ position (principalsOf s) p
 
+-- what is asked of everyone, and its numbers: a right on a shared variable
+pub record AsksAll (s : Store) (r : Right) (x : Name) (count variable right : ℕ) : Type 0 where
+  pub everyone : count ≡ length (principalsOf s)
+  pub variable-known : T (member x (variables s))
+  pub variable-is : variable ≡ position (variables s) x
+  pub right-is : right ≡ code r
+
 -- what an answer of the search says
 abbrev pub lengthOf : Answer → Option ℕ
 lengthOf (Yes n) = some n
 lengthOf No = none
+
+-- what a mark says
+abbrev pub lengthMarked : ℕ → Option ℕ
+lengthMarked m = lengthOf (answerOf m)

@@ -4,9 +4,8 @@ use Prim.Native.Nat.{ℕ}
 use mathlib.Core.List.{List}
 use Rattle.language.specs.Text.{Text}
 use Rattle.language.specs.Syntax.{Name}
-use Rattle.language.specs.State.{Principal, Store, named}
+use Rattle.language.specs.State.{Store, named}
 use Rattle.language.specs.Run.{unknown, mistaken, right, loginAs}
-use Rattle.store.specs.Held.{Principals}
 use Rattle.store.specs.Rows.{position}
 use Rattle.named_rights.specs.Numbers.{principalsOf}
 use Rattle.validate.specs.Checked.{Represents}
@@ -19,11 +18,6 @@ abbrev pub LoginMeant : Login → Store → Name → Text → Type 0
 LoginMeant Unknown s x w = loginAs w (named (s .principals) x) ≡ unknown
 LoginMeant Mistaken s x w = loginAs w (named (s .principals) x) ≡ mistaken
 LoginMeant (Right k) s x w = (loginAs w (named (s .principals) x) ≡ right) × (k ≡ position (principalsOf s) x)
-
--- the text and the slots hold some principals
-pub record SomePrincipals (t : Text) (count : ℕ) (slots : List ℕ) : Type 0 where
-  pub principals : List Principal
-  pub held : Principals principals t count slots
 
 -- the parts and the slots of the principals say some state
 pub record SomeState (t : Text) (slots-p : List ℕ) (p : Parts) : Type 0 where

@@ -15,13 +15,13 @@ ghost use Rattle.language.specs.Syntax.{Program};
 ghost use Rattle.language.specs.State.{Principal, Store};
 ghost use Rattle.language.specs.Valid.{validStore};
 ghost use Rattle.language.specs.Run as Run;
-ghost use Rattle.store.specs.Held.{Principals};
+ghost use Rattle.store.specs.Held.{Principals, SomePrincipals};
 ghost use Rattle.store.specs.Rows.{position};
 ghost use Rattle.store.specs.Contents.{principalAt};
 ghost use Rattle.named_rights.specs.Numbers as Numbers;
 ghost use Rattle.validate.specs.Checked.{Represents};
 ghost use Rattle.session.specs.Sessions.{slices, Sized, Running};
-ghost use Rattle.opening.specs.Logins.{LoginMeant, SomePrincipals, SomeState};
+ghost use Rattle.opening.specs.Logins.{LoginMeant, SomeState};
 ghost use Rattle.opening.specs.Beginnings.{SomeValid};
 
 // A name that is missing; a password that is another, or none is kept; or the number of the principal.

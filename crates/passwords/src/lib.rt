@@ -18,11 +18,10 @@ ghost use Rattle.language.specs.Values.{Session};
 ghost use Rattle.language.specs.Commands.{step};
 ghost use Rattle.language.proofs.Parsing.ValidPrograms.{validCommand};
 ghost use Rattle.text.specs.Meaning.{part, Within};
-ghost use Rattle.store.specs.Held.{Principals};
+ghost use Rattle.store.specs.Held.{Principals, SomePrincipals};
 ghost use Rattle.store.specs.Contents.{principalAt};
 ghost use Rattle.session.specs.Sessions.{slices, Running, SomeRunning};
 ghost use Rattle.session.specs.Endings.{Ended};
-ghost use Rattle.passwords.specs.Known.{SomePrincipals};
 
 // What a principal's password weighs: its length, or nothing where there is none.
 fn password_weight(

@@ -19,10 +19,10 @@ use Rattle.rights.proofs.Searching.{Stage, start-length, start-other, l
 pub admin-first : (a : Asked) (p : ℕ) → p ≡ 0 → p < a .count → Shortest a p 0
 admin-first a p e lt = subst (λ (k : ℕ). Shortest a k 0) (sym e) (record { chain = admin (omega arith); least = λ m c. zero-le; short = omega arith })
 
-answer-none : (r : ℕ) → r ≡ unreached → answerOf r ≡ No
+pub answer-none : (r : ℕ) → r ≡ unreached → answerOf r ≡ No
 answer-none r e = simp (eq-eqb r unreached e)
 
-answer-some : (r k : ℕ) → r ≡ k → k < unreached → answerOf r ≡ Yes k
+pub answer-some : (r k : ℕ) → r ≡ k → k < unreached → answerOf r ≡ Yes k
 answer-some r k e small = simp (ne-eqb r unreached (λ f. omega arith)) (ap Yes e)
 
 -- the search goes on before round d: p is not reached, nor was anyone in the last round

@@ -2,11 +2,11 @@
 use mathlib.Core.Path.{_≡_}
 use mathlib.Core.List.{List, [], _∷_}
 use mathlib.Core.Bool.{cond}
-use Prim.Native.Nat.{ℕ, zero, suc, _+_}
-use lib.ListN.{getD, set, replicate}
+use Prim.Native.Nat.{ℕ, zero, suc, _+_, _<_}
+use lib.ListN.{length, getD, set, replicate}
 use lib.Dec.{ltb, eqb}
 use Rattle.search_steps.specs.Steps.{Delegation, delegations, unreached, marked, left, Marks, lengthAfter}
-use Rattle.rights.specs.Chain.{Asked}
+use Rattle.rights.specs.Chain.{Asked, Answered}
 use Rattle.rights.specs.declared.Answer.{Answer}
 use Rattle.rights.specs.declared.Answer.the-variants.{Yes, No}
 
@@ -28,6 +28,11 @@ pub record Rounded (s : List Delegation) (d p : ℕ) (old last : List ℕ) (r : 
 -- the answer that a length is
 abbrev pub answerOf : ℕ → Answer
 answerOf n = cond (eqb n unreached) No (Yes n)
+
+-- the marks l say of every principal what the search for it answers: the length of its shortest chain, or that there is none
+pub record Everyone (a : Asked) (l : List ℕ) : Type 0 where
+  pub size : length l ≡ a .count
+  pub answers : (p : ℕ) → p < a .count → Answered a p (answerOf (getD l p 0))
 
 -- admin alone is reached, among n
 unfoldable pub start : ℕ → List ℕ

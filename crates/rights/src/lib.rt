@@ -14,6 +14,8 @@ ghost use Rattle.rights.specs.Chain.{Answered, asked};
 ghost use Rattle.rights.specs.Rounds.{answerOf, Rounded, start, Whoever};
 ghost use Rattle.search_steps.specs.Steps.{handed};
 
+pub mod marking; // everyone's shortest chain at once
+
 pub enum Answer {
     // The shortest chain has this many steps.
     Yes(usize),

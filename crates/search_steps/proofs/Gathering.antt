@@ -11,7 +11,7 @@ use lib.ListN.{length, getD, take, drop, set, drop-of-length-le}
 use lib.Seq.{drop-cons, take-suc-set}
 use borrow.Author.Tests.{eq-eqb, ne-eqb}
 use Rattle.assertion.specs.Packed.{Assertion, fields, key, upper}
-use Rattle.search_steps.specs.Steps.{Delegation, delegations, handed}
+use Rattle.search_steps.specs.Steps.{Delegation, delegations, handed, handedBy}
 
 -- a delegation is its two numbers
 pub delegation-is : (x : Delegation) (q p : ℕ) → x .from ≡ q → x .to ≡ p → x ≡ record { from = q; to = p }
@@ -48,6 +48,14 @@ module _ (v w n : ℕ) (w-fits : w < 2 ^ 16) where
       ∙ ap (map handed) (take-suc-set l k (fields n) room)
       ∙ map-append handed (take k l) (fields n ∷ [])
       ∙ ap (λ (t : List Delegation). map handed (take k l) ++ t) (sym (one-kept e))
+
+  -- the same of the number itself
+  pub kept-packed : (k : ℕ) (l : List ℕ) → k < length l → upper n ≡ key v w → map handedBy (take (k + 1) (set l k n)) ≡ map handedBy (take k l) ++ delegations v w (fields n ∷ [])
+  kept-packed k l room e =
+      ap (λ (j : ℕ). map handedBy (take j (set l k n))) (add-one k)
+      ∙ ap (map handedBy) (take-suc-set l k n room)
+      ∙ map-append handedBy (take k l) (n ∷ [])
+      ∙ ap (λ (t : List Delegation). map handedBy (take k l) ++ t) (sym (one-kept e))
 
   pub passed-over : (t : List Delegation) → (upper n ≡ key v w → ⊥) → t ≡ t ++ delegations v w (fields n ∷ [])
   passed-over t ne = sym (ap (λ (r : List Delegation). t ++ r) (none-kept ne) ∙ append-nil t)

@@ -1,12 +1,12 @@
 -- One step of the search by rounds, as functions on lists. A list of marks has an entry for each principal: how many steps lead there, or
 -- `unreached`.
 use mathlib.Core.Path.{_≡_}
-use mathlib.Core.List.{List, [], _∷_}
+use mathlib.Core.List.{List, [], _∷_, map}
 use mathlib.Core.Bool.{Bool, true, false, cond}
 use Prim.Native.Nat.{ℕ, _+_}
 use lib.ListN.{length, getD, set}
 use lib.Dec.{ltb, eqb}
-use Rattle.assertion.specs.Packed.{Assertion}
+use Rattle.assertion.specs.Packed.{Assertion, fields}
 
 -- what an assertion gives once variable and right are settled: who hands on, and to whom
 pub record Delegation : Type 0 where
@@ -15,6 +15,10 @@ pub record Delegation : Type 0 where
 
 abbrev pub handed : Assertion → Delegation
 handed a = record { from = a .from; to = a .to }
+
+-- the same of an assertion in the one number in which it is kept
+abbrev pub handedBy : ℕ → Delegation
+handedBy k = handed (fields k)
 
 -- the delegations for variable v and right w, in order of entry
 unfoldable pub delegations : ℕ → ℕ → List Assertion → List Delegation
@@ -26,6 +30,14 @@ delegations v w (a ∷ s) =
 -- the mark of a principal that no round has reached
 abbrev pub unreached : ℕ
 unreached = 65535
+
+-- a mark, or d for who is not reached
+abbrev pub markOr : ℕ → ℕ → ℕ
+markOr d m = cond (eqb m unreached) d m
+
+-- everyone who is not reached gets the mark d
+abbrev pub restReached : ℕ → List ℕ → List ℕ
+restReached d l = map (markOr d) l
 
 -- the step from q to p in round d: p gets d + 1 where q has d and p has nothing yet
 unfoldable pub marked : ℕ → ℕ → ℕ → List ℕ → List ℕ

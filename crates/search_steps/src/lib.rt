@@ -8,6 +8,8 @@ ghost use lib.ListN.{length, take};
 ghost use Rattle.assertion.specs.Packed.{fields};
 ghost use Rattle.search_steps.specs.Steps.{delegations, handed, lengthAfter, marked, Marks};
 
+pub mod tables; // what a marking of everyone begins and ends with
+
 // The mark of a principal that no round has reached.
 pub const UNREACHED: u16 = 65535;
 

@@ -1,5 +1,5 @@
 -- What is answered has room in one number: a chain is shorter than the principals are many, and a state has few of them; an
--- output has at most 65,536 bytes, and no more lines than bytes.
+-- output has at most 65,536 bytes, and no more lines than bytes; a sheet has a line of 40 bytes for each principal.
 -- Assumes nothing.
 use mathlib.Core.Path.{_≡_, refl}
 use Prim.Native.Nat.{ℕ}
@@ -20,10 +20,11 @@ use Rattle.language.specs.Chains.{chainLength}
 use Rattle.language.specs.Programs.{parse}
 use Rattle.language.specs.Run.{run, output}
 use Rattle.language.specs.Encode.{stateText, padded}
-use Rattle.language.specs.Calls.{wrong, ready, checked, decoded, sized, made, longestPassword, makeCall, Buffers, endReply, runOn, runCall, rightByte, lengthAnswer, question, askOn, askCall, BringBuffers, bringOn, bringCall}
+use Rattle.language.specs.Calls.{wrong, ready, checked, decoded, sized, made, longestPassword, makeCall, Buffers, endReply, runOn, runCall, rightByte, lengthAnswer, question, askOn, askCall, BringBuffers, bringOn, bringCall, SheetBuffers, sheetReply, sheetOn, sheetCall}
 use Rattle.language.proofs.StateText.RoundTrip.{decode-holds}
 use Rattle.language.proofs.Parsing.Printing.{output-fits}
 use Rattle.language.proofs.Rights.Search.{few-rounds}
+use Rattle.language.proofs.Histories.Sheets.{sheet-length, sheet-fits}
 use Rattle.named_rights.proofs.Few.{few-names}
 use Rattle.wire.specs.Wire.{Fits}
 use Rattle.language.proofs.Meaning.Printed.{few-lines}
@@ -96,3 +97,18 @@ bring-fits b = go (sized (b .former)) (sized (b .state)) (decodeFormer (b .forme
     go true false o = tt
     go true true none = tt
     go true true (some s) = on s (leb (storeWeight s) limit)
+
+pub sheet-fits-answer : (b : SheetBuffers) (x : Name) → Fits (sheetCall b x .answer)
+sheet-fits-answer b x = go (sized (b .output)) (sized (b .state)) (decode (b .state)) refl
+  where
+    on : (s : Store) → T (validStore s) → (c : Bool) → Fits (checked b c 7 (sheetReply b x s) .answer)
+    on s v false = tt
+    on s v true =
+        let h = sheet-fits s v in
+        (omega (arith, h), omega (arith, h, sheet-length s x))
+
+    go : (y z : Bool) (o : Option Store) → decode (b .state) ≡ o → Fits (checked b y 1 (checked b z 2 (decoded b o 4 (sheetOn b x))) .answer)
+    go false z o e = tt
+    go true false o e = tt
+    go true true none e = tt
+    go true true (some s) e = on s (decoded-valid (b .state) s e) (present (valueIn (s .variables) x))

@@ -1,7 +1,7 @@
 // The functions open to the host for programs in other languages, each answer as one number (crates/wire/specs/Wire.antt). They ask nothing
 // of their caller but what the types say.
 ghost use mathlib.Core.Path.{_≡_};
-ghost use Rattle.language.specs.Calls.{makeCall, runCall, askCall, bringCall};
+ghost use Rattle.language.specs.Calls.{makeCall, runCall, askCall, bringCall, sheetCall};
 ghost use Rattle.wire.specs.Wire.{wire};
 
 // Makes a server in the state's buffer, with the first password.
@@ -47,5 +47,15 @@ pub extern "C" fn kivzurg_bring(former: &[u8], state: &mut [u8]) -> u64
         × (record { former = now (former .exit); state = now (state .exit) } ≡ bringCall (record { former = now (former .entry); state = now (state .entry) }) .lent) ⌝ }
 {
     let a = bring::state(former, state);
+    wire::wire(a)
+}
+
+// Prints the sheet of a shared variable into the output: who may do what to it.
+#[no_mangle]
+pub extern "C" fn kivzurg_sheet(state: &[u8], output: &mut [u8], variable: &[u8]) -> u64
+    ensures { λ r. ⌜ (r ≡ wire (sheetCall (record { state = now (state .entry); output = now (output .entry) }) (now (variable .entry)) .answer))
+        × (record { state = now (state .exit); output = now (output .exit) } ≡ sheetCall (record { state = now (state .entry); output = now (output .entry) }) (now (variable .entry)) .lent) ⌝ }
+{
+    let a = sheet::variable(state, output, variable);
     wire::wire(a)
 }

@@ -20,7 +20,7 @@ use Rattle.store.specs.declared.index.Place.{Place}
 use Rattle.contents.specs.declared.Password.the-variants.{Kept, Absent}
 use Rattle.store.proofs.Records.{name-part}
 use Rattle.store.proofs.Answers.{FoundPrincipal, principal-found, principal-missing, answered, value-at, variable-names, variable-missing}
-use Rattle.state_lookups.specs.Looks.{missing, unkept, found, password, principal, value, counted, principalOf, countOf, variableOf, nameOf}
+use Rattle.state_lookups.specs.Looks.{missing, unkept, found, password, principal, value, counted, principalOf, countSaid, variableOf, nameOf}
 
 -- ---- principals
 
@@ -28,11 +28,11 @@ module _ (ks : List Principal) (x : Name) where
   pub principal-gone : Missing ≡ place (map principalRow ks) x → principalOf ks x ≡ missing
   principal-gone q = ap (principal (position (map (λ k. k .name) ks) x)) (principal-missing ks x q)
 
-  pub count-gone : Missing ≡ place (map principalRow ks) x → countOf ks x ≡ 4294967298
+  pub count-gone : Missing ≡ place (map principalRow ks) x → countSaid ks x ≡ 4294967298
   count-gone q = ap counted (principal-missing ks x q)
 
   module _ (k s e : ℕ) (q : At k s e ≡ place (map principalRow ks) x) where
-    pub count-here : countOf ks x ≡ principalAt ks k .count
+    pub count-here : countSaid ks x ≡ principalAt ks k .count
     count-here = ap counted (principal-found ks x k s e q .is-named)
 
     principal-here : principalOf ks x ≡ password k (principalAt ks k .password)

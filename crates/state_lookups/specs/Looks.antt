@@ -9,7 +9,7 @@ use Rattle.language.specs.Text.{Text, if_then_else_}
 use Rattle.language.specs.Syntax.{Name}
 use Rattle.language.specs.State.{Value, Principal, Variable, named, valueIn}
 use Rattle.language.specs.Encode.{valueText}
-use Rattle.store.specs.Held.{Principals, Variables}
+use Rattle.store.specs.Held.{Variables}
 use Rattle.store.specs.Rows.{position}
 
 -- ---- answers
@@ -66,14 +66,10 @@ abbrev pub counted : Option Principal → ℕ
 counted none = number missing
 counted (some k) = k .count
 
-abbrev pub countOf : List Principal → Name → ℕ
-countOf ks x = counted (named ks x)
+abbrev pub countSaid : List Principal → Name → ℕ
+countSaid ks x = counted (named ks x)
 
 -- ---- the parts of a text
-
-pub record SomePrincipals (t : Text) (count : ℕ) (slots : List ℕ) : Type 0 where
-  pub rows : List Principal
-  pub held : Principals rows t count slots
 
 pub record SomeVariables (t : Text) (count : ℕ) (slots : List ℕ) : Type 0 where
   pub rows : List Variable

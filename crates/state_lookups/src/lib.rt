@@ -15,10 +15,10 @@ ghost use lib.ListN.{length};
 ghost use Rattle.language.specs.Text.{all};
 ghost use Rattle.language.specs.State.{Principal, Variable};
 ghost use Rattle.language.specs.Valid.{validPrincipal};
-ghost use Rattle.store.specs.Held.{Principals, Variables};
+ghost use Rattle.store.specs.Held.{Principals, SomePrincipals, Variables};
 ghost use Rattle.store.specs.Rows.{Row, Rows, SomeRows, rowNames};
 ghost use Rattle.counts.specs.Counted.{SomeCounted};
-ghost use Rattle.state_lookups.specs.Looks.{Says, found, nameOf, principalOf, countOf, variableOf, SomePrincipals, SomeVariables};
+ghost use Rattle.state_lookups.specs.Looks.{Says, found, nameOf, principalOf, countSaid, variableOf, SomeVariables};
 
 const MISSING: u64 = 4294967298;
 
@@ -63,7 +63,7 @@ pub fn principal(text: &[u8], slots: &[u32], count: usize, name: &[u8], out: &mu
 // The count of a principal, by name.
 pub fn count(text: &[u8], slots: &[u32], count: usize, name: &[u8]) -> u64
     requires { ⌜ SomeCounted (now text) count (now slots) ⌝ }
-    ensures { λ r. ⌜ ((ks : List Principal) → Principals ks (now (text .entry)) count (now (slots .entry)) → T (all validPrincipal ks) → r ≡ countOf ks (now (name .entry))) ⌝ }
+    ensures { λ r. ⌜ ((ks : List Principal) → Principals ks (now (text .entry)) count (now (slots .entry)) → T (all validPrincipal ks) → r ≡ countSaid ks (now (name .entry))) ⌝ }
 {
     let place = find(text, slots, count, name);
     let Found::At {

@@ -43,5 +43,10 @@ PrincipalsIn f ks = Held (λ k. k .name) (principalIn f) ks
 abbrev pub Principals : List Principal → Text → ℕ → List ℕ → Type 0
 Principals = PrincipalsIn current
 
+-- the text and the slots hold some principals
+pub record SomePrincipals (t : Text) (count : ℕ) (slots : List ℕ) : Type 0 where
+  pub principals : List Principal
+  pub held : Principals principals t count slots
+
 abbrev pub Variables : List Variable → Text → ℕ → List ℕ → Type 0
 Variables vs = Held (λ v. v .name) (λ v. variableText (v .name) (v .value)) vs

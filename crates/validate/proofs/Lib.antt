@@ -3,3 +3,4 @@ pub mod Vars
 pub mod Whole
 pub mod Verdicts
 pub mod Heads
+pub mod States

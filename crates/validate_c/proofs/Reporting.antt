@@ -27,7 +27,7 @@ use Rattle.validate.specs.Checked.{Represents}
 use Rattle.validate.specs.declared.Parts.{Parts}
 use Rattle.validate_c.specs.Reported.{figures, Answers, Reported, countIn, CountTold, bad, refused}
 use Rattle.state_figures.specs.Tallies.{flag, tally}
-use Rattle.state_lookups.specs.Looks.{Look, Says, countOf}
+use Rattle.state_lookups.specs.Looks.{Look, Says, countSaid}
 
 module _ (room : ℕ) (look : Store → Look) (t : Text) (old : List ℕ) where
   pub no-size : (length t ≡ 65536 → ⊥) → Reported room look t old old refused
@@ -55,7 +55,7 @@ module _ (t : Text) (x : Name) where
     pub count-bad : decode t ≡ none → CountTold t x bad
     count-bad e = record { refuses = λ h. absurd (h size); answers = λ z. sym (ap (λ (o : Option Store). countIn o x) e) }
 
-    pub count-good : (s : Store) (r : ℕ) → decode t ≡ some s → r ≡ countOf (s .principals) x → CountTold t x r
+    pub count-good : (s : Store) (r : ℕ) → decode t ≡ some s → r ≡ countSaid (s .principals) x → CountTold t x r
     count-good s r e h = record { refuses = λ k. absurd (k size); answers = λ z. h ∙ sym (ap (λ (o : Option Store). countIn o x) e) }
 
 -- the principals of a state that was decoded are valid

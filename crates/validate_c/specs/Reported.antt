@@ -12,7 +12,7 @@ use Rattle.language.specs.Weight.{storeWeight}
 use Rattle.language.specs.Decode.{decode}
 use Rattle.store.specs.Rows.{position}
 use Rattle.named_rights.specs.Numbers.{principalsOf, variables, numbered}
-use Rattle.state_lookups.specs.Looks.{Look, Says, countOf}
+use Rattle.state_lookups.specs.Looks.{Look, Says, countSaid}
 use Rattle.state_figures.specs.Tallies.{flag}
 
 -- the numbers of a buffer that is not well formed, and of a call that is refused
@@ -34,7 +34,7 @@ pub record Reported (room : ℕ) (look : Store → Look) (t : Text) (old new : L
 -- a principal's count, or why there is none; nothing is written
 abbrev pub countIn : Option Store → Name → ℕ
 countIn none x = bad
-countIn (some s) x = countOf (s .principals) x
+countIn (some s) x = countSaid (s .principals) x
 
 pub record CountTold (t : Text) (x : Name) (r : ℕ) : Type 0 where
   pub refuses : (length t ≡ 65536 → ⊥) → r ≡ refused

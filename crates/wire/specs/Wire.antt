@@ -2,7 +2,7 @@
 use Prim.Native.Nat.{ℕ, _+_, _*_, _^_, _<_}
 use Rattle.language.specs.Commands.{DENIED, FAILED, FULL}
 use Rattle.language.specs.Run.{Kind, returned, exited, stopped}
-use Rattle.language.specs.Calls.{Answer, wrong, ended, yes, no, ready}
+use Rattle.language.specs.Calls.{Answer, wrong, ended, yes, no, ready, listed}
 
 abbrev pub coded : ℕ → ℕ → ℕ → ℕ
 coded code lines low = code * 2 ^ 48 + lines * 2 ^ 24 + low
@@ -21,6 +21,7 @@ wire (ended r) = coded (endCode (r .kind)) (r .lines) (r .size)
 wire (yes n) = coded 32 0 n
 wire no = coded 33 0 0
 wire ready = coded 48 0 0
+wire (listed n k) = coded 64 n k
 
 -- its numbers have room
 abbrev pub Fits : Answer → Type 0
@@ -29,3 +30,4 @@ Fits (ended r) = (r .lines < 2 ^ 24) × (r .size < 2 ^ 24)
 Fits (yes n) = n < 2 ^ 24
 Fits no = Unit {0}
 Fits ready = Unit {0}
+Fits (listed n k) = (n < 2 ^ 24) × (k < 2 ^ 24)

@@ -44,5 +44,6 @@ pub fn wire(a: Answer) -> u64
         Answer::Yes(n) => coded(32, 0, n),
         Answer::No => coded(33, 0, 0),
         Answer::Ready => coded(48, 0, 0),
+        Answer::Listed { lines, bytes } => coded(64, lines, bytes),
     }
 }

@@ -6,3 +6,4 @@ pub mod Texts
 pub mod Limits
 pub mod Functions
 pub mod Counts
+pub mod Sheets

@@ -19,13 +19,14 @@ use Rattle.language.specs.Decode.{Holds}
 use Rattle.language.specs.Programs.{parse}
 use Rattle.language.specs.Commands.{DENIED}
 use Rattle.language.specs.Run.{End, refusal, completed, run, output, returned, exited, stopped, kindOf, result}
-use Rattle.language.specs.Calls.{Answer, wrong, ended, yes, no, Buffers, checked, sized, endReply, runCall, rightByte, lengthAnswer, question}
-use Rattle.language.specs.History.{Call, send, ask, stateOf, reply, Book, runFault, askFault, fault, isWrong, Completes, Offends}
+use Rattle.language.specs.Calls.{Answer, wrong, ended, yes, no, Buffers, SheetBuffers, checked, sized, endReply, runCall, rightByte, lengthAnswer, question, sheetReply}
+use Rattle.language.specs.History.{Call, send, ask, sheet, stateOf, sheetAt, reply, Book, runFault, askFault, sheetFault, fault, isWrong, Completes, Offends, Sheeted}
 use Rattle.language.proofs.Logic.Tests.{both}
 use Rattle.language.proofs.StateText.Shape.{Shape, shape}
 use Rattle.language.proofs.Rights.Search.{none-there, one-there}
 use Rattle.language.proofs.Histories.Offences.{sound, run-denied}
-use Rattle.language.proofs.Histories.Mirror.{lentFor, whole-reply, reply-send, reply-ask, store-valid}
+use Rattle.language.proofs.Histories.Mirror.{lentFor, lentSheet, whole-reply, reply-send, reply-ask, sheet-held, whole-sheet, sheet-keeps, store-valid}
+use Rattle.language.proofs.Histories.Sheets.{sheeted}
 
 -- answers may be replaced by equal ones
 along : {A : Type 0} {a a′ : Answer} → a ≡ a′ → (c : Answer) → (a′ ≡ c) ↔ A → (a ≡ c) ↔ A
@@ -80,6 +81,16 @@ module _ (buffer : Text) (b : Book) (m : Holds buffer b) where
       go false l (some r) ek el = rw ek (λ h. cc, λ h. cc)
       go true false (some r) ek el = rw (ek, el) (λ h. cc, λ h. cc)
       go true true (some r) ek el = rw (ek, el) (answer-number (chainLength b r x p))
+  next-number (sheet o x) n =
+      along (ap (λ k. k .answer) (sheet-held m o x)) (wrong n) (go (sized o) (present (valueIn (b .variables) x)))
+    where
+      l : SheetBuffers
+      l = lentSheet buffer o
+
+      go : (p q : Bool) → (checked l p 1 (checked l q 7 (sheetReply l x b)) .answer ≡ wrong n) ↔ (sheetFault p q ≡ some n)
+      go false q = (λ h. cc, λ h. cc)
+      go true false = (λ h. cc, λ h. cc)
+      go true true = (λ h. cc, λ h. cc)
 
   -- ---- programs
 
@@ -133,6 +144,12 @@ module _ (buffer : Text) (b : Book) (m : Holds buffer b) where
         is-completed = ee;
       }))
   next-kept (ask p x r) n = ap (λ k. k .lent) (reply-ask m p x r)
+  next-kept (sheet o x) n = sheet-keeps m o x
+
+  -- ---- sheets
+
+  pub next-sheet : (o x : Text) → T (not (isWrong b (sheet o x))) → Sheeted b x (sheetAt buffer o x)
+  next-sheet o x h = sheeted (lentSheet buffer o) (store-valid m) (whole-sheet m o x h)
 
   -- ---- questions
 

@@ -15,7 +15,7 @@ use Rattle.language.specs.Weight.{limit, storeWeight}
 use Rattle.language.specs.Valid.{validPassword, validPrincipal, wellFormed, validStore}
 use Rattle.language.specs.Run.{End, refusal, completed, perform, Login, unknown, mistaken, right, login, begin, counted, counts, tally, tallied, runAs, run, left}
 use Rattle.language.specs.Programs.{parse}
-use Rattle.language.specs.History.{Call, send, ask, Book, isWrong, entered, bookOf, countIn, countOf, oneIfCompleted, programCount, completions, completedBy, shownCount}
+use Rattle.language.specs.History.{Call, send, ask, sheet, Book, isWrong, entered, bookOf, countIn, countOf, oneIfCompleted, programCount, completions, completedBy, shownCount}
 use Rattle.language.proofs.Logic.Tests.{both, three, ==→≡}
 use Rattle.language.proofs.Logic.Outcomes.{Where}
 use Rattle.language.proofs.StateText.Shape.{shape}
@@ -131,6 +131,7 @@ module _ (p : Name) where
       go true = e ∙ ap shownCount (sym (add-zero m))
       go false = program-count b v m e (parse t) (valid-parsed t)
   call-count b v m e (ask q x r) = e ∙ ap shownCount (sym (add-zero m))
+  call-count b v m e (sheet o x) = e ∙ ap shownCount (sym (add-zero m))
 
 entered-valid : (b : Book) → T (validStore b) → (c : Call) → T (validStore (entered b c))
 entered-valid b v (send o w t) = go (isWrong b (send o w t)) (run b (parse t)) (run-valid b v (parse t) (valid-parsed t))
@@ -140,6 +141,7 @@ entered-valid b v (send o w t) = go (isWrong b (send o w t)) (run b (parse t)) (
     go false (refusal r) h = v
     go false (completed lines s) h = h
 entered-valid b v (ask p x r) = v
+entered-valid b v (sheet o x) = v
 
 calls-count : (p : Name) (calls : List Call) (b : Book) → T (validStore b) → (m : ℕ) → countOf b p ≡ shownCount m
     → countOf (bookOf b calls) p ≡ shownCount (m + completedBy b p calls)

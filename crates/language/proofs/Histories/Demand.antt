@@ -26,7 +26,7 @@ use Rattle.language.proofs.Histories.Offences.{right-is-chain, reaches-
 use Rattle.language.proofs.Histories.Mirror.{store-valid, holds-all}
 use Rattle.language.proofs.Histories.Counts.{book-counts}
 use Rattle.language.proofs.Histories.Starts.{made-holds, brought-holds, entries-are}
-use Rattle.language.proofs.Histories.Answers.{next-number, next-denial, next-denied-line, next-kept, next-yes, next-no}
+use Rattle.language.proofs.Histories.Answers.{next-number, next-denial, next-denied-line, next-kept, next-yes, next-no, next-sheet}
 
 -- a valid store whose assertions are the fold of the events is governed by chains and events
 govern : (s : Store) (es : List Event) → T (validStore s) → s .assertions ≡ afterEvents [] es → Governed s es
@@ -52,6 +52,7 @@ module _ (buffer : Text) (b : Book) (es : List Event) (m : Holds buffer b) (e : 
     kept = next-kept buffer b m;
     yes-answer = next-yes buffer b m;
     no-answer = next-no buffer b m;
+    sheet-answer = next-sheet buffer b m;
     governed = govern b es (store-valid m) e;
     governed-within = within;
   }

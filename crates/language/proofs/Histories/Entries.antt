@@ -14,7 +14,7 @@ use Rattle.language.specs.Commands.{withStore, withLocals, withVariables
 use Rattle.language.specs.Run.{End, refusal, completed, after, next, perform, Login, unknown, mistaken, right, login, begin, tallied, runAs, run, left}
 use Rattle.language.specs.Programs.{parse}
 use Rattle.language.specs.Events.{Event, enters, withdraws, events, eventsThen, eventsOf, afterEvent, afterEvents}
-use Rattle.language.specs.History.{Call, send, ask, Book, isWrong, entered, bookOf, completedEvents, programEvents, callEvents, historyOf, Reaches, here, onward}
+use Rattle.language.specs.History.{Call, send, ask, sheet, Book, isWrong, entered, bookOf, completedEvents, programEvents, callEvents, historyOf, Reaches, here, onward}
 use Rattle.language.proofs.Logic.Tests.{true-of}
 use Rattle.language.proofs.Logic.Outcomes.{Where, bind-where, if-where}
 use Rattle.language.proofs.Logic.Giving.{Giving, giving-any, bind-giving, bind-from, provided-giving}
@@ -159,6 +159,7 @@ call-enters b (send o w t) = go (isWrong b (send o w t))
     go true = refl
     go false = run-enters b (parse t)
 call-enters b (ask p x r) = refl
+call-enters b (sheet o x) = refl
 
 pub book-enters : (calls : List Call) (b : Book) → bookOf b calls .assertions ≡ afterEvents (b .assertions) (historyOf b calls)
 book-enters [] b = refl

@@ -9,14 +9,14 @@ use lib.ListN.{length}
 use lib.Dec.{T, eqb, eqb-refl}
 use Rattle.language.specs.Text.{Text, if_then_else_, present}
 use Rattle.language.specs.Syntax.{Name}
-use Rattle.language.specs.State.{Store}
+use Rattle.language.specs.State.{Store, valueIn}
 use Rattle.language.specs.Valid.{validStore}
 use Rattle.language.specs.Encode.{stateText, bufferSize}
 use Rattle.language.specs.Decode.{Holds, decode}
 use Rattle.language.specs.Programs.{parse}
 use Rattle.language.specs.Run.{End, refusal, completed, run, left}
-use Rattle.language.specs.Calls.{Buffers, checked, sized, endReply, runOn, runCall, askOn}
-use Rattle.language.specs.History.{Call, send, ask, stateOf, reply, leaves, Book, runFault, isWrong, entered, bookOf}
+use Rattle.language.specs.Calls.{Buffers, SheetBuffers, checked, sized, endReply, runOn, runCall, askOn, sheetReply, sheetOn}
+use Rattle.language.specs.History.{Call, send, ask, sheet, stateOf, sheetAt, reply, leaves, Book, runFault, sheetFault, isWrong, entered, bookOf}
 use Rattle.language.proofs.StateText.RoundTrip.{decode-holds}
 use Rattle.language.proofs.StateText.Bound.{state-bound, padded-length}
 use Rattle.language.proofs.Meaning.ValidRuns.{EndsValid, run-valid}
@@ -65,6 +65,40 @@ pub reply-ask : {buffer : Text} {s : Store} → Holds buffer s → (p x : Name) 
 reply-ask {buffer} {s} h p x r =
     met buffer (sized buffer) _ _ (is-sized h) ∙ decoded-held buffer (decode buffer) _ (askOn buffer p x r) s (holds-decodes h)
 
+-- a sheet, where the buffer holds a state
+abbrev pub lentSheet : Text → Text → SheetBuffers
+lentSheet buffer o = record { state = buffer; output = o }
+
+pub sheet-held : {buffer : Text} {s : Store} → Holds buffer s → (o x : Text)
+    → sheetAt buffer o x ≡ checked (lentSheet buffer o) (sized o) 1 (sheetOn (lentSheet buffer o) x s)
+sheet-held {buffer} {s} h o x =
+    let l : SheetBuffers = lentSheet buffer o in
+    ap (checked l (sized o) 1) (met l (sized buffer) _ _ (is-sized h) ∙ decoded-held l (decode buffer) _ (sheetOn l x) s (holds-decodes h))
+
+pub whole-sheet : {buffer : Text} {s : Store} → Holds buffer s → (o x : Text) → T (not (isWrong s (sheet o x)))
+    → sheetAt buffer o x ≡ sheetReply (lentSheet buffer o) x s
+whole-sheet {buffer} {s} h o x k = sheet-held h o x ∙ go (sized o) (present (valueIn (s .variables) x)) k
+  where
+    l : SheetBuffers
+    l = lentSheet buffer o
+
+    go : (p q : Bool) → T (not (present (sheetFault p q))) → checked l p 1 (checked l q 7 (sheetReply l x s)) ≡ sheetReply l x s
+    go false q k = absurd k
+    go true false k = absurd k
+    go true true k = refl
+
+-- the state's bytes stay, whatever is answered
+pub sheet-keeps : {buffer : Text} {s : Store} → Holds buffer s → (o x : Text) → reply buffer (sheet o x) .lent ≡ buffer
+sheet-keeps {buffer} {s} h o x = ap (λ r. r .lent .state) (sheet-held h o x) ∙ go (sized o) (present (valueIn (s .variables) x))
+  where
+    l : SheetBuffers
+    l = lentSheet buffer o
+
+    go : (p q : Bool) → checked l p 1 (checked l q 7 (sheetReply l x s)) .lent .state ≡ buffer
+    go false q = refl
+    go true false = refl
+    go true true = refl
+
 pub store-valid : {buffer : Text} {s : Store} → Holds buffer s → T (validStore s)
 store-valid h = h .is-valid
 
@@ -84,6 +118,7 @@ holds-next buffer b m (send o w t) =
     go true true true (refusal r) k = m
     go true true true (completed lines t) k = record { is-valid = k; is-text = refl }
 holds-next buffer b m (ask p x r) = subst (λ r. Holds (r .lent) b) (sym (reply-ask m p x r)) m
+holds-next buffer b m (sheet o x) = subst (λ t. Holds t b) (sym (sheet-keeps m o x)) m
 
 pub holds-all : (calls : List Call) (buffer : Text) (b : Book) → Holds buffer b → Holds (leaves buffer calls) (bookOf b calls)
 holds-all [] buffer b m = m

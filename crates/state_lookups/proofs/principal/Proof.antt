@@ -35,7 +35,7 @@ below : (c : tie.After-place) → c .place .given .0 .0 < (start-after-place c) 
 below c =
     let start = start-after-place c in
     let p = start .pre .0 in
-    let F = principal-found (p .rows) (start .args .name .now) (c .place .given .0 .0) (c .place .given .0 .1 .0) (c .place .given .0 .1 .1 .0) (here c (p .rows) (p .held)) in
+    let F = principal-found (p .principals) (start .args .name .now) (c .place .given .0 .0) (c .place .given .0 .1 .0) (c .place .given .0 .1 .1 .0) (here c (p .principals) (p .held)) in
     omega (arith, F .below, p .held .counted)
 
 kept : (c : tie.After-password) (ks : List Principal) → let a = (start-after-password c) .args in Principals ks (a .text .now) (a .count) (a .slots .now)
@@ -50,7 +50,7 @@ find-requires c κs =
     let start = c .before .before .before .before in
     let a = start .args in
     let p = start .pre .0 in
-    some-principals (p .rows) (a .text .now) (a .count) (a .slots .now) (p .held)
+    some-principals (p .principals) (a .text .now) (a .count) (a .slots .now) (p .held)
 
 enum-known-place : tie.Need-enum-known-place
 enum-known-place c = search needs
@@ -71,7 +71,7 @@ password-of-requires c κs =
     let start = c .before .before .before .before .before .before .before .before in
     let a = start .args in
     let p = start .pre .0 in
-    (some-principals (p .rows) (a .text .now) (a .count) (a .slots .now) (p .held), below (c .before))
+    (some-principals (p .principals) (a .text .now) (a .count) (a .slots .now) (p .held), below (c .before))
 
 enum-known-password : tie.Need-enum-known-password
 enum-known-password c = search needs
@@ -79,17 +79,17 @@ enum-known-password c = search needs
 sub-write : tie.Need-sub-write
 sub-write c =
     let start = c .before .before .before .before .before .before .before .before .before .before .before .before in
-    kept (c .before) (start .pre .0 .rows) (start .pre .0 .held) .within .0
+    kept (c .before) (start .pre .0 .principals) (start .pre .0 .held) .within .0
 
 part-write-start : tie.Need-part-write-start
 part-write-start c =
     let start = c .before .before .before .before .before .before .before .before .before .before .before .before in
-    let w = kept (c .before) (start .pre .0 .rows) (start .pre .0 .held) .within in omega (arith, w .0, w .1)
+    let w = kept (c .before) (start .pre .0 .principals) (start .pre .0 .held) .within in omega (arith, w .0, w .1)
 
 part-write-end : tie.Need-part-write-end
 part-write-end c =
     let start = c .before .before .before .before .before .before .before .before .before .before .before .before in
-    let w = kept (c .before) (start .pre .0 .rows) (start .pre .0 .held) .within in omega (arith, w .0, w .1)
+    let w = kept (c .before) (start .pre .0 .principals) (start .pre .0 .held) .within in omega (arith, w .0, w .1)
 
 write-requires : tie.Need-write-requires
 write-requires c κs =
@@ -97,7 +97,7 @@ write-requires c κs =
     let start = back-7 .before .before .before .before .before .before .before in
     let p = start .pre in
     let g = c .before .before .before .password .given .0 in
-    let w = kept (c .before .before .before) (p .0 .rows) (p .0 .held) .within in
+    let w = kept (c .before .before .before) (p .0 .principals) (p .0 .held) .within in
     let n = length-part (start .args .text .now) (g .0) (g .1 .0) (w .0) (w .1) in
     (omega (arith, below back-7, p .1), omega (arith, n, w .1, p .0 .held .small), omega (arith, n, w .1, p .0 .held .small, p .2))
 

@@ -62,7 +62,7 @@ principal-requires c κs =
     let back-13 = back-9 .before .before .before .before in
     let U = understood (c .before .before .before .before) in
     let k : length (back-9 .check .last .1 .0) ≡ 1024 = back-9 .check .kept .1 .0 in
-    (record { rows = U .state .principals; held = U .represents .principals }, few-principals _ _ _ _ _ _ (U .represents) k, back-13 .if2 .left)
+    (record { principals = U .state .principals; held = U .represents .principals }, few-principals _ _ _ _ _ _ (U .represents) k, back-13 .if2 .left)
 
 enum-told : tie.Need-enum-told
 enum-told c = search needs

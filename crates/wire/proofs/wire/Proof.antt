@@ -10,6 +10,10 @@ use Rattle.wire.specs.Wire as Wire
 use borrow.Author.Needs.{needs}
 use Rattle.wire.proofs.wire.Statement.{statement}
 use Rattle.wire.proofs.wire.Tie as tie
+use Rattle.wire.proofs.wire.Reads as reads
+use Rattle.wire.proofs.wire.Lts as lts
+use Rattle.wire.proofs.coded.Reads as coded-reads
+use Rattle.wire.proofs.end_code.Reads as end-code-reads
 
 -- the number of an answer that the match has told
 told : {a b : Answer} → a ≡ b → Wire.wire (answerMeant b) ≡ Wire.wire (answerMeant a)
@@ -58,6 +62,14 @@ enum-told-2 c = search needs
 coded-requires-5 : tie.Need-coded-requires-5
 coded-requires-5 c κs = search needs
 
+enum-known-a-4 : tie.Need-enum-known-a-4
+enum-known-a-4 c = search needs
+
+coded-requires-6 : tie.Need-coded-requires-6
+coded-requires-6 c κs =
+    let f = has-room (c .before .a4 .given .1) (c .before .before .before .pre) in
+    (omega arith, f .0, f .1)
+
 returns : tie.Need-returns
 returns c = c .coded .ensures ∙ told (c .before .before .a .given .1)
 
@@ -77,6 +89,9 @@ returns-4 c = search needs
 returns-5 : tie.Need-returns-5
 returns-5 c = search needs
 
+returns-6 : tie.Need-returns-6
+returns-6 c = c .coded6 .ensures ∙ told (c .before .before .a4 .given .1)
+
 pub wire-spec : {M : Type 1} → statement M
 wire-spec =
     tie.close
@@ -93,8 +108,11 @@ wire-spec =
     coded-requires-4
     enum-told-2
     coded-requires-5
+    enum-known-a-4
+    coded-requires-6
     returns
     returns-2
     returns-3
     returns-4
-    returns-5)
+    returns-5
+    returns-6)

@@ -10,7 +10,8 @@ use Rattle.rights.specs.declared.Answer.{Answer}
 use Rattle.named_rights.specs.Numbers.{code, lengthOf}
 use Rattle.validate.specs.Checked.{Understood}
 use Rattle.answers.specs.Answers.{rightCode}
-use Rattle.ask.proofs.Settling.{Names, names-one, store, store-valid, few-everyone, few-asserted, rows-of-principals, vars-rows, are-principals, are-vars, unknown-name, unknown-right, unknown-variable, number-fits, asks, answered}
+use Rattle.validate.proofs.States.{store, store-valid, few-everyone, few-asserted, rows-of-principals, vars-rows, are-principals, are-vars, number-fits}
+use Rattle.ask.proofs.Settling.{Names, names-one, unknown-name, unknown-right, unknown-variable, asks, answered}
 use borrow.Author.Needs.{needs}
 use Rattle.ask.proofs.question.decide.Statement.{statement}
 use Rattle.ask.proofs.question.decide.Tie as tie
@@ -125,12 +126,10 @@ returns-3 c u =
 
 chain-requires : tie.Need-chain-requires
 chain-requires c κs =
-    let back-8 = c .before .before .before .before .before .before .before .before in
-    let start = back-8 .before .before .before .before .before .before .before .before .before .before in
+    let start = c .before .before .before .before .before .before .before .before .before .before .before .before .before .before .before .before .before .before in
     let u = start .pre in
-    let g = back-8 .principal .given .0 in
     let h = c .before .place .given .0 in
-    (u .represents .assertions .within, few-asserted u, few-everyone u, number-fits u (start .args .name .now) (start .args .variable .now) (g .0) (g .1 .0) (g .1 .1 .0) (principal-at back-8 u) (h .0) (h .1 .0) (h .1 .1 .0) (place-at (c .before) u))
+    (u .represents .assertions .within, few-asserted u, few-everyone u, number-fits u (start .args .variable .now) (h .0) (h .1 .0) (h .1 .1 .0) (place-at (c .before) u))
 
 enum-known-chain : tie.Need-enum-known-chain
 enum-known-chain c = search needs

@@ -1,2 +1,0 @@
--- What the change of a password asks.
-pub mod Known

@@ -1,0 +1,2 @@
+-- What the printing of a sheet asks.
+pub mod Listing
