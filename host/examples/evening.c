@@ -1,4 +1,4 @@
-/* A host in C: it makes a server, runs two programs, prints their lines and asks who may append.
+/* A host in C: it makes a server, runs two programs, prints their lines, asks who may append and prints a sheet for the wall.
  *
  *     cc -I host/include host/examples/evening.c target/staticlib/libserver_c.a -o evening
  */
@@ -39,6 +39,18 @@ static void ask(const char *name, const char *variable, char right) {
     }
 }
 
+/* Prints who may do what on a variable; 0 where the call was refused. */
+static int sheet(const char *variable) {
+    uint64_t answer = kivzurg_sheet(state, sizeof state, output, sizeof output, bytes(variable), strlen(variable));
+    if (KIVZURG_CODE(answer) != KIVZURG_LISTED) {
+        fprintf(stderr, "refused with number %u\n", KIVZURG_CODE(answer));
+        return 0;
+    }
+    printf("%s, %zu names:\n", variable, KIVZURG_LINES(answer));
+    fwrite(output, 1, KIVZURG_BYTES(answer), stdout);
+    return 1;
+}
+
 int main(void) {
     if (KIVZURG_CODE(kivzurg_make(state, sizeof state, bytes("desk"), 4)) != KIVZURG_READY) {
         return 1;
@@ -58,5 +70,5 @@ int main(void) {
     ask("rosa", "queue", 'a');
     ask("anyone", "queue", 'a');
     ask("nobody", "queue", 'a');
-    return 0;
+    return sheet("queue") ? 0 : 1;
 }

@@ -1,4 +1,5 @@
-//! A host in Rust: it makes a server, runs two programs, prints their lines and says who may append. `cargo run --example evening`.
+//! A host in Rust: it makes a server, runs two programs, prints their lines, says who may append and prints a sheet for the wall.
+//! `cargo run --example evening`.
 
 use std::error::Error;
 use std::io::{self, Write};
@@ -34,5 +35,7 @@ fn main() -> Result<(), Box<dyn Error>> {
             Err(error) => println!("{name}: {error}"),
         }
     }
+    let sheet = server.sheet(Variable(b"queue"))?;
+    print!("queue, {} names:\n{sheet}", sheet.len());
     Ok(())
 }

@@ -4,10 +4,10 @@
  * changes no byte. Of its caller a function asks only what C cannot check:
  *
  *   - a pointer and its size name bytes that the caller owns; a null pointer goes with the size 0;
- *   - a buffer that is written (state, work and output of a run; the state of a making or of a bringing) overlaps no other buffer of the same
- *     call: the two buffers of a bringing are two, and a state is never brought over into its own place;
+ *   - a buffer that is written (state, work and output of a run; the state of a making or of a bringing; the output of a sheet) overlaps no other
+ *     buffer of the same call: the two buffers of a bringing are two, and a state is never brought over into its own place;
  *   - nobody else writes a lent buffer during the call, or reads one that is written. Calls that have no buffer in common may run at the same
- *     time, and so may questions on one state. There is no other shared data, and no heap is used;
+ *     time, and so may questions and sheets on one state, sheets with an output each. There is no other shared data, and no heap is used;
  *   - the thread has KIVZURG_STACK bytes of stack left.
  *
  * The state holds every password in clear. It is a secret: keep it where only the host can read it. So is a former state.
@@ -26,7 +26,7 @@ extern "C" {
 #endif
 
 /* The version of this header and of what the functions answer. CHANGELOG.md says what changed. */
-#define KIVZURG_VERSION "0.4.0"
+#define KIVZURG_VERSION "0.5.0"
 
 /* The size of the state, of the work buffer and of the output. */
 #define KIVZURG_BUFFER 65536
@@ -52,6 +52,13 @@ uint64_t kivzurg_run(uint8_t *state, size_t state_size, uint8_t *work, size_t wo
 uint64_t kivzurg_ask(const uint8_t *state, size_t state_size, const uint8_t *name, size_t name_size, const uint8_t *variable,
                      size_t variable_size, uint8_t right);
 
+/* Prints who may do what on a shared variable: `output` then holds a line of 40 bytes for each principal, in order of creation, and zeros. A line is
+ * the name, padded with spaces to 34 columns or cut to its first 33 bytes and `~`; a space; r, w, a, d, each where kivzurg_ask says yes and a point
+ * where it says no; and the newline. A closed server has a sheet too. `state` and `variable` are only read. Answers KIVZURG_LISTED with the lines (at
+ * most 682) and bytes, or the number 1, 2, 4 or 7. */
+uint64_t kivzurg_sheet(const uint8_t *state, size_t state_size, uint8_t *output, size_t output_size, const uint8_t *variable,
+                       size_t variable_size);
+
 /* What an answer says. A code from 1 to 11 is the number of a refused call:
  *   1 output, 2 state (or former state), 3 work buffer not of 65,536 bytes; 4 state not well formed; 5 server closed; 6 principal unknown;
  *   7 shared variable unknown, or no such right; 8 password with a byte outside the string alphabet; 9 password longer than 1,024;
@@ -69,7 +76,8 @@ enum kivzurg_code {
     KIVZURG_FULL = 20,
     KIVZURG_YES = 32,
     KIVZURG_NO = 33,
-    KIVZURG_READY = 48
+    KIVZURG_READY = 48,
+    KIVZURG_LISTED = 64
 };
 
 #ifdef __cplusplus

@@ -49,7 +49,19 @@ pub enum AskError {
     Unexpected,
 }
 
+/// Why there is no sheet.
+#[derive(Clone, Copy, PartialEq, Eq, Debug)]
+pub enum SheetError {
+    /// The state is not well formed.
+    NotWellFormed,
+    /// No such shared variable.
+    UnknownVariable,
+    /// An answer that the server does not give.
+    Unexpected,
+}
+
 const NOT_WELL_FORMED: &str = "the state is not well formed";
+const UNKNOWN_VARIABLE: &str = "there is no shared variable of this name";
 const UNEXPECTED: &str = "the server gave an answer that it does not have";
 
 impl fmt::Display for MakeError {
@@ -87,8 +99,18 @@ impl fmt::Display for AskError {
         f.write_str(match self {
             AskError::NotWellFormed => NOT_WELL_FORMED,
             AskError::UnknownPrincipal => "there is no principal of this name",
-            AskError::UnknownVariable => "there is no shared variable of this name",
+            AskError::UnknownVariable => UNKNOWN_VARIABLE,
             AskError::Unexpected => UNEXPECTED,
+        })
+    }
+}
+
+impl fmt::Display for SheetError {
+    fn fmt(&self, f: &mut fmt::Formatter<'_>) -> fmt::Result {
+        f.write_str(match self {
+            SheetError::NotWellFormed => NOT_WELL_FORMED,
+            SheetError::UnknownVariable => UNKNOWN_VARIABLE,
+            SheetError::Unexpected => UNEXPECTED,
         })
     }
 }
@@ -97,3 +119,4 @@ impl Error for MakeError {}
 impl Error for BringError {}
 impl Error for RunError {}
 impl Error for AskError {}
+impl Error for SheetError {}

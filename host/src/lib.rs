@@ -19,21 +19,23 @@
 //! The state holds every password in clear. It is a secret: keep it where only the host can read it, and do not print it. `Debug` for [`Server`]
 //! shows nothing of it.
 //!
-//! A call takes up to [`STACK_BYTES`] of stack and no heap. A [`Server`] may be sent to another thread, and questions may be put to one from several
-//! threads at a time.
+//! A call takes up to [`STACK_BYTES`] of stack and no heap, but for a sheet's own text and the output that it is written to. A [`Server`] may be sent
+//! to another thread, and several threads may put questions to one and print sheets of it at a time.
 
 #![deny(missing_docs)]
 
 mod error;
 pub mod raw;
 mod right;
+mod sheet;
 
 use std::fmt;
 
-pub use error::{AskError, BringError, MakeError, RunError};
+pub use error::{AskError, BringError, MakeError, RunError, SheetError};
 use raw::Answer;
 pub use raw::Kind;
 pub use right::{NoSuchRight, Right};
+pub use sheet::{Row, Sheet};
 
 /// The size of each lent buffer.
 pub const BUFFER: usize = 65_536;
@@ -141,6 +143,38 @@ impl Server {
             Answer::Wrong(6) => Err(AskError::UnknownPrincipal),
             Answer::Wrong(7) => Err(AskError::UnknownVariable),
             _ => Err(AskError::Unexpected),
+        }
+    }
+
+    /// The sheet of a shared variable: who may do what, a row for each principal in order of creation. A closed server has one too.
+    ///
+    /// ```
+    /// use kivzurg::{Right, Server, Variable};
+    ///
+    /// # fn main() -> Result<(), Box<dyn std::error::Error>> {
+    /// let mut server = Server::make(b"desk")?;
+    /// server.run(b"as principal admin password \"desk\" do\nset queue = []\nset delegation queue admin read -> anyone\nreturn queue\n***")?;
+    /// let sheet = server.sheet(Variable(b"queue"))?;
+    /// print!("{sheet}");
+    /// assert_eq!(sheet.len(), 2);
+    /// for row in sheet.rows() {
+    ///     assert!(row.has(Right::Read));
+    ///     assert_eq!(row.has(Right::Write), row.name() == "admin");
+    /// }
+    /// # Ok(())
+    /// # }
+    /// ```
+    pub fn sheet(&self, variable: Variable<'_>) -> Result<Sheet, SheetError> {
+        let mut output = vec![0; BUFFER];
+        match raw::sheet(&self.state[..], &mut output, variable.0) {
+            Answer::Listed { lines, bytes } => {
+                // The text without the zeros behind it, in room of its own.
+                let text = output.get(..bytes).map(<[u8]>::to_vec);
+                text.and_then(Sheet::of).filter(|sheet| sheet.len() == lines).ok_or(SheetError::Unexpected)
+            }
+            Answer::Wrong(4) => Err(SheetError::NotWellFormed),
+            Answer::Wrong(7) => Err(SheetError::UnknownVariable),
+            _ => Err(SheetError::Unexpected),
         }
     }
 }

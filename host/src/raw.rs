@@ -28,6 +28,14 @@ mod exported {
             variable_size: usize,
             right: u8,
         ) -> u64;
+        pub fn kivzurg_sheet(
+            state: *const u8,
+            state_size: usize,
+            output: *mut u8,
+            output_size: usize,
+            variable: *const u8,
+            variable_size: usize,
+        ) -> u64;
     }
 }
 
@@ -78,6 +86,13 @@ pub enum Answer {
     No,
     /// A server was made, or brought over.
     Ready,
+    /// A sheet was written.
+    Listed {
+        /// How many lines it has.
+        lines: usize,
+        /// How many bytes of the output they take.
+        bytes: usize,
+    },
     /// A number that stands for nothing. It does not come.
     Unknown(u64),
 }
@@ -98,6 +113,7 @@ impl Answer {
             32 => Answer::Yes(low),
             33 => Answer::No,
             48 => Answer::Ready,
+            64 => Answer::Listed { lines, bytes: low },
             _ => Answer::Unknown(number),
         }
     }
@@ -144,6 +160,21 @@ pub fn ask(state: &[u8], name: &[u8], variable: &[u8], right: u8) -> Answer {
             variable.as_ptr(),
             variable.len(),
             right,
+        )
+    })
+}
+
+/// Writes the sheet of a shared variable into `output`, and zeros behind it: `Listed`, or `Wrong` with 1, 2, 4 or 7.
+pub fn sheet(state: &[u8], output: &mut [u8], variable: &[u8]) -> Answer {
+    // Sound: the function reads `state` and `variable`, writes within `output`, which does not overlap them, and keeps nothing of the three.
+    Answer::of(unsafe {
+        exported::kivzurg_sheet(
+            state.as_ptr(),
+            state.len(),
+            output.as_mut_ptr(),
+            output.len(),
+            variable.as_ptr(),
+            variable.len(),
         )
     })
 }

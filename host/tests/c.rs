@@ -33,15 +33,18 @@ fn the_header() {
     let expected = format!(
         "version {version}, buffer {BUFFER}, stack {STACK_BYTES}\nmade 48\nran 16, 2 lines, 53 bytes\n{{\"status\":\"SET\"}}\n\
          {{\"status\":\"RETURNING\",\"output\":\"1\"}}\nasked 32, 0 long\nrefused 6\nrefused 3\nrefused 1\nran 19, 1 lines\n\
-         brought 48\nO\nP\tadmin\tpppp\t0\nN\tanyone\t0\nD\tanyone\nrefused 11\nrefused 10\nrefused 2\n"
+         listed 64, 2 lines, 80 bytes\n{:34} rwad\n{:34} ....\nrefused 1\nrefused 2\nrefused 4\nrefused 7\nrefused 1\n\
+         brought 48\nO\nP\tadmin\tpppp\t0\nN\tanyone\t0\nD\tanyone\nrefused 11\nrefused 10\nrefused 2\n",
+        "admin", "anyone"
     );
     assert_eq!(printed("tests/header.c"), expected);
 }
 
 #[test]
 fn the_example() {
-    let expected = "{\"status\":\"CREATE_PRINCIPAL\"}\n{\"status\":\"SET\"}\n{\"status\":\"SET_DELEGATION\"}\n{\"status\":\"RETURNING\",\"output\":[]}\n\
-                    {\"status\":\"APPEND\"}\n{\"status\":\"RETURNING\",\"output\":\"ok\"}\n\
-                    rosa: yes, by a chain of 1\nanyone: no\nnobody: refused with number 6\n";
-    assert_eq!(printed("examples/evening.c"), expected);
+    let lines = "{\"status\":\"CREATE_PRINCIPAL\"}\n{\"status\":\"SET\"}\n{\"status\":\"SET_DELEGATION\"}\n\
+                 {\"status\":\"RETURNING\",\"output\":[]}\n{\"status\":\"APPEND\"}\n{\"status\":\"RETURNING\",\"output\":\"ok\"}\n\
+                 rosa: yes, by a chain of 1\nanyone: no\nnobody: refused with number 6\n";
+    let sheet = format!("queue, 3 names:\n{:34} rwad\n{:34} ....\n{:34} ..a.\n", "admin", "anyone", "rosa");
+    assert_eq!(printed("examples/evening.c"), lines.to_string() + &sheet);
 }

@@ -1,5 +1,5 @@
-/* The header by itself: its constants, a server made, a program, a question, a former state brought over, refusals, and null pointers with the
- * size 0. */
+/* The header by itself: its constants, a server made, a program, a question, a sheet, a former state brought over, refusals, and null pointers with
+ * the size 0. */
 #include "kivzurg.h"
 
 #include <stdio.h>
@@ -10,6 +10,11 @@ static uint8_t state[KIVZURG_BUFFER], work[KIVZURG_BUFFER], output[KIVZURG_BUFFE
 static uint64_t run(size_t work_size, const char *program) {
     size_t size = program == NULL ? 0 : strlen(program);
     return kivzurg_run(state, sizeof state, work, work_size, output, sizeof output, (const uint8_t *)program, size);
+}
+
+static uint64_t sheet(size_t state_size, size_t output_size, const char *variable) {
+    size_t size = variable == NULL ? 0 : strlen(variable);
+    return kivzurg_sheet(state, state_size, output, output_size, (const uint8_t *)variable, size);
 }
 
 /* A former state with a password of so many bytes, brought over. */
@@ -41,6 +46,14 @@ int main(void) {
     printf("refused %u\n", KIVZURG_CODE(answer));
     answer = run(sizeof work, NULL);
     printf("ran %u, %zu lines\n", KIVZURG_CODE(answer), KIVZURG_LINES(answer));
+    answer = sheet(sizeof state, sizeof output, "x");
+    printf("listed %u, %zu lines, %zu bytes\n", KIVZURG_CODE(answer), KIVZURG_LINES(answer), KIVZURG_BYTES(answer));
+    fwrite(output, 1, KIVZURG_BYTES(answer), stdout);
+    printf("refused %u\n", KIVZURG_CODE(sheet(1, 1, "y")));
+    printf("refused %u\n", KIVZURG_CODE(sheet(1, sizeof output, "y")));
+    printf("refused %u\n", KIVZURG_CODE(kivzurg_sheet(work, sizeof work, output, sizeof output, NULL, 0)));
+    printf("refused %u\n", KIVZURG_CODE(sheet(sizeof state, sizeof output, NULL)));
+    printf("refused %u\n", KIVZURG_CODE(kivzurg_sheet(NULL, 0, NULL, 0, NULL, 0)));
     answer = bring(4);
     printf("brought %u\n%s", KIVZURG_CODE(answer), (const char *)state);
     printf("refused %u\n", KIVZURG_CODE(bring(8188)));

@@ -54,9 +54,37 @@ fn former(state: &Buffer) -> Vec<u8> {
     bytes
 }
 
+/// A state of these lines, which begins as every state does.
+fn server(lines: impl Iterator<Item = String>) -> Server {
+    let text = ["O\nP\tadmin\t\t0\nN\tanyone\t0\n".to_string()].into_iter().chain(lines).collect::<String>();
+    let mut state: Box<Buffer> = Box::new([0; kivzurg::BUFFER]);
+    state[..text.len()].copy_from_slice(text.as_bytes());
+    Server::over(state)
+}
+
+const LETTERS: &str = "abcdefghijklmnopqrstuvwxyzABCDEFGHIJKLMNOPQRSTUVWXYZ";
+
+/// As many principals as can be beside a variable, 634: the names are of one letter or two, and none of them is a keyword.
+fn crowded() -> Server {
+    let letters = || LETTERS.chars();
+    let ones = letters().map(|letter| letter.to_string());
+    let twos = letters().rev().flat_map(|first| letters().map(move |second| format!("{first}{second}")));
+    let people = ones.chain(twos).take(632).map(|name| format!("P\t{name}\t\t0\n"));
+    server(people.chain(["D\tanyone\nV\tl\tL\n".to_string()]))
+}
+
+/// As many assertions on one variable as can be: 23 principals weigh 12 each, the variable 2, and 1,978 assertions of such names 4 each.
+fn asserted() -> Server {
+    let names: Vec<&str> = (0..21).map(|at| &LETTERS[at..=at]).chain(["anyone", "admin"]).collect();
+    let people = names[..21].iter().map(|name| format!("P\t{name}\t\t0\n"));
+    let pairs = names.iter().flat_map(|from| names.iter().map(move |to| (from, to)));
+    let all = pairs.flat_map(|(from, to)| Right::ALL.map(|right| format!("A\tl\t{from}\t{}\t{to}\n", char::from(right.letter()))));
+    server(people.chain(["D\tanyone\nV\tl\tL\n".to_string()]).chain(all.take((8_192 - 23 * 12 - 2) / 4)))
+}
+
 /// Every kind of call. The servers' buffers are not on this thread's stack.
-fn calls(servers: &mut [Server; 3], damaged: &mut Buffer) {
-    let [plain, full, long] = servers;
+fn calls(servers: &mut [Server; 5], damaged: &mut Buffer) {
+    let [plain, full, long, crowded, asserted] = servers;
     for (commands, kind) in PROGRAMS {
         assert_eq!(plain.run(program(commands).as_bytes()).map(|report| report.kind), Ok(*kind), "{commands}");
     }
@@ -71,11 +99,17 @@ fn calls(servers: &mut [Server; 3], damaged: &mut Buffer) {
     let mut old = former(long.state());
     assert_eq!(raw::bring(&old, &mut damaged[..]), raw::Answer::Ready);
     assert_eq!(raw::bring(&damaged[..], &mut old), raw::Answer::Wrong(10));
+    for (server, lines) in [(&*long, 202), (&*crowded, 634), (&*asserted, 23)] {
+        assert_eq!(raw::sheet(&server.state()[..], &mut old, b"l"), raw::Answer::Listed { lines, bytes: 40 * lines });
+        assert_eq!(server.sheet(Variable(b"l")).map(|sheet| sheet.len()), Ok(lines));
+    }
+    assert_eq!(raw::sheet(&[7; 7], &mut old, b"l"), raw::Answer::Wrong(2));
 }
 
 /// Makes the calls in a thread of this size and answers what `after` says there.
 fn in_thread(size: usize, after: fn() -> usize) -> usize {
-    let mut servers = [(); 3].map(|()| Server::make(b"p").expect("a good password"));
+    let [plain, full, long] = [(); 3].map(|()| Server::make(b"p").expect("a good password"));
+    let mut servers = [plain, full, long, crowded(), asserted()];
     let mut damaged: Box<Buffer> = Box::new([7; kivzurg::BUFFER]);
     let work = move || {
         let before = after();

@@ -107,6 +107,27 @@ tom        2      -       -         -
     folder.printed(3, &["who", "state", "nothing"], "");
 }
 
+#[test]
+fn a_sheet_for_the_wall() {
+    let folder = venue("sheet");
+    let before = fs::read(folder.path("state")).expect("the state");
+    let line = |name: &str, rights: &str| format!("{name:34} {rights}\n");
+    let open = [line("admin", "rwad"), line("anyone", "r..."), line("rosa", "r.a."), line("tom", "r...")].concat();
+    assert_eq!(folder.printed(0, &["sheet", "state", "queue"], ""), open);
+    let profile = [line("admin", "rwad"), line("anyone", "...."), line("rosa", "...."), line("tom", "....")].concat();
+    assert_eq!(folder.printed(0, &["sheet", "state", "profile"], ""), profile);
+    for variable in ["nothing", "", "rosa"] {
+        let said = folder.printed(3, &["sheet", "state", variable], "");
+        assert!(said.contains("there is no shared variable of this name"), "{said}");
+    }
+    assert_eq!(fs::read(folder.path("state")).expect("the state"), before, "it is only read");
+    let long = "n".repeat(40);
+    let closing = format!("as principal admin password \"desk\" do\ncreate principal {long} \"\"\nexit\n***\n");
+    folder.printed(0, &["run", "state"], &closing);
+    let cut = line(&format!("{}~", &long[..33]), "r...");
+    assert_eq!(folder.printed(0, &["sheet", "state", "queue"], ""), open + &cut);
+}
+
 /// What `check` says of a program.
 fn checked(folder: &Folder, status: i32, program: &str) -> String {
     fs::write(folder.path("program"), program).expect("written");
@@ -213,6 +234,7 @@ fn what_is_refused() {
     folder.printed(3, &["show", "short"], "");
     fs::write(folder.path("damaged"), [7; 65_536]).expect("written");
     folder.printed(3, &["who", "damaged", "queue"], "");
+    folder.printed(3, &["sheet", "damaged", "queue"], "");
     folder.printed(0, &["run", "state"], "as principal admin password \"desk\" do\nexit\n***\nnever read");
     assert!(folder.printed(3, &["run", "state"], APPENDING).contains("the server is closed"));
     let unfinished = folder.run(&["run", "state"], b"as principal");
@@ -223,7 +245,7 @@ fn what_is_refused() {
 fn command_lines() {
     let folder = Folder::of("words");
     let help = folder.printed(0, &["--help"], "");
-    for command in ["make", "bring", "run", "show", "who", "why", "check", "replay"] {
+    for command in ["make", "bring", "run", "show", "who", "sheet", "why", "check", "replay"] {
         assert!(help.contains(&format!("  kivzurg {command} ")), "{command}");
         assert!(folder.printed(0, &[command, "--help"], "").starts_with(&format!("kivzurg {command} ")));
         folder.printed(2, &[command], "");

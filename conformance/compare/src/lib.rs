@@ -11,3 +11,4 @@ pub mod rights;
 pub mod server;
 pub mod states;
 pub mod timing;
+pub mod venues;

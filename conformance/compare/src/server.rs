@@ -1,7 +1,7 @@
 //! The functions open to the host beside those of the model, in the model's words.
 
 use kivzurg::raw::{self, Kind};
-use model::calls::Report;
+use model::calls::{Listed, Report};
 use model::engine::End;
 
 #[derive(Clone, Copy, PartialEq, Eq, Debug)]
@@ -11,6 +11,7 @@ pub enum Answer {
     Yes(usize),
     No,
     Ready,
+    Listed(Listed),
 }
 
 fn answer(given: raw::Answer) -> Answer {
@@ -29,6 +30,7 @@ fn answer(given: raw::Answer) -> Answer {
         raw::Answer::Yes(length) => Answer::Yes(length),
         raw::Answer::No => Answer::No,
         raw::Answer::Ready => Answer::Ready,
+        raw::Answer::Listed { lines, bytes } => Answer::Listed(Listed { lines, bytes }),
         raw::Answer::Unknown(number) => panic!("no answer has the number {number}"),
     }
 }
@@ -51,4 +53,9 @@ pub fn run(state: &mut [u8], work: &mut [u8], output: &mut [u8], program: &[u8])
 /// The question.
 pub fn ask(state: &[u8], name: &[u8], variable: &[u8], right: u8) -> Answer {
     answer(raw::ask(state, name, variable, right))
+}
+
+/// The sheet of a variable.
+pub fn sheet(state: &[u8], output: &mut [u8], variable: &[u8]) -> Answer {
+    answer(raw::sheet(state, output, variable))
 }

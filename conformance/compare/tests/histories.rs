@@ -1,4 +1,4 @@
-//! Histories of calls, beside the model: programs of several principals, damaged programs and states, buffers of wrong sizes, a question
+//! Histories of calls, beside the model: programs of several principals, damaged programs and states, buffers of wrong sizes, a question and a sheet
 //! after every call. The answer, and every byte of the state, of the work buffer and of the output, are compared. Some go on from a state whose counts
 //! stand near the end of a width, some from a former state brought over.
 //!
@@ -13,7 +13,7 @@ use std::thread;
 use compare::former::{count, former, padded, recounted, text};
 use compare::histories::{next, opening, World, PRINCIPALS, VARIABLES};
 use compare::random::Random;
-use compare::server::{ask, bring, make, run, Answer};
+use compare::server::{ask, bring, make, run, sheet, Answer};
 use model::calls;
 use model::engine::End;
 use model::observe::{self, COUNTS, FUNCTIONS, MISHAPS, PLACES, SHAPES};
@@ -27,9 +27,11 @@ const STATUSES: [&str; 11] = [
     "DEFAULT_DELEGATOR", "RETURNING", "EXITING",
 ];
 const ENDS: [&str; 5] = ["Returned", "Exited", "Denied", "Failed", "Full"];
-const NUMBERS: [&str; 12] =
-    ["run 1", "run 2", "run 3", "run 4", "run 5", "ask 2", "ask 4", "ask 6", "ask 7", "make 2", "make 8", "make 9"];
-const ANSWERS: [&str; 3] = ["yes", "no", "ready"];
+const NUMBERS: [&str; 16] = [
+    "run 1", "run 2", "run 3", "run 4", "run 5", "ask 2", "ask 4", "ask 6", "ask 7", "make 2", "make 8", "make 9", "sheet 1", "sheet 2", "sheet 4",
+    "sheet 7",
+];
+const ANSWERS: [&str; 5] = ["yes", "no", "ready", "listed: open", "listed: closed"];
 /// Histories that start otherwise than from a server just made, and what came after.
 const STARTS: [&str; 8] = [
     "counts set", "brought over", "brought over: Returned", "brought over: Exited", "brought over: Denied", "brought over: Failed", "brought over: Full",
@@ -112,6 +114,33 @@ fn ask_both(seen: &mut Seen, random: &mut Random, state: &[u8]) {
     assert_eq!(answer, expected, "{name} {variable} {right}");
 }
 
+/// The variable of a sheet: mostly one that there may be, and also a principal's name, no name at all, or one that is too long.
+fn sheet_of(random: &mut Random) -> String {
+    match random.below(16) {
+        0 => String::new(),
+        1 => one(random, &PRINCIPALS).to_string(),
+        2 => one(random, &VARIABLES).repeat(300),
+        _ => one(random, &VARIABLES).to_string(),
+    }
+}
+
+/// The same sheet on both sides, in an output that held something else and sometimes has another size.
+fn sheet_both(seen: &mut Seen, random: &mut Random, state: &[u8]) {
+    let size = if random.below(16) == 0 { [0, BUFFER - 1, BUFFER + 1][random.below(3)] } else { BUFFER };
+    let (lent, mut proved) = (state.to_vec(), vec![random.below(256) as u8; size]);
+    let mut expected = proved.clone();
+    let variable = sheet_of(random);
+    let answer = sheet(&lent, &mut proved, variable.as_bytes());
+    let outcome = calls::sheet(state, &mut expected, variable.as_bytes());
+    assert_eq!(answer, outcome.map_or_else(|refusal| Answer::Wrong(refusal.number()), Answer::Listed), "{variable}");
+    assert!(lent == state, "a sheet of {variable} changed the state");
+    assert!(proved == expected, "the sheet of {variable}");
+    match outcome {
+        Ok(_) => note(seen, if state[0] == b'O' { "listed: open" } else { "listed: closed" }),
+        Err(refusal) => note(seen, &format!("sheet {}", refusal.number())),
+    }
+}
+
 fn make_both(seen: &mut Seen, size: usize, password: &[u8]) -> Lent {
     let mut state = vec![7; size];
     let mut expected = state.clone();
@@ -147,6 +176,7 @@ fn call_aside(seen: &mut Seen, random: &mut Random, lent: &Lent, program: &[u8])
     }
     let mut expected = aside.clone();
     ask_both(seen, random, &aside.state);
+    sheet_both(seen, random, &aside.state);
     run_both(seen, &mut aside, &mut expected, program);
 }
 
@@ -210,6 +240,7 @@ fn history(seen: &mut Seen, random: &mut Random) {
             note(seen, &format!("brought over: {:?}", report.end));
         }
         ask_both(seen, random, &model.state);
+        sheet_both(seen, random, &proved.state);
     }
 }
 

@@ -10,11 +10,14 @@
 //!     bring                          brings the former state over into the state's buffer; `bring-sized FORMER STATE` lends buffers of these sizes
 //!     run                            the lines up to `***` are the program; `run-sized STATE WORK OUTPUT` lends buffers of these sizes
 //!     ask NAME VARIABLE RIGHT        the question; `ask-sized N NAME VARIABLE RIGHT` on N bytes
+//!     sheet VARIABLE                 the sheet of a variable, of the empty name where there is none; `sheet-sized STATE OUTPUT VARIABLE` with buffers of
+//!                                    these sizes; `sheet-gist VARIABLE` prints its first and last line, and how many lines have which rights
 //!     show                           the state's text and its weight, which each side tells by itself; `weigh` its weight and how many bytes it has
 //!     counts NAME..                  the count of each of these principals, which each side tells by itself
 //!
 //! A transcript is written anew, by the proved server, with REPLAYS=write in the environment; read what changed before it is stored.
 
+use std::collections::BTreeMap;
 use std::env;
 use std::fmt::Write;
 use std::fs;
@@ -33,6 +36,7 @@ trait Side {
     fn bring(&self, former: &[u8], state: &mut [u8]) -> Answer;
     fn run(&self, state: &mut [u8], work: &mut [u8], output: &mut [u8], program: &[u8]) -> Answer;
     fn ask(&self, state: &[u8], name: &[u8], variable: &[u8], right: u8) -> Answer;
+    fn sheet(&self, state: &[u8], output: &mut [u8], variable: &[u8]) -> Answer;
     /// None where the state is not well formed.
     fn weight(&self, state: &[u8]) -> Option<usize>;
     /// None where there is no such principal either.
@@ -56,6 +60,10 @@ impl Side for Proved {
 
     fn ask(&self, state: &[u8], name: &[u8], variable: &[u8], right: u8) -> Answer {
         server::ask(state, name, variable, right)
+    }
+
+    fn sheet(&self, state: &[u8], output: &mut [u8], variable: &[u8]) -> Answer {
+        server::sheet(state, output, variable)
     }
 
     fn weight(&self, state: &[u8]) -> Option<usize> {
@@ -97,6 +105,10 @@ impl Side for Model {
         }
     }
 
+    fn sheet(&self, state: &[u8], output: &mut [u8], variable: &[u8]) -> Answer {
+        calls::sheet(state, output, variable).map_or_else(|refusal| Answer::Wrong(refusal.number()), Answer::Listed)
+    }
+
     fn weight(&self, state: &[u8]) -> Option<usize> {
         decode(state).map(|(state, _)| state.weight())
     }
@@ -136,6 +148,7 @@ impl Play<'_> {
             Answer::Wrong(number) => format!("refused with {number}, but something changed"),
             Answer::Ended(report) => format!("{:?}, lines {}, bytes {}", report.end, report.lines, report.bytes),
             Answer::Yes(length) => format!("yes, {length} long"),
+            Answer::Listed(listed) => format!("listed, lines {}, bytes {}", listed.lines, listed.bytes),
             other => format!("{other:?}").to_lowercase(),
         };
         writeln!(self.transcript, "{step}: {said}").expect("a line");
@@ -206,6 +219,35 @@ impl Play<'_> {
         let answer = self.side.ask(&state, words[0].as_bytes(), words[1].as_bytes(), words[2].as_bytes()[0]);
         self.say(step, answer, true);
     }
+
+    /// The sheet, empty where the call is refused, from an output that held other bytes. The state's never change.
+    fn sheet(&mut self, step: &str, sizes: [usize; 2], variable: &str) -> String {
+        let mut state = self.state.clone();
+        state.resize(sizes[0], 0);
+        let (before, mut output) = (state.clone(), vec![5; sizes[1]]);
+        let answer = self.side.sheet(&state, &mut output, variable.as_bytes());
+        assert!(state == before, "the state after {step}");
+        self.say(step, answer, output == vec![5; sizes[1]]);
+        let Answer::Listed(listed) = answer else { return String::new() };
+        assert!(output[listed.bytes..].iter().all(|b| *b == 0), "zeros after {step}");
+        String::from_utf8_lossy(&output[..listed.bytes]).into_owned()
+    }
+
+    fn sheet_whole(&mut self, step: &str, sizes: [usize; 2], variable: &str) {
+        let sheet = self.sheet(step, sizes, variable);
+        self.transcript += &sheet;
+    }
+
+    fn sheet_gist(&mut self, step: &str, variable: &str) {
+        let sheet = self.sheet(step, [BUFFER; 2], variable);
+        let mut rights: BTreeMap<&str, usize> = BTreeMap::new();
+        sheet.lines().for_each(|line| *rights.entry(line.rsplit(' ').next().unwrap_or("")).or_default() += 1);
+        let ends = sheet.lines().next().into_iter().chain(sheet.lines().last());
+        ends.for_each(|line| self.transcript += &format!("{line}\n"));
+        for (letters, lines) in rights {
+            writeln!(self.transcript, "{letters} in lines: {lines}").expect("a line");
+        }
+    }
 }
 
 /// The lines up to one that says `last`, which is taken as well.
@@ -243,35 +285,42 @@ fn played(side: &dyn Side, script: &str) -> String {
     while let Some(line) = lines.next() {
         if line.is_empty() || line.starts_with('#') {
             writeln!(play.transcript, "{line}").expect("a line");
-            continue;
-        }
-        let step = line;
-        let (word, rest) = line.split_once(' ').unwrap_or((line, ""));
-        let rest = expanded(rest);
-        let words: Vec<&str> = rest.split(' ').collect();
-        let number = |at: usize| words[at].parse::<usize>().expect("a size");
-        match word {
-            "make" => play.make(step, BUFFER, &rest),
-            "make-sized" => play.make(step, number(0), words[1]),
-            "load" => play.state = loaded(&mut lines),
-            "former" => play.former = loaded(&mut lines),
-            "former-byte" => play.former[number(0)] = number(1) as u8,
-            "bring" => play.bring(step, [BUFFER; 2]),
-            "bring-sized" => play.bring(step, [number(0), number(1)]),
-            "run" => play.run(step, [BUFFER; 3], &block(&mut lines, "***").join("\n")),
-            "run-sized" => {
-                let sizes = [number(0), number(1), number(2)];
-                play.run(step, sizes, &block(&mut lines, "***").join("\n"));
-            }
-            "ask" => play.ask(step, BUFFER, &words),
-            "ask-sized" => play.ask(step, number(0), &words[1..]),
-            "show" => play.show(),
-            "weigh" => play.weigh(),
-            "counts" => play.counts(&words),
-            other => panic!("no step is called {other}"),
+        } else {
+            step(&mut play, line, &mut lines);
         }
     }
     play.transcript
+}
+
+/// One step, whose further lines are taken as well.
+fn step<'a>(play: &mut Play, step: &str, lines: &mut impl Iterator<Item = &'a str>) {
+    let (word, rest) = step.split_once(' ').unwrap_or((step, ""));
+    let rest = expanded(rest);
+    let words: Vec<&str> = rest.split(' ').collect();
+    let number = |at: usize| words[at].parse::<usize>().expect("a size");
+    match word {
+        "make" => play.make(step, BUFFER, &rest),
+        "make-sized" => play.make(step, number(0), words[1]),
+        "load" => play.state = loaded(lines),
+        "former" => play.former = loaded(lines),
+        "former-byte" => play.former[number(0)] = number(1) as u8,
+        "bring" => play.bring(step, [BUFFER; 2]),
+        "bring-sized" => play.bring(step, [number(0), number(1)]),
+        "run" => play.run(step, [BUFFER; 3], &block(lines, "***").join("\n")),
+        "run-sized" => {
+            let sizes = [number(0), number(1), number(2)];
+            play.run(step, sizes, &block(lines, "***").join("\n"));
+        }
+        "ask" => play.ask(step, BUFFER, &words),
+        "ask-sized" => play.ask(step, number(0), &words[1..]),
+        "sheet" => play.sheet_whole(step, [BUFFER; 2], &rest),
+        "sheet-sized" => play.sheet_whole(step, [number(0), number(1)], words.get(2).unwrap_or(&"")),
+        "sheet-gist" => play.sheet_gist(step, &rest),
+        "show" => play.show(),
+        "weigh" => play.weigh(),
+        "counts" => play.counts(&words),
+        other => panic!("no step is called {other}"),
+    }
 }
 
 fn scripts() -> Vec<PathBuf> {

@@ -1,10 +1,11 @@
 //! The calls of the host program and of the installer, on lent buffers (01,
-//! Who gets which number; 02, M-101). A refused call changes no byte.
+//! Who gets which number; 02, M-101 and M-102). A refused call changes no byte.
 
 use crate::bytes::STRING;
 use crate::engine::{self, End};
 use crate::lines::Lines;
 use crate::rights::{self, Right};
+use crate::sheet;
 use crate::state::{State, HEAVIEST};
 use crate::strings::Strings;
 use crate::text::{decode, decode_former, encode, BUFFER};
@@ -39,6 +40,14 @@ impl Refusal {
 #[derive(Clone, Copy, PartialEq, Eq, Debug)]
 pub struct Report {
     pub end: End,
+    pub lines: usize,
+    pub bytes: usize,
+}
+
+/// The result of a sheet that was not refused: how many lines it has and how
+/// many bytes they take.
+#[derive(Clone, Copy, PartialEq, Eq, Debug)]
+pub struct Listed {
     pub lines: usize,
     pub bytes: usize,
 }
@@ -136,4 +145,20 @@ pub fn ask(
         right.number(),
         usize::from(principal),
     ))
+}
+
+/// The sheet of a shared variable: the output then holds its lines and zeros.
+/// A closed server has one as well, 5 being none of its numbers.
+pub fn sheet(state: &[u8], output: &mut [u8], variable: &[u8]) -> Result<Listed, Refusal> {
+    require(output.len() == BUFFER, Refusal::OutputSize)?;
+    require(state.len() == BUFFER, Refusal::StateSize)?;
+    let (state, _) = decode(state).ok_or(Refusal::NotWellFormed)?;
+    let variable = state
+        .variables
+        .find(variable)
+        .ok_or(Refusal::UnknownVariableOrRight)?;
+    let lines = sheet::write(&state, variable, output);
+    let bytes = lines * sheet::LINE;
+    output[bytes..].fill(0);
+    Ok(Listed { lines, bytes })
 }

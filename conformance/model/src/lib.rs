@@ -6,7 +6,7 @@
 //! [`token`] and [`parse`] the program text, [`value`], [`state`] and [`text`]
 //! the state and its text, [`rights`] the chains, [`strings`], [`session`],
 //! [`functions`], [`evaluate`], [`lines`] and [`engine`] what a program does,
-//! and [`calls`] what the host program may call. [`observe`] is for tests: it
+//! [`sheet`] who may do what on paper, and [`calls`] what the host program may call. [`observe`] is for tests: it
 //! tells what became of the calls of functions in a program.
 
 #![forbid(unsafe_code)]
@@ -22,6 +22,7 @@ pub mod observe;
 pub mod parse;
 pub mod rights;
 pub mod session;
+pub mod sheet;
 pub mod state;
 pub mod strings;
 pub mod syntax;

@@ -67,13 +67,13 @@ pub fn shortest(
     if principal == usize::from(ADMIN) {
         return Some(0);
     }
-    let mut search = Search::new(count);
-    for assertion in standing {
-        if assertion.variable == variable && assertion.right == right {
-            search.add(assertion);
-        }
-    }
-    search.length(principal)
+    Search::of(standing, count, variable, right).length(principal)
+}
+
+/// For each of `count` principals whether a chain for the right on the
+/// variable leads to it. Everyone is marked in one search.
+pub fn holders(standing: &[Assertion], count: usize, variable: u16, right: u16) -> Vec<bool> {
+    Search::of(standing, count, variable, right).all()
 }
 
 /// The variables among the first `variables` on which the principal has the
@@ -144,6 +144,17 @@ impl Search {
         }
     }
 
+    /// The search for one right on one variable.
+    fn of(standing: &[Assertion], count: usize, variable: u16, right: u16) -> Search {
+        let mut search = Search::new(count);
+        for assertion in standing {
+            if assertion.variable == variable && assertion.right == right {
+                search.add(assertion);
+            }
+        }
+        search
+    }
+
     /// Adds a step, if its ends are principals.
     fn add(&mut self, assertion: &Assertion) {
         let Assertion { from, to, .. } = *assertion;
@@ -204,6 +215,29 @@ impl Search {
             start = end;
         }
         None
+    }
+
+    /// Marks everyone whom a chain leads to. Once it goes on from anyone, that
+    /// is everybody.
+    fn all(mut self) -> Vec<bool> {
+        let nobody = self.count;
+        if !self.steps.is_empty() {
+            self.mark(ADMIN);
+        }
+        let mut at = 0;
+        while at < self.reached.len() {
+            let from = self.reached[at];
+            if from == ANYONE {
+                return vec![true; self.count];
+            }
+            self.marks_from(from, nobody);
+            at += 1;
+        }
+        self.marked.resize(self.count, false);
+        if let Some(admin) = self.marked.first_mut() {
+            *admin = true;
+        }
+        self.marked
     }
 
     /// Marks everyone one step from the principal `from`; true as soon as the

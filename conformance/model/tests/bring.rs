@@ -2,10 +2,11 @@
 
 mod common;
 
-use common::{buffer, returning, statuses, Server, DIRT, FORMER_FRESH, FORMER_SESSION, FRESH};
+use common::{
+    buffer, returning, shortest_names, statuses, Server, DIRT, FORMER_FRESH, FORMER_SESSION, FRESH,
+};
 use model::calls::{bring, Refusal};
 use model::engine::End;
-use model::names::keyword;
 use model::text::{decode, decode_former, BUFFER};
 
 /// The session, brought over.
@@ -158,19 +159,8 @@ fn ten_more_for_each_principal() {
 
 /// So many principals besides admin and anyone, of the shortest names.
 fn peopled(count: usize) -> String {
-    let letters: Vec<char> = ('a'..='z').chain('A'..='Z').collect();
-    let more = letters.iter().copied().chain('0'..='9').chain(['_']);
-    let second: Vec<char> = more.collect();
-    let pairs = letters.iter().flat_map(|first| {
-        let pair = move |second: &char| format!("{first}{second}");
-        second.iter().map(pair)
-    });
-    let names = letters.iter().map(char::to_string).chain(pairs);
-    let names = names.filter(|name| keyword(name.as_bytes()).is_none());
-    let lines: String = names
-        .take(count)
-        .map(|name| format!("P|{name}|\n"))
-        .collect();
+    let names = shortest_names(count);
+    let lines: String = names.iter().map(|name| format!("P|{name}|\n")).collect();
     format!("O|0\nP|admin|\nN|anyone\n{lines}D|anyone\n")
 }
 

@@ -210,9 +210,15 @@ fn length_by_text(text: &str, name: &str, variable: &str, right: &str) -> Option
     None
 }
 
+/// Questions are answered by the text's lines, and sheets by the questions.
 fn questions_are_answered(server: &Server) -> (usize, usize) {
     let text = server.text();
     let (mut yes, mut no) = (0, 0);
+    for variable in VARIABLES {
+        if text.contains(&format!("\nV|{variable}|")) {
+            server.sheet(variable);
+        }
+    }
     for name in PRINCIPALS {
         for variable in VARIABLES {
             for right in ["r", "w", "a", "d"] {

@@ -1,6 +1,6 @@
 //! The chain search on numbers, held to a search written down from the rules.
 
-use model::rights::{holdings, shortest, Assertion};
+use model::rights::{holders, holdings, shortest, Assertion};
 
 fn assertion(variable: u16, from: u16, right: u16, to: u16) -> Assertion {
     Assertion {
@@ -24,6 +24,18 @@ fn admin_has_the_empty_chain() {
     assert_eq!(shortest(&[], 2, 7, 3, 0), Some(0));
     assert_eq!(shortest(&[], 1, 0, 0, 0), Some(0));
     assert_eq!(shortest(&steps(&[(1, 0), (2, 0)]), 3, 0, 0, 0), Some(0));
+}
+
+#[test]
+fn holders_are_told_for_each_principal() {
+    assert_eq!(holders(&[], 0, 0, 0), []);
+    assert_eq!(holders(&[], 1, 0, 0), [true]);
+    assert_eq!(holders(&[], 3, 0, 0), [true, false, false]);
+    // By anyone everybody, also whom no assertion can name.
+    let standing = steps(&[(0, 1)]);
+    assert_eq!(holders(&standing, 200_000, 0, 0), vec![true; 200_000]);
+    let standing = steps(&[(0, 2), (9, 1), (3, 1)]);
+    assert_eq!(holders(&standing, 4, 0, 0), [true, false, true, false]);
 }
 
 #[test]
@@ -135,6 +147,11 @@ fn random_assertions() {
             .collect();
         for (variable, right) in [(0, 0), (1, 0), (2, 0), (0, 1), (2, 1), (3, 0)] {
             let expected = lengths(&standing, count, variable, right);
+            let held: Vec<bool> = expected.iter().map(Option::is_some).collect();
+            assert_eq!(
+                holders(&standing, usize::from(count), variable, right),
+                held
+            );
             for (principal, &expected) in expected.iter().enumerate() {
                 let length = shortest(&standing, usize::from(count), variable, right, principal);
                 assert_eq!(length, expected);

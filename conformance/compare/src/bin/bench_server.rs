@@ -11,6 +11,7 @@ use std::path::Path;
 use std::time::Duration;
 
 use compare::former::{former, padded, text};
+use compare::plans::shortest_names;
 use compare::server;
 use compare::timing::time;
 use model::calls;
@@ -234,6 +235,82 @@ fn bringing() -> Vec<Line> {
     ]
 }
 
+/// A line of the table for a sheet, and how long the question takes on the same state for the name that it takes longest for.
+struct SheetLine {
+    state: String,
+    line: Line,
+    question: Duration,
+}
+
+impl SheetLine {
+    fn relation(&self) -> String {
+        let times = self.line.proved.as_secs_f64() / self.question.as_secs_f64();
+        format!("{}: {times:.2} times ({:.1?} for the question)", self.state, self.question)
+    }
+}
+
+/// Both sides print the sheet into an output that holds it already: it is written whole each time. The worst of some names for the question is found
+/// by asking.
+fn sheet_line(name: &str, state: &[u8], variable: &str, names: &[&str]) -> SheetLine {
+    let x = variable.as_bytes();
+    let (mut ours, mut theirs) = (vec![1; BUFFER], vec![2; BUFFER]);
+    let listed = calls::sheet(state, &mut theirs, x).expect("a right call");
+    assert_eq!(server::sheet(state, &mut ours, x), server::Answer::Listed(listed), "{name}: the two sides differ");
+    assert!(ours == theirs, "{name}: the two sides differ");
+    let proved = time(|| {
+        black_box(server::sheet(black_box(state), &mut ours, x));
+        ours[0] as usize
+    });
+    let model = time(|| black_box(calls::sheet(black_box(state), &mut theirs, x)).map_or(0, |listed| listed.lines));
+    let questions = names.iter().flat_map(|name| b"rwad".map(|right| (name.as_bytes(), right)));
+    let question = questions.map(|(p, right)| {
+        time(|| {
+            black_box(server::ask(black_box(state), p, x, right));
+            0
+        })
+    });
+    let question = question.max().expect("a name");
+    SheetLine { state: name.to_string(), line: Line { name: format!("{name}: sheet"), proved, model }, question }
+}
+
+/// A state of so many principals with the shortest names, a variable x, and these assertions.
+fn crowd(count: usize, assertions: &str) -> Vec<u8> {
+    let people: String = shortest_names(count - 2).iter().map(|name| format!("P\t{name}\t\t0\n")).collect();
+    let state = padded(format!("O\nP\tadmin\t\t0\nN\tanyone\t0\n{people}D\tanyone\nV\tx\tS\t\n{assertions}").as_bytes());
+    assert!(model::text::decode(&state).is_some(), "not well formed");
+    state
+}
+
+/// 30 principals in a row from admin to anyone, and as many assertions as fit: from each to the next and to all before it, for each right, those of
+/// the far end first. A chain is up to 29 long, and each round marks one more.
+fn thicket() -> (Vec<u8>, usize) {
+    const COUNT: usize = 30;
+    let letters = shortest_names(COUNT - 2);
+    let row: Vec<&str> = ["admin"].into_iter().chain(letters.iter().map(String::as_str)).chain(["anyone"]).collect();
+    let steps = (0..COUNT).rev().flat_map(|from| (0..=from + 1).rev().filter(|to| *to < COUNT).map(move |to| (from, to)));
+    let (next, back): (Vec<_>, Vec<_>) = steps.partition(|(from, to)| from < to);
+    let entry = |from: usize, right: &str, to: usize| format!("A\tx\t{}\t{right}\t{}\n", row[from], row[to]);
+    let all = next.into_iter().chain(back).flat_map(|(from, to)| ["r", "w", "a", "d"].map(|right| entry(from, right, to)));
+    let assertions: Vec<String> = all.take((8_192 - 12 * COUNT - 2) / 4).collect();
+    (crowd(COUNT, &assertions.concat()), assertions.len())
+}
+
+/// What a sheet costs: of the session, of the venue, of as many principals as can be beside a variable, and of many assertions.
+fn sheets() -> Vec<SheetLine> {
+    let (fresh, programs) = session();
+    let mut lent = Buffers::new();
+    lent.state.copy_from_slice(&fresh);
+    calls::run(&mut lent.state, &mut lent.work, &mut lent.output, &programs[0]).expect("a right call");
+    let (venue, last) = venue(50);
+    let (thicket, assertions) = thicket();
+    vec![
+        sheet_line("session of 01, after the first program", &lent.state, "queue", &["rosa", "anyone"]),
+        sheet_line("venue of 300, chain of 50", &venue, "list", &[&last, "p299", "anyone"]),
+        sheet_line("634 principals, the most", &crowd(634, ""), "x", &["anyone", "jp"]),
+        sheet_line(&format!("{assertions} assertions, chain of 29"), &thicket, "x", &["anyone", "z", "B"]),
+    ]
+}
+
 /// How the line of concat stands to that of the plain `set`.
 fn relation(lines: &[Line]) -> String {
     let (plain, concat) = (&lines[0], &lines[1]);
@@ -294,7 +371,14 @@ fn main() {
     let relation = relation(&functions);
     lines.extend(functions);
     lines.extend(bringing());
-    let text = format!("{}\nThe session's first program takes {small:.1} times the time of clearing and copying. {relation}\n", table(&lines, clear));
+    let sheets = sheets();
+    let relations: String = sheets.iter().map(|sheet| format!("- {}\n", sheet.relation())).collect();
+    lines.extend(sheets.into_iter().map(|sheet| sheet.line));
+    let text = format!(
+        "{}\nThe session's first program takes {small:.1} times the time of clearing and copying. {relation}\n\n\
+         A sheet as a multiple of a question on the same state, for the name that the question takes longest for:\n\n{relations}",
+        table(&lines, clear)
+    );
     print!("{text}");
     if let Some(folder) = env::args().nth(1) {
         let path = Path::new(&folder).join("performance.md");

@@ -2,8 +2,9 @@
 //! buffers. State texts are written as in 01, a `|` for each tab.
 #![allow(dead_code)]
 
-use model::calls::{self, Refusal, Report};
+use model::calls::{self, Listed, Refusal, Report};
 use model::engine::End;
+use model::names::keyword;
 use model::parse::parse;
 use model::text::{decode, BUFFER};
 
@@ -212,6 +213,52 @@ impl Server {
         assert!(self.state == before);
         answer
     }
+
+    /// The sheet of a variable, and all that M-102 says of it: each principal
+    /// has its line of 40 bytes, with a letter exactly where the question is
+    /// answered yes, and zeros follow the last.
+    pub fn sheet(&self, variable: &str) -> String {
+        let mut output = vec![DIRT; BUFFER];
+        let listed = calls::sheet(&self.state, &mut output, variable.as_bytes());
+        let Listed { lines, bytes } = listed.expect("not refused");
+        assert!(output[bytes..] == ZEROS[bytes..]);
+        let text = String::from_utf8(output[..bytes].to_vec()).unwrap();
+        let names: Vec<String> = self.counts().into_iter().map(|(name, _)| name).collect();
+        assert_eq!((lines, bytes), (names.len(), 40 * names.len()));
+        let expected: String = names
+            .iter()
+            .map(|name| {
+                let holds = |right| self.ask(name, variable, right).unwrap().is_some();
+                let letters = b"rwad".map(|right| if holds(right) { right } else { b'.' });
+                sheet_line(name, std::str::from_utf8(&letters).unwrap())
+            })
+            .collect();
+        assert_eq!(text, expected);
+        text
+    }
+}
+
+/// So many names, the shortest that there are.
+pub fn shortest_names(count: usize) -> Vec<String> {
+    let letters: Vec<char> = ('a'..='z').chain('A'..='Z').collect();
+    let more = letters.iter().copied().chain('0'..='9').chain(['_']);
+    let second: Vec<char> = more.collect();
+    let pairs = letters.iter().flat_map(|first| {
+        let pair = move |second: &char| format!("{first}{second}");
+        second.iter().map(pair)
+    });
+    let names = letters.iter().map(char::to_string).chain(pairs);
+    let names = names.filter(|name| keyword(name.as_bytes()).is_none());
+    names.take(count).collect()
+}
+
+/// A line of a sheet, by the words of M-102.
+pub fn sheet_line(name: &str, rights: &str) -> String {
+    let shown = match name.len() {
+        0..=34 => name.to_string(),
+        _ => format!("{}~", &name[..33]),
+    };
+    format!("{shown:34} {rights}\n")
 }
 
 /// 01's keywords.

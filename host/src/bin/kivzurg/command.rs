@@ -4,7 +4,7 @@ use std::ffi::OsString;
 use std::io::{self, Write};
 use std::path::{Path, PathBuf};
 
-use crate::{bring, check, make, replay, run, show, who, why};
+use crate::{bring, check, make, replay, run, sheet, show, who, why};
 
 /// Done or yes; no; or what went wrong, in words.
 pub type Outcome = Result<bool, String>;
@@ -82,6 +82,18 @@ the right is not held. The names are the tool's own reading of FILE.",
         run: who::who,
     },
     Command {
+        name: "sheet",
+        words: &["FILE", "VARIABLE"],
+        takes_journal: false,
+        gist: "print a sheet for the wall: who may do what with a variable",
+        detail: "\
+One line of 40 bytes for each principal, in order of creation: the name in 34 columns, a space, and r, w, a, d (read, write, append, delegate), with
+a point where the right is missing. All of it is the server's answer. A name longer than 34 is cut to its first 33 characters and `~`, so that two
+long names may look alike; each has its own line. `who` prints names whole, and how long the chains are.
+A closed server has a sheet too. It holds no password.",
+        run: sheet::sheet,
+    },
+    Command {
         name: "why",
         words: &["FILE", "NAME", "VARIABLE", "RIGHT"],
         takes_journal: false,
@@ -137,6 +149,7 @@ An evening:
   kivzurg run venue.state --journal venue.journal < programs
   kivzurg show venue.state
   kivzurg who venue.state queue
+  kivzurg sheet venue.state queue | lpr
   kivzurg why venue.state rosa queue append
   kivzurg check venue.state next-program
   kivzurg replay venue.journal venue.state

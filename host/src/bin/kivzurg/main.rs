@@ -11,6 +11,7 @@ mod progress;
 mod reading;
 mod replay;
 mod run;
+mod sheet;
 mod show;
 mod stream;
 mod time;
