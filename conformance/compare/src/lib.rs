@@ -8,6 +8,7 @@ pub mod plans;
 pub mod programs;
 pub mod random;
 pub mod rights;
+pub mod seen;
 pub mod server;
 pub mod states;
 pub mod timing;

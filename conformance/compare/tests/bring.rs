@@ -4,22 +4,16 @@
 //!
 //!     FORMERS=1000000 SEED=7 cargo test --offline --release -p compare --test bring -- --nocapture
 
-use std::collections::BTreeMap;
-use std::env;
-use std::thread;
-
 use compare::damage::Damage;
 use compare::former::{former, padded, text, Form};
 use compare::plans::{Plan, Shape};
 use compare::random::Random;
+use compare::seen::{must_come, note, setting, side_by_side, Seen, WORKERS};
 use compare::server::{ask, bring, run, Answer};
 use compare::states::{self, figures, FIGURES};
 use model::calls;
 use model::state::HEAVIEST;
 use model::text::{decode, decode_former, BUFFER};
-
-/// How often each thing came.
-type Seen = BTreeMap<String, u64>;
 
 /// What must come: answers, what was brought over, and what was refused for what.
 const EXPECTED: [&str; 27] = [
@@ -29,10 +23,6 @@ const EXPECTED: [&str; 27] = [
     "11: new weight 8,194", "11: former weight 8,192", "11: more than 682 principals", "10: a state in the lines of now", "10: zeros",
     "2: former, whole", "2: former, damaged", "2: state, whole", "2: state, damaged", "2: both", "program and question afterwards",
 ];
-
-fn note(seen: &mut Seen, key: &str) {
-    *seen.entry(key.to_string()).or_default() += 1;
-}
 
 /// Brings over on both sides; the answer, and what stands in the second buffer.
 fn brought(former: &[u8], state: &[u8]) -> (Answer, Vec<u8>) {
@@ -179,27 +169,13 @@ fn formers(seed: u64, count: u64) -> Seen {
     seen
 }
 
-fn setting(name: &str, otherwise: u64) -> u64 {
-    env::var(name).ok().and_then(|text| text.parse().ok()).unwrap_or(otherwise)
-}
-
 /// Two runs side by side, and what they must have met together.
 #[test]
 fn former_states() {
     let (count, seed) = (setting("FORMERS", 60_000), setting("SEED", 20_261_119));
     println!("{count} former states, seed {seed}");
-    let mut seen = Seen::new();
-    let runs = thread::scope(|scope| {
-        let runs = [0, 1].map(|more| scope.spawn(move || formers(2 * seed + more, count / 2)));
-        runs.map(|run| run.join().expect("the same answers"))
-    });
-    for (key, times) in runs.into_iter().flatten() {
-        *seen.entry(key).or_default() += times;
-    }
-    seen.iter().for_each(|(key, times)| println!("{key}: {times}"));
-    for key in EXPECTED {
-        assert!(seen.contains_key(key), "never came: {key}");
-    }
+    let seen = side_by_side(|worker| formers(WORKERS * seed + worker, count / WORKERS));
+    must_come(&seen, &EXPECTED);
     for shape in Shape::ALL.iter().chain(&[Shape::FullWhenBrought]) {
         assert!(seen.contains_key(&format!("{shape:?}, whole")), "never came: {shape:?}");
     }

@@ -6,22 +6,18 @@
 //!
 //!     HISTORIES=1000000 SEED=7 cargo test --offline --release -p compare --test histories -- --nocapture
 
-use std::collections::BTreeMap;
-use std::env;
-use std::thread;
-
 use compare::former::{count, former, padded, recounted, text};
 use compare::histories::{next, opening, World, PRINCIPALS, VARIABLES};
 use compare::random::Random;
+use compare::seen::{must_come, note, setting, side_by_side, Seen, WORKERS};
 use compare::server::{ask, bring, make, run, sheet, Answer};
 use model::calls;
 use model::engine::End;
 use model::observe::{self, COUNTS, FUNCTIONS, MISHAPS, PLACES, SHAPES};
 use model::text::BUFFER;
 
-/// How often each status, each kind of end, each number, each answer, each form of a call and each mishap of one came, and what became of counts.
-type Seen = BTreeMap<String, u64>;
-
+/// What must come: each status, each kind of end, each number, each answer; beside them each form of a call and each mishap of one, and what becomes of
+/// counts, by the lists of `model::observe`.
 const STATUSES: [&str; 11] = [
     "CREATE_PRINCIPAL", "CHANGE_PASSWORD", "SET", "APPEND", "LOCAL", "FOREACH", "SET_DELEGATION", "DELETE_DELEGATION",
     "DEFAULT_DELEGATOR", "RETURNING", "EXITING",
@@ -37,10 +33,6 @@ const STARTS: [&str; 8] = [
     "counts set", "brought over", "brought over: Returned", "brought over: Exited", "brought over: Denied", "brought over: Failed", "brought over: Full",
     "bring 10",
 ];
-
-fn note(seen: &mut Seen, key: &str) {
-    *seen.entry(key.to_string()).or_default() += 1;
-}
 
 /// The lent buffers of one side.
 #[derive(Clone, PartialEq)]
@@ -244,39 +236,19 @@ fn history(seen: &mut Seen, random: &mut Random) {
     }
 }
 
-fn setting(name: &str, otherwise: u64) -> u64 {
-    env::var(name).ok().and_then(|text| text.parse().ok()).unwrap_or(otherwise)
-}
-
 #[test]
 fn histories() {
-    const THREADS: u64 = 2;
     let count = setting("HISTORIES", 20_000);
     let seed = setting("SEED", 20_261_115);
     println!("{count} histories, seed {seed}");
-    let workers: Vec<_> = (0..THREADS)
-        .map(|worker| {
-            thread::spawn(move || {
-                let mut seen = Seen::new();
-                for at in (worker..count).step_by(THREADS as usize) {
-                    history(&mut seen, &mut Random(seed.wrapping_mul(1_000_003).wrapping_add(at)));
-                }
-                seen
-            })
-        })
-        .collect();
-    let mut seen = Seen::new();
-    for worker in workers {
-        for (key, times) in worker.join().expect("a history that differs") {
-            *seen.entry(key).or_default() += times;
+    let seen = side_by_side(|worker| {
+        let mut seen = Seen::new();
+        for at in (worker..count).step_by(WORKERS as usize) {
+            history(&mut seen, &mut Random(seed.wrapping_mul(1_000_003).wrapping_add(at)));
         }
-    }
-    for (key, times) in &seen {
-        println!("{key}: {times}");
-    }
-    for key in STATUSES.iter().chain(&ENDS).chain(&NUMBERS).chain(&ANSWERS).chain(&STARTS).chain(&COUNTS).chain(&MISHAPS).chain(&SHAPES) {
-        assert!(seen.contains_key(*key), "{key} never came");
-    }
+        seen
+    });
+    must_come(&seen, STATUSES.iter().chain(&ENDS).chain(&NUMBERS).chain(&ANSWERS).chain(&STARTS).chain(&COUNTS).chain(&MISHAPS).chain(&SHAPES));
     for (function, place) in FUNCTIONS.iter().flat_map(|function| PLACES.map(|place| (function, place))) {
         assert!(seen.contains_key(&format!("{function} in {place}")), "{function} was never done in {place}");
     }

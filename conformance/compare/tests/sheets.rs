@@ -5,22 +5,18 @@
 //!     VENUES=1000000 SEED=7 cargo test --offline --release -p compare --test sheets -- --nocapture
 
 use std::collections::BTreeMap;
-use std::env;
-use std::thread;
 
 use compare::damage::Damage;
 use compare::former::{padded, text, Form};
 use compare::plans::{Plan, Shape};
 use compare::random::Random;
+use compare::seen::{must_come, note, setting, side_by_side, Seen, WORKERS};
 use compare::server::{ask, sheet, Answer};
 use compare::venues::Venue;
 use model::calls::{self, Listed};
 use model::rights::{holders, Assertion, Right, ADMIN};
 use model::state::State;
 use model::text::{decode, BUFFER};
-
-/// How often each thing came.
-type Seen = BTreeMap<String, u64>;
 
 /// What must come: of sheets, of the rights in them, and of refusals.
 const EXPECTED: [&str; 33] = [
@@ -31,10 +27,6 @@ const EXPECTED: [&str; 33] = [
     "number 1", "1 and all else wrong", "number 2", "2 and not well formed", "number 4", "4 and no such variable", "number 7", "7: a principal's name",
     "7: no name",
 ];
-
-fn note(seen: &mut Seen, key: &str) {
-    *seen.entry(key.to_string()).or_default() += 1;
-}
 
 /// The sheet by both sides, from an output of this size that held something else: the answer, and what stands in the output.
 fn compared(state: &[u8], size: usize, dirt: u8, variable: &[u8]) -> (Answer, Vec<u8>) {
@@ -227,25 +219,11 @@ fn venues(seed: u64, count: u64) -> Seen {
     seen
 }
 
-fn setting(name: &str, otherwise: u64) -> u64 {
-    env::var(name).ok().and_then(|text| text.parse().ok()).unwrap_or(otherwise)
-}
-
 /// Two runs side by side, and what they must have met together.
 #[test]
 fn sheets() {
     let (count, seed) = (setting("VENUES", 6_000), setting("SEED", 20_261_120));
     println!("{count} venues, seed {seed}");
-    let mut seen = Seen::new();
-    let runs = thread::scope(|scope| {
-        let runs = [0, 1].map(|more| scope.spawn(move || venues(2 * seed + more, count / 2)));
-        runs.map(|run| run.join().expect("the same sheets"))
-    });
-    for (key, times) in runs.into_iter().flatten() {
-        *seen.entry(key).or_default() += times;
-    }
-    seen.iter().for_each(|(key, times)| println!("{key}: {times}"));
-    for key in EXPECTED {
-        assert!(seen.contains_key(key), "never came: {key}");
-    }
+    let seen = side_by_side(|worker| venues(WORKERS * seed + worker, count / WORKERS));
+    must_come(&seen, &EXPECTED);
 }

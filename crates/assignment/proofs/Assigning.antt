@@ -34,7 +34,7 @@ use Rattle.store.specs.declared.index.Found.{Found}
 use Rattle.store.specs.declared.index.Found.the-variants.{At, Missing}
 use Rattle.store.proofs.Answers.{FoundVariable, variable-found, variable-missing, value-at}
 use Rattle.named_rights.specs.Numbers.{principalsOf, variables, numbered, Standing}
-use Rattle.named_rights.proofs.Few.{name-weighs}
+use Rattle.language.proofs.StateText.Least.{name-weighs}
 use Rattle.named_rights.proofs.Places.{position-lt}
 use Rattle.session.specs.declared.Layout.{Layout}
 use Rattle.session.specs.Sessions.{Slices, slices, Running}

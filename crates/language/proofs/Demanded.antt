@@ -19,7 +19,8 @@ use Rattle.language.specs.Decode.{Holds, decode}
 use Rattle.language.specs.Former.{FormerHolds, decodeFormer}
 use Rattle.language.specs.Programs.{parse}
 use Rattle.language.specs.Run.{End, refusal, completed, run, refusalLine, lineCount, output, left}
-use Rattle.language.specs.Calls.{Answer, wrong, ended, yes, no, ready, listed, Reply, refuse, Buffers, BringBuffers, SheetBuffers, bringOn, bringCall, sheetReply, sheetOn, sheetCall, sized, longestPassword, made, stateAfter, endReply, runOn, runCall, makeCall, askCall, lengthAnswer, question, rightByte, askOn}
+use Rattle.language.specs.Calls.{Answer, wrong, ended, yes, no, ready, listed, Reply, refuse, sized, longestPassword}
+use Rattle.language.specs.Calls.{Buffers, BringBuffers, SheetBuffers, bringOn, bringCall, sheetReply, sheetOn, sheetCall, made, stateAfter, endReply, runOn, runCall, makeCall, askCall, lengthAnswer, question, rightByte, askOn}
 use Rattle.language.specs.Demands.{Sent, Asked, Installed, Bringable, Listable, RunWrong, QuestionWrong, MakingWrong, BringingWrong, SheetWrong, endOf, Demand1, Demand2, Demands}
 use Rattle.language.proofs.Logic.Tests.{true-of, false-of}
 use Rattle.language.proofs.StateText.RoundTrip.{decode-holds}

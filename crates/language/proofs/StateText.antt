@@ -5,4 +5,5 @@ pub mod Lines
 pub mod Clean
 pub mod RoundTrip
 pub mod Formers
+pub mod Least
 pub mod Bound

@@ -2,39 +2,19 @@
 use mathlib.Core.Path.{_≡_, sym, ap, _∙_}
 use Prim.Native.Nat.{_+_, _*_, _≤_}
 use native.Mathlib.Omega.{arith}
-use mathlib.Core.List.{List, [], _∷_}
-use lib.Dec.{T, leb}
 use lib.ListN.{length, length-map}
 use lib.Seq.{length-take-le}
-use Rattle.language.specs.Text.{all, sum}
-use Rattle.language.specs.Identifiers.{isName}
-use Rattle.language.specs.State.{Principal, Variable, lastCount}
+use Rattle.language.specs.Text.{sum}
 use Rattle.language.specs.Weight.{principalWeight, variableWeight, assertionWeight}
 use Rattle.language.specs.Encode.{principalsText, variablesText}
-use Rattle.language.specs.Valid.{validVariable, validPrincipal, validPassword, validValue, validOrder}
 use Rattle.language.specs.Values.{Session}
-use Rattle.language.proofs.Logic.Tests.{both, three}
 use Rattle.language.proofs.StateText.Bound.{variables-bound}
-use Rattle.language.proofs.StateText.Clean.{name-length}
-use Rattle.language.proofs.StateText.Shape.{Shape, spelled, assertions-spelled}
-use Rattle.named_rights.proofs.Few.{at-least, name-weighs}
+use Rattle.language.proofs.StateText.Shape.{Shape, assertions-spelled}
+use Rattle.language.proofs.StateText.Least.{principals-weigh, variables-weigh, assertions-weigh, two-principals}
 use Rattle.session.specs.declared.Layout.{Layout}
 use Rattle.session.specs.Sessions.{Slices, Running}
 use Rattle.session.proofs.Scoping.{locals-valid}
 use Rattle.session.proofs.PrincipalsText.{principals-text}
-
-pub variables-two : (vs : List Variable) → T (all validVariable vs) → 2 * length vs ≤ sum variableWeight vs
-variables-two = at-least 2 validVariable variableWeight (λ w h. omega (arith, name-length (w .name) (both (isName (w .name)) (validValue (w .value)) h .0) .0))
-
-pub principals-twelve : (ks : List Principal) → T (all validPrincipal ks) → 12 * length ks ≤ sum principalWeight ks
-principals-twelve =
-    at-least 12 validPrincipal principalWeight (λ k h.
-    omega (arith, name-weighs (k .name) (three (isName (k .name)) (validPassword (k .password)) (leb (k .count) lastCount) h .0)))
-
-two-principals : (ks : List Principal) → T (validOrder ks) → 2 ≤ length ks
-two-principals [] h = absurd h
-two-principals (k ∷ []) h = absurd h
-two-principals (k ∷ m ∷ ks) h = omega arith
 
 module _ (s : Session) (l : Layout) (b : Slices) (R : Running s l b) where
   shaped : Shape (s .store)
@@ -69,23 +49,16 @@ module _ (s : Session) (l : Layout) (b : Slices) (R : Running s l b) where
     R .principals .counted,
     R .variables .counted,
     R .local-variables .counted,
-    principals-twelve (s .store .principals) (shaped .principals-valid),
-    variables-two (s .store .variables) (shaped .variables-valid),
-    variables-two (s .locals) (locals-valid s l b R),
+    principals-weigh (s .store .principals) (shaped .principals-valid),
+    variables-weigh (s .store .variables) (shaped .variables-valid),
+    variables-weigh (s .locals) (locals-valid s l b R),
   )
 
   pub principals-some : 2 ≤ l .principals
   principals-some = omega (arith, R .principals .counted, two-principals (s .store .principals) (shaped .order))
 
   pub assertions-few : 4 * l .asserted ≤ l .weight
-  assertions-few = omega (arith, weighs, counted, assertions-four)
+  assertions-few = omega (arith, weighs, counted, assertions-weigh (s .store .assertions) (assertions-spelled (s .store) shaped))
     where
       counted : l .asserted ≡ length (s .store .assertions)
       counted = sym (length-take-le (l .asserted) (b .assertions) (R .assertions .within)) ∙ ap length (R .assertions .are) ∙ length-map (s .store .assertions) _
-
-      assertions-four : 4 * length (s .store .assertions) ≤ sum assertionWeight (s .store .assertions)
-      assertions-four =
-          at-least 4 spelled assertionWeight (λ a h.
-          let (x, q, p) = three (isName (a .variable)) (isName (a .from)) (isName (a .to)) h in
-          omega (arith, name-length (a .variable) x .0, name-weighs (a .from) q, name-weighs (a .to) p))
-          (s .store .assertions) (assertions-spelled (s .store) shaped)

@@ -5,34 +5,26 @@ use mathlib.Core.Path.{_≡_, sym, ap, subst, _∙_}
 use Prim.Native.Nat.{ℕ, _≤_, _<_}
 use native.Mathlib.Omega.{arith}
 use mathlib.Core.Option.{Option}
-use mathlib.Core.List.{List, [], _∷_, map}
-use lib.Dec.{T, leb}
+use mathlib.Core.List.{List, map}
+use lib.Dec.{T}
 use lib.ListN.{length, length-map}
 use lib.Seq.{length-take-le}
 use Rattle.language.specs.Text.{Text, member, present}
 use Rattle.language.specs.Syntax.{Name}
 use Rattle.language.specs.State.{Principal, Value, Variable, Store}
-use Rattle.language.specs.Weight.{limit, storeWeight}
-use Rattle.language.specs.Valid.{validOrder, wellFormed, validStore}
-use Rattle.language.proofs.Logic.Tests.{both}
+use Rattle.language.specs.Valid.{validStore}
 use Rattle.language.proofs.StateText.Names.{valued-is}
 use Rattle.language.proofs.StateText.RoundTrip.{decode-holds}
-use Rattle.language.proofs.StateText.Shape.{shape}
 use Rattle.text.specs.Parts.{part}
 use Rattle.store.specs.Rows.{Rows, SomeRows, principalRow, variableRow, place}
 use Rattle.store.specs.declared.index.Found.the-variants.{At}
 use Rattle.store.proofs.Holders.{principals-rows, some-principals, variables-rows, some-variables}
 use Rattle.store.proofs.Answers.{FoundVariable, variable-found}
 use Rattle.named_rights.specs.Numbers.{principalsOf, variables, numbered}
-use Rattle.named_rights.proofs.Few.{few-names, few-variables, few-assertions}
+use Rattle.language.proofs.StateText.Least.{two-principals}
+use Rattle.named_rights.proofs.Few.{store-shape, few-names, few-variables, few-assertions}
 use Rattle.validate.specs.Checked.{Understood}
 use Rattle.validate.specs.declared.Parts.{Parts}
-
--- admin and anyone
-two-first : (ks : List Principal) → T (validOrder ks) → 1 < length ks
-two-first [] h = absurd h
-two-first (k ∷ []) h = absurd h
-two-first (k ∷ l ∷ rest) h = omega arith
 
 module _ {t : Text} {slots-p slots-v assertions : List ℕ} {m : Parts} (u : Understood t slots-p slots-v assertions m) where
   abbrev pub store : Store
@@ -48,9 +40,7 @@ module _ {t : Text} {slots-p slots-v assertions : List ℕ} {m : Parts} (u : Und
   few-everyone = omega (arith, everyone, few-names store store-valid)
 
   pub two-at-least : 1 < m .principals
-  two-at-least =
-      let w = both (wellFormed store) (leb (storeWeight store) limit) store-valid .0 in
-      omega (arith, u .represents .principals .counted, two-first (store .principals) (shape store w .order))
+  two-at-least = omega (arith, u .represents .principals .counted, two-principals (store .principals) (store-shape store store-valid .order))
 
   pub few-asserted : m .asserted ≤ 2048
   few-asserted =

@@ -32,7 +32,7 @@ use Rattle.store.proofs.Holders.{variable-text}
 use Rattle.edits.specs.Changes.{variableNames}
 use Rattle.edits.proofs.Putting as Putting
 use Rattle.values.specs.Encoding.{Holds}
-use Rattle.session.proofs.Room.{variables-two}
+use Rattle.language.proofs.StateText.Least.{variables-weigh}
 use Rattle.variable_text.specs.Puts.{Lies, Weighs, Extra, Became, Becomes}
 use Rattle.variable_text.specs.declared.Put.{Put}
 use Rattle.variable_text.specs.declared.Put.the-variants as Is
@@ -130,7 +130,7 @@ module _ {vs : List Variable} {buf : Text} {len count : ℕ} {slots : List ℕ} 
   -- ---- a variable more
 
   pub few : 2 * count ≤ total
-  few = omega (arith, variables-two vs (L .are-valid), L .held .counted, L .weight-within)
+  few = omega (arith, variables-weigh vs (L .are-valid), L .held .counted, L .weight-within)
 
   module _ (x : Name) (v : Value) (src : Text) (weight : ℕ) (N : T (isName x)) (W : Weighs v src weight) where
     pub added-room : total + 1 + length x + weight ≤ limit → (length buf ≤ 65536) × (len + 3 + length x + length src ≤ length buf) × (count < length slots)

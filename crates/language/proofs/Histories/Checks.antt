@@ -7,14 +7,20 @@ use mathlib.Core.Option.{Option, none, some}
 use lib.Dec.{T}
 use Rattle.language.specs.State.{Store}
 use Rattle.language.specs.Calls.{wrong, ready, Reply, refuse, checked, decoded}
-use Rattle.language.proofs.Logic.Tests.{false-of}
+use Rattle.language.proofs.Logic.Tests.{true-of, false-of}
 
-pub met : {Lent : Type 0} (lent : Lent) (t : Bool) (n : ℕ) (r : Reply Lent) → T t → checked lent t n r ≡ r
-met lent true n r h = refl
-met lent false n r h = absurd h
+module _ {Lent : Type 0} (lent : Lent) (t : Bool) (n : ℕ) (r : Reply Lent) where
+  pub passed : t ≡ true → r ≡ checked lent t n r
+  passed e = sym (ap (λ (c : Bool). checked lent c n r) e)
 
-pub unmet : {Lent : Type 0} (lent : Lent) (t : Bool) (n : ℕ) (r : Reply Lent) → ¬ T t → checked lent t n r ≡ refuse lent n
-unmet lent t n r h = ap (λ c. checked lent c n r) (false-of t h)
+  pub stopped : t ≡ false → refuse lent n ≡ checked lent t n r
+  stopped e = sym (ap (λ (c : Bool). checked lent c n r) e)
+
+  pub met : T t → checked lent t n r ≡ r
+  met h = sym (passed (true-of t h))
+
+  pub unmet : ¬ T t → checked lent t n r ≡ refuse lent n
+  unmet h = sym (stopped (false-of t h))
 
 not-ready : {n : ℕ} → wrong n ≡ ready → ⊥
 not-ready e = let z : _≡_ {A = ℕ} 0 1 = cc in omega arith

@@ -4,25 +4,24 @@ use mathlib.Core.Path.{_≡_, refl, sym, ap, subst, _∙_}
 use mathlib.Core.Logic.{_↔_}
 use Prim.Native.Nat.{ℕ, suc, _+_, _*_, _-_, _≤_}
 use native.Mathlib.Omega.{arith}
-use mathlib.Core.Bool.{Bool, true, false, _||_}
+use mathlib.Core.Bool.{Bool, true, false}
 use mathlib.Core.List.{List, [], _∷_, _++_, append-assoc}
 use lib.ListN.{length, take, drop, replicate, length-append, length-replicate}
 use lib.Seq.{length-take-le, take-at, drop-append-add}
 use lib.Dec.{T, leb, leb→le}
 use borrow.Author.Tests.{leb-true, leb-false}
 use Rattle.language.specs.Chains.{Chain, has}
-use Rattle.language.specs.Text.{Text, bytes, if_then_else_, _==_, all, sum, joined}
+use Rattle.language.specs.Text.{Text, bytes, if_then_else_, joined}
 use Rattle.language.specs.Syntax.{Name, Right, read, write, append, delegate}
-use Rattle.language.specs.State.{Principal, Store, lastCount, admin, anyone}
-use Rattle.language.specs.Identifiers.{isName}
-use Rattle.language.specs.Weight.{limit, nameWeight, principalWeight, storeWeight}
-use Rattle.language.specs.Valid.{validPassword, validPrincipal, wellFormed, validStore}
+use Rattle.language.specs.State.{Principal, Store}
+use Rattle.language.specs.Weight.{limit, storeWeight}
+use Rattle.language.specs.Valid.{wellFormed, validStore}
 use Rattle.language.specs.Encode.{letter, bufferSize, padded}
 use Rattle.language.specs.Sheet.{space, shownName, shownRight, shownLine, sheetLine, sheetText, lineSize, lineAt, cell}
 use Rattle.language.specs.Calls.{listed, Reply, SheetBuffers, sheetReply}
-use Rattle.language.specs.History.{Says, Sheeted}
-use Rattle.language.proofs.Logic.Tests.{both, three, true-of, false-of}
-use Rattle.language.proofs.StateText.Clean.{name-length}
+use Rattle.language.specs.History.{Shows, Sheeted}
+use Rattle.language.proofs.Logic.Tests.{both, true-of, false-of}
+use Rattle.language.proofs.StateText.Least.{principals-weigh}
 use Rattle.language.proofs.StateText.Shape.{shape}
 use Rattle.language.proofs.Histories.Offences.{right-is-chain}
 
@@ -97,24 +96,11 @@ module _ {A : Type 0} (f : A → Text) (n : ℕ) (same : (a : A) → length (f a
 pub sheet-length : (s : Store) (x : Name) → length (sheetText s x) ≡ lineSize * length (s .principals)
 sheet-length s x = joined-length (sheetLine s x) lineSize (λ k. line-40 (k .name) (λ r. has s r x (k .name))) (s .principals)
 
-name-weighs : (p : Name) → T (isName p) → 1 ≤ nameWeight p
-name-weighs p h = go ((p == admin) || (p == anyone)) (name-length p h .0)
-  where
-    go : (b : Bool) → 1 ≤ length p → 1 ≤ (if b then 1 else length p)
-    go true l = omega arith
-    go false l = l
-
-twelve : (ks : List Principal) → T (all validPrincipal ks) → 12 * length ks ≤ sum principalWeight ks
-twelve [] h = omega arith
-twelve (k ∷ ks) h =
-    let (v, r) = both (validPrincipal k) (all validPrincipal ks) h in
-    omega (arith, twelve ks r, name-weighs (k .name) (three (isName (k .name)) (validPassword (k .password)) (leb (k .count) lastCount) v .0))
-
 -- at most 682 principals, and 27,280 bytes
 pub sheet-fits : (s : Store) → T (validStore s) → lineSize * length (s .principals) ≤ 27280
 sheet-fits s v =
     let (w, l) = both (wellFormed s) (leb (storeWeight s) limit) v in
-    omega (arith, twelve (s .principals) (shape s w .principals-valid), leb→le (storeWeight s) limit l)
+    omega (arith, principals-weigh (s .principals) (shape s w .principals-valid), leb→le (storeWeight s) limit l)
 
 -- ---- what it says
 
@@ -162,8 +148,8 @@ module _ (s : Store) (v : T (wellFormed s)) (x : Name) where
         λ f. shown ∙ ap (λ (b : Bool). shownRight b r) (false-of (has s r x (k .name)) (λ t. let (n, c) = chains .0 t in f n c)),
       )
 
-  pub sheet-says : Says s x (padded (sheetText s x))
-  sheet-says = record {
+  pub sheet-shows : Shows s x (padded (sheetText s x))
+  sheet-shows = record {
     named = λ earlier later k e. ap (take 34) (line earlier later k e) ∙ line-name (k .name) (λ r. has s r x (k .name));
     letters = letter-shown;
     points = point-shown;
@@ -175,5 +161,5 @@ sheeted b {s} {x} v e = record {
   counts = ap (λ (k : Reply SheetBuffers). k .answer) e ∙ ap (listed (length (s .principals))) (sheet-length s x);
   fits = sheet-fits s v;
   page = ap (λ (k : Reply SheetBuffers). k .lent .output) e;
-  says = subst (λ (k : Reply SheetBuffers). Says s x (k .lent .output)) (sym e) (sheet-says s (both (wellFormed s) (leb (storeWeight s) limit) v .0) x);
+  shows = subst (λ (k : Reply SheetBuffers). Shows s x (k .lent .output)) (sym e) (sheet-shows s (both (wellFormed s) (leb (storeWeight s) limit) v .0) x);
 }

@@ -7,7 +7,8 @@ use Prim.Native.Nat.{ℕ, _-_}
 use native.Mathlib.Omega.{arith}
 use Rattle.language.specs.Run.{tallied, run}
 use Rattle.language.specs.Calls.{Buffers, endReply}
-use Rattle.opening.proofs.Checks.{checked-valid, checked-some-valid}
+use Rattle.opening.proofs.Checks.{checked-some-valid}
+use Rattle.validate.proofs.States.{store-valid}
 use Rattle.session.specs.Sessions.{Slices, slices, Running}
 use Rattle.parser.specs.Bodies.{bodyFrom}
 use Rattle.outcome.specs.Ends.{endOn, Ends}
@@ -45,9 +46,7 @@ left c = slices (c .perform .last .0) (c .perform .last .1 .0) (c .perform .last
 
 begins : (c : tie.After-begin) (a : Known (start-after-begin c)) → Running (opened (a .understood .state) (a .sent-by .opening)) (c .begin .result) (begun c)
 begins c a =
-    let start = start-after-begin c in
-    let g = start .args in
-    c .begin .ensures (a .understood .state) (sent (a .sent-by .opening) []) (a .understood .represents) (checked-valid (g .state .now) (g .principal-slots .now) (g .variable-slots .now) (g .assertions .now) (g .parts) (a .understood)) (a .sent-by .logged-in) (a .sent-by .numbered)
+    c .begin .ensures (a .understood .state) (sent (a .sent-by .opening) []) (a .understood .represents) (store-valid (a .understood)) (a .sent-by .logged-in) (a .sent-by .numbered)
 
 ends : (c : tie.After-perform) (a : Known (start-after-perform c)) → Ends (c .perform .result) (a .sent-by .opening .sender)
     (endOn (opened (a .understood .state) (a .sent-by .opening)) (bodyFrom (start-after-perform c .args .program .now) (start-after-perform c .args .at))) (left c) (start-after-perform c .args .output .now) (c .perform .last .1 .1 .1 .1 .1 .1 .1 .1 .1 .1 .1 .1 .0)
