@@ -74,7 +74,7 @@ pub fn decide(
     };
     let chain = named_rights::chain(assertions, parts.asserted, count, shared, code, number);
     match chain {
-        rights::Answer::Yes(n) => Answer::Yes(n),
-        rights::Answer::No => Answer::No,
+        chains::Answer::Yes(n) => Answer::Yes(n),
+        chains::Answer::No => Answer::No,
     }
 }

@@ -22,11 +22,11 @@ use Rattle.language.proofs.Meaning.Standing.{same-assertion, same-self}
 use Rattle.language.proofs.Rights.Search.{none-there, one-there}
 use Rattle.language.proofs.Rights.Denial.{Sound}
 use Rattle.language.proofs.Histories.Offences.{sound}
-use Rattle.rights.specs.Chain as N
-use Rattle.rights.specs.Chain.{Asked, asked, Answered}
+use Rattle.chains.specs.Chain as N
+use Rattle.chains.specs.Chain.{Asked, asked, Answered}
 use Rattle.assertion.specs.Packed.{fields}
-use Rattle.rights.specs.declared.Answer.{Answer}
-use Rattle.rights.specs.declared.Answer.the-variants.{Yes, No}
+use Rattle.chains.specs.declared.Answer.{Answer}
+use Rattle.chains.specs.declared.Answer.the-variants.{Yes, No}
 use Rattle.assertion.proofs.Packing.{fields-pack}
 use Rattle.named_rights.specs.Numbers.{code, four, numbered, principalsOf, variables, Standing, Asks, lengthOf}
 use Rattle.named_rights.proofs.Places.{position-lt, same-place, code-lt, same-code}

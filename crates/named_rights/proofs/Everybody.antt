@@ -9,8 +9,8 @@ use Rattle.language.specs.Syntax.{Name, Right}
 use Rattle.language.specs.State.{Store}
 use Rattle.language.specs.Valid.{validStore}
 use Rattle.language.specs.Chains.{chainLength}
-use Rattle.rights.specs.Chain.{Asked, asked}
-use Rattle.rights.specs.Rounds.{Everyone, answerOf}
+use Rattle.chains.specs.Chain.{Asked, asked}
+use Rattle.chains.specs.Rounds.{Everyone, answerOf}
 use Rattle.assertion.specs.Packed.{fields}
 use Rattle.named_rights.specs.Numbers.{principalsOf, Standing, Asks, AsksAll, lengthMarked}
 use Rattle.named_rights.proofs.Places.{member-at, position-own}

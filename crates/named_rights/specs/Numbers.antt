@@ -11,9 +11,9 @@ use Rattle.language.specs.State.{Assertion, Store}
 use Rattle.store.specs.Rows.{position}
 use Rattle.assertion.specs.Packed as N
 use Rattle.assertion.specs.Packed.{pack}
-use Rattle.rights.specs.Rounds.{answerOf}
-use Rattle.rights.specs.declared.Answer.{Answer}
-use Rattle.rights.specs.declared.Answer.the-variants.{Yes, No}
+use Rattle.chains.specs.Rounds.{answerOf}
+use Rattle.chains.specs.declared.Answer.{Answer}
+use Rattle.chains.specs.declared.Answer.the-variants.{Yes, No}
 
 abbrev pub code : Right → ℕ
 code read = 0

@@ -1,5 +1,5 @@
 // Whether a principal has a right, asked by numbers and answered for names. What the engine knows of chains it knows from here.
-use rights::Answer;
+use chains::Answer;
 ghost use mathlib.Core.Path.{_≡_};
 ghost use mathlib.Core.List.{map};
 ghost use Prim.Native.Nat.{_≤_, _<_};
@@ -24,7 +24,8 @@ pub fn chain(
     ensures { λ a. ⌜ ((s : Store) (r : Right) (x p : Name) → T (validStore s) → Standing s n (now (assertions .entry))
         → Asks s r x p count variable right principal → lengthOf a ≡ chainLength s r x p) ⌝ }
 {
-    rights::shortest(&assertions[0..n], count, variable as u16, right, principal)
+    let outcome = rights::shortest(&assertions[0..n], count, variable as u16, right, principal);
+    outcome.answer
 }
 
 // Whether there is one.
@@ -54,5 +55,5 @@ pub fn lengths(assertions: &[u64], n: usize, variable: usize, right: u16, marks:
         → AsksAll s r x (length (now (marks .entry))) variable right
         → map lengthMarked (now (marks .exit)) ≡ map (chainLength s r x) (principalsOf s)) ⌝ }
 {
-    rights::marking::lengths(&assertions[0..n], variable as u16, right, marks);
+    marking::lengths(&assertions[0..n], variable as u16, right, marks);
 }

@@ -1,9 +1,4 @@
-pub mod Passing
-pub mod Rounding
-pub mod Searching
-pub mod Turns
-pub mod Reaching
-pub mod Answers
+pub mod Beginning
+pub mod Leaving
 pub mod Again
 pub mod Laid
-mod Examples

@@ -11,7 +11,7 @@ use lib.ListN.{length, getD, take, drop, set, drop-of-length-le}
 use lib.Seq.{drop-cons, take-suc-set}
 use borrow.Author.Tests.{eq-eqb, ne-eqb}
 use Rattle.assertion.specs.Packed.{Assertion, fields, key, upper}
-use Rattle.search_steps.specs.Steps.{Delegation, delegations, handed, handedBy}
+use Rattle.search_steps.specs.Steps.{Delegation, delegations, handed}
 
 -- a delegation is its two numbers
 pub delegation-is : (x : Delegation) (q p : ℕ) → x .from ≡ q → x .to ≡ p → x ≡ record { from = q; to = p }
@@ -41,21 +41,14 @@ module _ (v w n : ℕ) (w-fits : w < 2 ^ 16) where
         | no other ↦ simp (ne-eqb (n / 2 ^ 48) v other)
       ]
 
-  -- it is kept at place k, or passed over
-  pub kept : (k : ℕ) (l : List Assertion) → k < length l → upper n ≡ key v w → map handed (take (k + 1) (set l k (fields n))) ≡ map handed (take k l) ++ delegations v w (fields n ∷ [])
-  kept k l room e =
-      ap (λ (j : ℕ). map handed (take j (set l k (fields n)))) (add-one k)
-      ∙ ap (map handed) (take-suc-set l k (fields n) room)
-      ∙ map-append handed (take k l) (fields n ∷ [])
-      ∙ ap (λ (t : List Delegation). map handed (take k l) ++ t) (sym (one-kept e))
-
-  -- the same of the number itself
-  pub kept-packed : (k : ℕ) (l : List ℕ) → k < length l → upper n ≡ key v w → map handedBy (take (k + 1) (set l k n)) ≡ map handedBy (take k l) ++ delegations v w (fields n ∷ [])
-  kept-packed k l room e =
-      ap (λ (j : ℕ). map handedBy (take j (set l k n))) (add-one k)
-      ∙ ap (map handedBy) (take-suc-set l k n room)
-      ∙ map-append handedBy (take k l) (n ∷ [])
-      ∙ ap (λ (t : List Delegation). map handedBy (take k l) ++ t) (sym (one-kept e))
+  -- it is kept at place k, in whatever form x it is kept, or passed over
+  pub kept : {A : Type 0} (f : A → Delegation) (x : A) → f x ≡ handed (fields n) → (k : ℕ) (l : List A) → k < length l → upper n ≡ key v w → map f (take (k + 1) (set l k x)) ≡ map f (take k l) ++ delegations v w (fields n ∷ [])
+  kept f x is k l room e =
+      ap (λ (j : ℕ). map f (take j (set l k x))) (add-one k)
+      ∙ ap (map f) (take-suc-set l k x room)
+      ∙ map-append f (take k l) (x ∷ [])
+      ∙ ap (λ (d : Delegation). map f (take k l) ++ (d ∷ [])) is
+      ∙ ap (λ (t : List Delegation). map f (take k l) ++ t) (sym (one-kept e))
 
   pub passed-over : (t : List Delegation) → (upper n ≡ key v w → ⊥) → t ≡ t ++ delegations v w (fields n ∷ [])
   passed-over t ne = sym (ap (λ (r : List Delegation). t ++ r) (none-kept ne) ∙ append-nil t)

@@ -3,7 +3,7 @@ use mathlib.Core.Path.{_≡_, refl, sym, ap, _∙_}
 use mathlib.Core.List.{List, [], _∷_}
 use mathlib.Core.Bool.{Bool, true, false, cond}
 use mathlib.Core.Logic.{_⊎_, inl, inr, ⊎-elim}
-use Prim.Native.Nat.{ℕ, zero, suc, _+_, _^_, _≤_, _<_}
+use Prim.Native.Nat.{ℕ, zero, suc, _+_, _≤_, _<_}
 use native.Mathlib.Decide.{ℕ-discrete}
 use native.Mathlib.Omega.{arith}
 use lib.Dec.{ltb, eqb}
@@ -124,8 +124,5 @@ module _ (d q p : ℕ) (l : List ℕ) where
   }
 
 -- a count so far, n, and what a call added to it, r
-pub total-fits : (n r l l′ l₀ k : ℕ) → n + l ≡ l₀ → r + l′ ≡ l → l₀ ≤ k → k ≤ 4096 → n + r < 2 ^ 64
-total-fits n r l l′ l₀ k e f g h = omega arith
-
 pub total : (n r l l′ l₀ : ℕ) → n + l ≡ l₀ → r + l′ ≡ l → n + r + l′ ≡ l₀
 total n r l l′ l₀ e f = omega arith

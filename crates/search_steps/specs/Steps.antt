@@ -1,12 +1,16 @@
 -- One step of the search by rounds, as functions on lists. A list of marks has an entry for each principal: how many steps lead there, or
 -- `unreached`.
 use mathlib.Core.Path.{_≡_}
-use mathlib.Core.List.{List, [], _∷_, map}
+use mathlib.Core.List.{List, [], _∷_, map, List·Memᴰ}
 use mathlib.Core.Bool.{Bool, true, false, cond}
 use Prim.Native.Nat.{ℕ, _+_}
 use lib.ListN.{length, getD, set}
 use lib.Dec.{ltb, eqb}
 use Rattle.assertion.specs.Packed.{Assertion, fields}
+
+infix 50 _∈_
+abbrev pub _∈_ : {A : Type 0} → A → List A → Type 0
+x ∈ l = List·Memᴰ x l
 
 -- what an assertion gives once variable and right are settled: who hands on, and to whom
 pub record Delegation : Type 0 where
@@ -60,8 +64,3 @@ left (x ∷ l) = one-if (eqb x unreached) + left l
 pub record Marks (old new last : List ℕ) (r : ℕ) : Type 0 where
   pub marks : last ≡ new
   pub counts : r + left last ≡ left old
-
--- the length to report for p after round d, which reached n, at the marks l: none if nobody was reached; d + 1 if p is; one more if
--- anyone is, who is a step from everybody; 0 while the search goes on
-abbrev pub lengthAfter : ℕ → ℕ → ℕ → List ℕ → ℕ
-lengthAfter n d p l = cond (eqb n 0) unreached (cond (eqb (getD l p 0) unreached) (cond (eqb (getD l 1 0) (d + 1)) (d + 2) 0) (d + 1))

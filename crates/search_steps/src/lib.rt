@@ -1,12 +1,12 @@
-// The steps of the search for a shortest chain (`rights`): the assertions that it goes over, gathered once; what a round does with one of
-// them; and what is to be reported after a round.
+// The steps of the search for a shortest chain (`rights`): the assertions that it goes over, gathered once, and what a round does with one
+// of them.
 use assertion::Assertion;
 ghost use mathlib.Core.Path.{_≡_};
 ghost use mathlib.Core.List.{map};
 ghost use Prim.Native.Nat.{_≤_, _<_};
 ghost use lib.ListN.{length, take};
 ghost use Rattle.assertion.specs.Packed.{fields};
-ghost use Rattle.search_steps.specs.Steps.{delegations, handed, lengthAfter, marked, Marks};
+ghost use Rattle.search_steps.specs.Steps.{delegations, handed, marked, Marks};
 
 pub mod tables; // what a marking of everyone begins and ends with
 
@@ -22,7 +22,7 @@ pub struct Gathered {
 // The assertions for a variable and a right, in order of entry: once for a search.
 pub fn gather(assertions: &[u64], variable: u16, right: u16) -> Gathered
     requires { ⌜ length (now assertions) ≤ 2048 ⌝ }
-    ensures { λ r. ⌜ (r .count ≤ 2048) × (map handed (take (r .count) (r .list)) ≡ delegations variable right (map fields (now (assertions .entry)))) ⌝ }
+    ensures { λ r. ⌜ (r .count ≤ length (now (assertions .entry))) × (map handed (take (r .count) (r .list)) ≡ delegations variable right (map fields (now (assertions .entry)))) ⌝ }
 {
     let none = Assertion {
         variable: 0,
@@ -68,23 +68,4 @@ pub fn mark(a: Assertion, d: u16, dist: &mut [u16]) -> usize
     }
     dist[p] = d + 1;
     1
-}
-
-// The length to report after round d, which reached n. Where nobody was reached there is no chain: UNREACHED. The rounds used to reach
-// the principal are the length of its shortest chain. Anyone is a step from everybody: where the round has reached anyone, the next
-// one reaches the principal, and need not be gone through. 0 while the search goes on.
-pub fn length_after(n: usize, d: u16, principal: usize, dist: &[u16]) -> u16
-    requires { ⌜ (d < 4096) × (principal < length (now dist)) × (1 < length (now dist)) ⌝ }
-    ensures { λ r. ⌜ r ≡ lengthAfter n d principal (now (dist .entry)) ⌝ }
-{
-    if n == 0 {
-        return UNREACHED;
-    }
-    if dist[principal] != UNREACHED {
-        return d + 1;
-    }
-    if dist[1] == d + 1 {
-        return d + 2;
-    }
-    0
 }

@@ -7,3 +7,4 @@ pub mod Limits
 pub mod Functions
 pub mod Counts
 pub mod Sheets
+pub mod Searches

@@ -4,7 +4,7 @@ use native.Mathlib.Nat.{sub-zero}
 use mathlib.Core.List.{List, map}
 use lib.ListN.{take}
 use borrow.Author.Needs.{needs}
-use Rattle.rights.specs.Chain.{asked, Answered}
+use Rattle.chains.specs.Chain.{asked, Answered}
 use Rattle.assertion.specs.Packed.{fields}
 use Rattle.named_rights.proofs.Chains.{says}
 use Rattle.named_rights.proofs.chain.Statement.{statement}
@@ -28,9 +28,9 @@ shortest-requires c κs = search needs
 returns : tie.Need-returns
 returns c s r x p v t k =
     let a = c .before .before .before .args in
-    says s r x p (a .n) (a .count) (a .variable) (a .right) (a .principal) (a .assertions .now) (c .shortest .result) v t k
-    (subst (λ (l : List ℕ). Answered (asked (map fields l) (a .count) (a .variable) (a .right)) (a .principal) (c .shortest .result))
-    (ap (λ (m : ℕ). take m (a .assertions .now)) (sub-zero (a .n))) (c .shortest .ensures))
+    says s r x p (a .n) (a .count) (a .variable) (a .right) (a .principal) (a .assertions .now) (c .shortest .result .answer) v t k
+    (subst (λ (l : List ℕ). Answered (asked (map fields l) (a .count) (a .variable) (a .right)) (a .principal) (c .shortest .result .answer))
+    (ap (λ (m : ℕ). take m (a .assertions .now)) (sub-zero (a .n))) (c .shortest .ensures .answer))
 
 pub chain-spec : {M : Type 1} → statement M
 chain-spec =

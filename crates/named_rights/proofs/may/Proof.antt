@@ -1,7 +1,7 @@
 use mathlib.Core.Path.{sym, ap, _∙_}
 use borrow.Author.Needs.{needs}
 use Rattle.language.specs.Text.{present}
-use Rattle.rights.specs.declared.Answer.{Answer}
+use Rattle.chains.specs.declared.Answer.{Answer}
 use Rattle.named_rights.specs.Numbers.{lengthOf}
 use Rattle.named_rights.proofs.may.Statement.{statement}
 use Rattle.named_rights.proofs.may.Tie as tie

@@ -76,7 +76,8 @@ loop-again c =
       at .inv .2,
       ap length e ∙ length-set (at .list) (at .n) (fields packed) ∙ at .inv .3,
       gathered-next (s .variable) (s .right) (at .i) (now (s .assertions)) _ held (map handed (take (c .if1 .n) (c .if1 .list))) (omega arith) (at .inv .4)
-          (ap (λ (k : ℕ). map handed (take k (c .if1 .list))) f ∙ ap (λ (l : List Assertion). map handed (take (at .n + 1) l)) e ∙ kept (s .variable) (s .right) packed fits (at .n) (at .list) (omega (arith, at .inv .3)) (sym (its .ensures) ∙ w .0 .taken ∙ wanted .ensures)),
+          (ap (λ (k : ℕ). map handed (take k (c .if1 .list))) f ∙ ap (λ (l : List Assertion). map handed (take (at .n + 1) l)) e
+          ∙ kept (s .variable) (s .right) packed fits handed (fields packed) refl (at .n) (at .list) (omega (arith, at .inv .3)) (sym (its .ensures) ∙ w .0 .taken ∙ wanted .ensures)),
     ))
     (λ w.
     let e : c .if1 .list ≡ at .list = w .1 in

@@ -6,7 +6,7 @@ use Rattle.language.specs.Calls as C
 use Rattle.language.specs.Calls.{rightByte, lengthAnswer}
 use Rattle.store.specs.Rows.{principalRow, variableRow, place}
 use Rattle.store.specs.declared.index.Found.the-variants.{At}
-use Rattle.rights.specs.declared.Answer.{Answer}
+use Rattle.chains.specs.declared.Answer.{Answer}
 use Rattle.named_rights.specs.Numbers.{code, lengthOf}
 use Rattle.validate.specs.Checked.{Understood}
 use Rattle.answers.specs.Answers.{rightCode}

@@ -10,7 +10,7 @@ use lib.ListN.{length, getD, take, drop, set, length-set}
 use denote.Ref.{now}
 use Rattle.assertion.specs.Packed.{fields, key, upper}
 use Rattle.search_steps.specs.Steps.{delegations, handedBy}
-use Rattle.search_steps.proofs.Gathering.{gathered-next, gathered-done, kept-packed, passed-over}
+use Rattle.search_steps.proofs.Gathering.{gathered-next, gathered-done, kept, passed-over}
 use Rattle.search_steps.proofs.tables.pick.Statement.{statement}
 use Rattle.search_steps.proofs.tables.pick.Tie as tie
 
@@ -73,7 +73,7 @@ loop-again c =
       omega (arith, size),
       size ∙ at .inv .3,
       gathered-next (s .variable) (s .right) (at .i) (now (s .assertions)) _ held (map handedBy (take (c .if1 .n) (c .if1 .picked))) (omega arith) (at .inv .4)
-          (ap (λ (k : ℕ). map handedBy (take k (c .if1 .picked))) f ∙ ap (λ (l : List ℕ). map handedBy (take (at .n + 1) l)) e ∙ kept-packed (s .variable) (s .right) packed fits (at .n) (at .picked) (omega arith) same),
+          (ap (λ (k : ℕ). map handedBy (take k (c .if1 .picked))) f ∙ ap (λ (l : List ℕ). map handedBy (take (at .n + 1) l)) e ∙ kept (s .variable) (s .right) packed fits handedBy packed refl (at .n) (at .picked) (omega arith) same),
     ))
     (λ w.
     let other : upper packed ≡ key (s .variable) (s .right) → ⊥ = λ g. omega (arith, its .ensures, w .0 .left, asked .ensures) in

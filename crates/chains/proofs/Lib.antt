@@ -1,0 +1,4 @@
+pub mod Passing
+pub mod Rounding
+pub mod Searching
+pub mod Answers
