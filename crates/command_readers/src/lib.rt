@@ -274,7 +274,7 @@ pub fn ending_at(text: &[u8], at: usize) -> CommandRead
         return CommandRead::Found(Command::Administer(Administration::Exit), a);
     }
     if tokens::reader::is_sign(text, s, b"return") {
-        let expr = syntax::expression_at(text, a);
+        let expr = expression_readers::expression_at(text, a);
         let ExprRead::Found(e, n) = expr else {
             return CommandRead::No;
         };

@@ -52,7 +52,7 @@ pub fn value_at(text: &[u8], at: usize, word: &[u8]) -> ExprRead
     let Next::At(a) = key else {
         return ExprRead::No;
     };
-    syntax::expression_at(text, a)
+    expression_readers::expression_at(text, a)
 }
 
 // A name and an expression.

@@ -20,8 +20,6 @@ use Rattle.syntax.specs.declared.FieldRead.{FieldRead}
 use Rattle.syntax.specs.declared.FieldRead.the-variants as FieldIs
 use Rattle.syntax.specs.declared.Function.{Function}
 use Rattle.syntax.specs.declared.Function.the-variants.{Split, Concat}
-use Rattle.syntax.specs.declared.FunctionRead.{FunctionRead}
-use Rattle.syntax.specs.declared.FunctionRead.the-variants as FunctionIs
 use Rattle.syntax.specs.declared.Expr.{Expr}
 use Rattle.syntax.specs.declared.Expr.the-variants.{Single, Empty, Record, Lower, Call}
 use Rattle.syntax.specs.declared.ExprRead.{ExprRead}
@@ -77,10 +75,6 @@ FieldPlaced t at FieldIs.No = Unit
 abbrev pub functionMeant : Function → Syntax.Function
 functionMeant Split = Syntax.split
 functionMeant Concat = Syntax.concat
-
-abbrev pub functionReadMeant : FunctionRead → Option Syntax.Function
-functionReadMeant (FunctionIs.Found f) = some (functionMeant f)
-functionReadMeant FunctionIs.No = none
 
 -- ---- expressions
 abbrev pub exprMeant : Text → Expr → Option Syntax.Expr

@@ -17,7 +17,7 @@ use Rattle.text.specs.Meaning.{part, Within}
 use Rattle.syntax.specs.declared.Expr as Read
 use Rattle.syntax.specs.Values.{exprMeant, ExprWithin, SomeExpr}
 use Rattle.tokens.proofs.Reading.{no-some}
-use Rattle.variables.specs.Commands.{Names}
+use Rattle.settlement.specs.Commands.{Names}
 
 -- k is the command f of the expression that o is
 pub record Said (o : Option Expr) (f : Expr → Command) (k : Command) : Type 0 where

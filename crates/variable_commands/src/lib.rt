@@ -42,7 +42,7 @@ pub fn act(
 {
     match c {
         VariableCommand::Set(x, e) => {
-            let v = variables::set(
+            let v = set_command::set(
                 principals,
                 principal_slots,
                 vars,
@@ -60,7 +60,7 @@ pub fn act(
             done(v, Status::Set)
         }
         VariableCommand::Append(x, e) => {
-            let v = variables::append(
+            let v = append_command::append(
                 principals,
                 principal_slots,
                 vars,
@@ -78,7 +78,7 @@ pub fn act(
             done(v, Status::Append)
         }
         VariableCommand::Local(x, e) => {
-            let v = variables::local(
+            let v = local_command::local(
                 principals,
                 principal_slots,
                 vars,

@@ -29,9 +29,9 @@ use Rattle.foreach.proofs.foreach.Reads as foreach-reads
 use Rattle.returning.proofs.value.Reads as value-reads
 use Rattle.status.proofs.done.Reads as done-reads
 use Rattle.status.proofs.given.Reads as given-reads
-use Rattle.variables.proofs.append.Reads as append-reads
-use Rattle.variables.proofs.local.Reads as local-reads
-use Rattle.variables.proofs.set.Reads as set-reads
+use Rattle.append_command.proofs.append.Reads as append-reads
+use Rattle.local_command.proofs.local.Reads as local-reads
+use Rattle.set_command.proofs.set.Reads as set-reads
 
 spoken : (c : tie.Start) (k : Read.VariableCommand) → c .args .c ≡ k → SomeCommand (c .args .text .now) (Variable k)
 spoken c k e = known (λ (d : Read.VariableCommand). SomeCommand (c .args .text .now) (Variable d)) (c .pre .1 .1 .0) e
@@ -82,7 +82,7 @@ local-requires c κs =
     let e = back-8 .c3 .given .0 .1 .0 in
     let S = spoken start (Is.Local x e) (back-8 .c3 .given .1) in
     let X = expr-of t e (local (part t x)) (isIdentifier (part t x)) (λ z. refl) (S .within .1) (S .command) (S .meant) (S .is-valid) in
-    (start .pre .0, (names (S .within .0) (X .0) (X .1) (start .pre .1 .1 .1), start .pre .1 .0 .0, start .pre .1 .0 .1))
+    (start .pre .0, (names (S .within .0) (X .0) (X .1) (start .pre .1 .1 .1), record { value-size = start .pre .1 .0 .0; labels-size = start .pre .1 .0 .1 }))
 
 done-requires-3 : tie.Need-done-requires-3
 done-requires-3 c κs = search needs
