@@ -26,7 +26,7 @@ extern "C" {
 #endif
 
 /* The version of this header and of what the functions answer. CHANGELOG.md says what changed. */
-#define KIVZURG_VERSION "0.5.0"
+#define KIVZURG_VERSION "0.5.1"
 
 /* The size of the state, of the work buffer and of the output. */
 #define KIVZURG_BUFFER 65536

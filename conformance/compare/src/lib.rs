@@ -3,6 +3,7 @@
 pub mod damage;
 pub mod former;
 pub mod histories;
+pub mod page;
 pub mod parser;
 pub mod plans;
 pub mod programs;
@@ -11,5 +12,6 @@ pub mod rights;
 pub mod seen;
 pub mod server;
 pub mod states;
+pub mod steps;
 pub mod timing;
 pub mod venues;

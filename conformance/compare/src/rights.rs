@@ -1,9 +1,9 @@
 //! The chain search of the crate `rights`, by what `rights_c` exports of it.
 
-use model::rights::Assertion;
+use model::rights::{Assertion, Outcome};
 
 extern "C" {
-    /// `standing` is a slice in Rattle: its pointer, then its length.
+    /// `standing` is a slice in Rattle: its pointer, then its length. The rounds begun are stored in `rounds`.
     fn rights_shortest(
         standing: *const u64,
         assertions: usize,
@@ -11,15 +11,27 @@ extern "C" {
         variable: u16,
         right: u16,
         principal: usize,
+        rounds: *mut u64,
     ) -> u64;
 }
 
-/// What the number for an answer says (crates/rights_c/specs/Reported.antt).
+/// What the number for an answer says (crates/rights_c/specs/Reported.antt), with the rounds begun. A search that is refused begins none.
 #[derive(Clone, Copy, PartialEq, Eq, Debug)]
 pub enum Answer {
-    Yes(usize),
-    No,
+    Found(Outcome),
     Refused,
+}
+
+impl Answer {
+    fn of(number: u64, rounds: u64) -> Answer {
+        let length = match number {
+            REFUSED => return Answer::Refused,
+            NO => None,
+            length => Some(length as usize),
+        };
+        let rounds = rounds as usize;
+        Answer::Found(Outcome { length, rounds })
+    }
 }
 
 const NO: u64 = 4096;
@@ -41,7 +53,19 @@ pub fn shortest(
     right: u16,
     principal: usize,
 ) -> Answer {
-    // The function reads `standing` and keeps nothing of it.
+    shortest_into(standing, count, variable, right, principal, &mut 0)
+}
+
+/// The same, with the number that is lent for the rounds: a refusal leaves it as it was.
+pub fn shortest_into(
+    standing: &[u64],
+    count: usize,
+    variable: u16,
+    right: u16,
+    principal: usize,
+    rounds: &mut u64,
+) -> Answer {
+    // The function reads `standing`, writes `rounds`, and keeps nothing of either.
     let number = unsafe {
         rights_shortest(
             standing.as_ptr(),
@@ -50,11 +74,8 @@ pub fn shortest(
             variable,
             right,
             principal,
+            rounds,
         )
     };
-    match number {
-        NO => Answer::No,
-        REFUSED => Answer::Refused,
-        length => Answer::Yes(length as usize),
-    }
+    Answer::of(number, *rounds)
 }

@@ -1,4 +1,4 @@
-//! How long a call takes.
+//! How long a call takes, and a line of a table of such times.
 
 use std::hint::black_box;
 use std::time::{Duration, Instant};
@@ -19,4 +19,23 @@ pub fn time(mut call: impl FnMut() -> usize) -> Duration {
         })
         .min()
         .unwrap()
+}
+
+/// What is timed, and how long both sides take for it.
+pub struct Line {
+    pub name: String,
+    pub proved: Duration,
+    pub model: Duration,
+}
+
+impl Line {
+    pub fn ratio(&self) -> f64 {
+        self.proved.as_secs_f64() / self.model.as_secs_f64()
+    }
+
+    /// Both times and their ratio, as a table has them.
+    pub fn times(&self) -> String {
+        let (proved, model) = (self.proved, self.model);
+        format!("{proved:.1?} | {model:.1?} | {:.2}", self.ratio())
+    }
 }

@@ -10,6 +10,8 @@
 //!     bring                          brings the former state over into the state's buffer; `bring-sized FORMER STATE` lends buffers of these sizes
 //!     run                            the lines up to `***` are the program; `run-sized STATE WORK OUTPUT` lends buffers of these sizes
 //!     ask NAME VARIABLE RIGHT        the question; `ask-sized N NAME VARIABLE RIGHT` on N bytes
+//!     search NAME VARIABLE RIGHT     the search alone, which also tells the rounds begun, in the numbers that the model's reading of the state gives; the
+//!                                    question beside it must say the same length
 //!     sheet VARIABLE                 the sheet of a variable, of the empty name where there is none; `sheet-sized STATE OUTPUT VARIABLE` with buffers of
 //!                                    these sizes; `sheet-gist VARIABLE` prints its first and last line, and how many lines have which rights
 //!     show                           the state's text and its weight, which each side tells by itself; `weigh` its weight and how many bytes it has
@@ -26,9 +28,35 @@ use std::path::{Path, PathBuf};
 use compare::server::{self, Answer};
 use compare::former::{padded, text};
 use compare::plans::shortest_names;
+use compare::rights::{self, pack};
 use compare::states::{self, FIGURES, WEIGHT};
 use model::calls;
+use model::rights::{Assertion, Outcome, Right};
 use model::text::{decode, BUFFER};
+
+/// What a search is asked, in numbers.
+struct Wanted {
+    standing: Vec<Assertion>,
+    count: usize,
+    variable: u16,
+    right: u16,
+    principal: usize,
+}
+
+impl Wanted {
+    /// The names and the right of a step, which the state has.
+    fn of(state: &[u8], words: &[&str]) -> Wanted {
+        let (state, _) = decode(state).expect("a well formed state");
+        let right = Right::of_letter(words[2].as_bytes()[0]).expect("a right");
+        Wanted {
+            standing: state.standing().to_vec(),
+            count: state.principals.count(),
+            variable: state.variables.find(words[1].as_bytes()).expect("a variable"),
+            right: right.number(),
+            principal: state.principals.find(words[0].as_bytes()).expect("a principal").into(),
+        }
+    }
+}
 
 /// One of the two sides.
 trait Side {
@@ -36,6 +64,7 @@ trait Side {
     fn bring(&self, former: &[u8], state: &mut [u8]) -> Answer;
     fn run(&self, state: &mut [u8], work: &mut [u8], output: &mut [u8], program: &[u8]) -> Answer;
     fn ask(&self, state: &[u8], name: &[u8], variable: &[u8], right: u8) -> Answer;
+    fn search(&self, wanted: &Wanted) -> Outcome;
     fn sheet(&self, state: &[u8], output: &mut [u8], variable: &[u8]) -> Answer;
     /// None where the state is not well formed.
     fn weight(&self, state: &[u8]) -> Option<usize>;
@@ -60,6 +89,14 @@ impl Side for Proved {
 
     fn ask(&self, state: &[u8], name: &[u8], variable: &[u8], right: u8) -> Answer {
         server::ask(state, name, variable, right)
+    }
+
+    fn search(&self, wanted: &Wanted) -> Outcome {
+        let packed: Vec<u64> = wanted.standing.iter().map(pack).collect();
+        match rights::shortest(&packed, wanted.count, wanted.variable, wanted.right, wanted.principal) {
+            rights::Answer::Found(found) => found,
+            rights::Answer::Refused => panic!("a search among {} principals is refused", wanted.count),
+        }
     }
 
     fn sheet(&self, state: &[u8], output: &mut [u8], variable: &[u8]) -> Answer {
@@ -103,6 +140,10 @@ impl Side for Model {
             Ok(None) => Answer::No,
             Err(refusal) => Answer::Wrong(refusal.number()),
         }
+    }
+
+    fn search(&self, wanted: &Wanted) -> Outcome {
+        model::rights::shortest(&wanted.standing, wanted.count, wanted.variable, wanted.right, wanted.principal)
     }
 
     fn sheet(&self, state: &[u8], output: &mut [u8], variable: &[u8]) -> Answer {
@@ -220,6 +261,15 @@ impl Play<'_> {
         self.say(step, answer, true);
     }
 
+    /// The search, and the question beside it, which has no rounds.
+    fn search(&mut self, step: &str, words: &[&str]) {
+        let found = self.side.search(&Wanted::of(&self.state, words));
+        let asked = self.side.ask(&self.state, words[0].as_bytes(), words[1].as_bytes(), words[2].as_bytes()[0]);
+        assert_eq!(asked, found.length.map_or(Answer::No, Answer::Yes), "the question beside {step}");
+        let answer = found.length.map_or("no".to_string(), |length| format!("yes {length}"));
+        writeln!(self.transcript, "{step}: {answer}, rounds begun {}", found.rounds).expect("a line");
+    }
+
     /// The sheet, empty where the call is refused, from an output that held other bytes. The state's never change.
     fn sheet(&mut self, step: &str, sizes: [usize; 2], variable: &str) -> String {
         let mut state = self.state.clone();
@@ -313,6 +363,7 @@ fn step<'a>(play: &mut Play, step: &str, lines: &mut impl Iterator<Item = &'a st
         }
         "ask" => play.ask(step, BUFFER, &words),
         "ask-sized" => play.ask(step, number(0), &words[1..]),
+        "search" => play.search(step, &words),
         "sheet" => play.sheet_whole(step, [BUFFER; 2], &rest),
         "sheet-sized" => play.sheet_whole(step, [number(0), number(1)], words.get(2).unwrap_or(&"")),
         "sheet-gist" => play.sheet_gist(step, &rest),

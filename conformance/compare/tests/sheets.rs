@@ -12,6 +12,7 @@ use compare::plans::{Plan, Shape};
 use compare::random::Random;
 use compare::seen::{must_come, note, setting, side_by_side, Seen, WORKERS};
 use compare::server::{ask, sheet, Answer};
+use compare::steps::has_ring;
 use compare::venues::Venue;
 use model::calls::{self, Listed};
 use model::rights::{holders, Assertion, Right, ADMIN};
@@ -77,19 +78,6 @@ fn names_observed(seen: &mut Seen, decoded: &State, lines: &[&[u8]]) {
     }
 }
 
-/// Whether among these steps some lead round, other than to oneself. Steps to where none goes on are taken away until none is left to take.
-fn has_ring(mut steps: Vec<&Assertion>) -> bool {
-    steps.retain(|step| step.from != step.to);
-    loop {
-        let before = steps.len();
-        let givers: Vec<u16> = steps.iter().map(|step| step.from).collect();
-        steps.retain(|step| givers.contains(&step.to));
-        if steps.len() == before {
-            return !steps.is_empty();
-        }
-    }
-}
-
 /// What is worth seeing in how one right on a variable is handed on.
 fn right_observed(seen: &mut Seen, decoded: &State, variable: u16, right: Right) {
     let count = decoded.principals.count();
@@ -100,7 +88,7 @@ fn right_observed(seen: &mut Seen, decoded: &State, variable: u16, right: Right)
     let mut tell = |is_so: bool, what: &str| is_so.then(|| note(seen, what));
     tell((0..count as u16).any(|p| has(p) && !is_given(p)), "right through anyone");
     tell(has(1) && !steps.iter().any(|step| (step.from, step.to) == (0, 1)), "right of anyone by a chain");
-    let idle: Vec<&Assertion> = steps.iter().filter(|step| !has(step.from) && !has(step.to)).copied().collect();
+    let idle: Vec<Assertion> = steps.iter().filter(|step| !has(step.from) && !has(step.to)).map(|step| **step).collect();
     tell(idle.iter().any(|step| step.from == step.to), "step to oneself without the right");
     tell(has_ring(idle), "ring without admin");
     // In order of entry, from admin, without anyone's steps.

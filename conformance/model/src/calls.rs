@@ -120,7 +120,8 @@ pub fn run(
 }
 
 /// The question whether a name holds a right on a shared variable: the length
-/// of a shortest chain, none where there is no chain.
+/// of a shortest chain, none where there is no chain. It does not tell the
+/// rounds of the search (02, M-103).
 pub fn ask(
     state: &[u8],
     name: &[u8],
@@ -138,13 +139,14 @@ pub fn ask(
         .find(variable)
         .ok_or(Refusal::UnknownVariableOrRight)?;
     let right = Right::of_letter(right).ok_or(Refusal::UnknownVariableOrRight)?;
-    Ok(rights::shortest(
+    let found = rights::shortest(
         state.standing(),
         state.principals.count(),
         variable,
         right.number(),
         usize::from(principal),
-    ))
+    );
+    Ok(found.length)
 }
 
 /// The sheet of a shared variable: the output then holds its lines and zeros.

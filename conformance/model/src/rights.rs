@@ -51,23 +51,49 @@ pub struct Assertion {
     pub to: u16,
 }
 
-/// The length of a shortest chain for the right on the variable from admin to
+/// What a search finds: the length of a shortest chain, none where there is
+/// no chain, and the rounds that were begun (02, M-103).
+#[derive(Clone, Copy, PartialEq, Eq, Debug)]
+pub struct Outcome {
+    pub length: Option<usize>,
+    pub rounds: usize,
+}
+
+impl Outcome {
+    /// The round in which the principal is marked is the last one begun.
+    fn yes(rounds: usize) -> Outcome {
+        Outcome {
+            length: Some(rounds),
+            rounds,
+        }
+    }
+
+    fn no(rounds: usize) -> Outcome {
+        Outcome {
+            length: None,
+            rounds,
+        }
+    }
+}
+
+/// The search for a shortest chain for the right on the variable from admin to
 /// the principal, among `count` principals. Assertions whose ends are no
-/// principals count for nothing.
+/// principals count for nothing. Admin is marked before the first round, and
+/// for a number that no principal has none is begun.
 pub fn shortest(
     standing: &[Assertion],
     count: usize,
     variable: u16,
     right: u16,
     principal: usize,
-) -> Option<usize> {
+) -> Outcome {
     if principal >= count {
-        return None;
+        return Outcome::no(0);
     }
     if principal == usize::from(ADMIN) {
-        return Some(0);
+        return Outcome::yes(0);
     }
-    Search::of(standing, count, variable, right).length(principal)
+    Search::of(standing, count, variable, right).rounds(principal)
 }
 
 /// For each of `count` principals whether a chain for the right on the
@@ -103,7 +129,7 @@ pub fn holdings(
     for about_one in asserted.chunk_by(|a, b| a.variable == b.variable) {
         search.clear();
         about_one.iter().for_each(|assertion| search.add(assertion));
-        if search.length(principal).is_some() {
+        if search.rounds(principal).length.is_some() {
             held.push(about_one[0].variable);
         }
     }
@@ -193,12 +219,12 @@ impl Search {
         true
     }
 
-    /// The rounds until the principal, not admin, is marked. Each round goes
-    /// on from those whom the round before it marked. Once it goes on from
-    /// anyone, everybody is one step further.
-    fn length(&mut self, principal: usize) -> Option<usize> {
+    /// The rounds until the principal, not admin, is marked, or until one has
+    /// marked nobody. Each round goes on from those whom the round before it
+    /// marked. Once it goes on from anyone, everybody is one step further.
+    fn rounds(&mut self, principal: usize) -> Outcome {
         if self.steps.is_empty() {
-            return None;
+            return Outcome::no(1);
         }
         self.mark(ADMIN);
         let mut start = 0;
@@ -209,12 +235,12 @@ impl Search {
             for at in start..end {
                 let from = self.reached[at];
                 if from == ANYONE || self.marks_from(from, principal) {
-                    return Some(rounds);
+                    return Outcome::yes(rounds);
                 }
             }
             start = end;
         }
-        None
+        Outcome::no(rounds)
     }
 
     /// Marks everyone whom a chain leads to. Once it goes on from anyone, that

@@ -108,6 +108,7 @@ impl<'a> Session<'a> {
             right.number(),
             usize::from(principal),
         )
+        .length
         .is_some()
     }
 

@@ -1,6 +1,18 @@
 //! The chain search on numbers, held to a search written down from the rules.
 
-use model::rights::{holders, holdings, shortest, Assertion};
+use model::rights::{holders, holdings, Assertion, Outcome};
+
+/// The length that the search finds; how many rounds it begins has its own
+/// tests below.
+fn shortest(
+    standing: &[Assertion],
+    count: usize,
+    variable: u16,
+    right: u16,
+    principal: usize,
+) -> Option<usize> {
+    model::rights::shortest(standing, count, variable, right, principal).length
+}
 
 fn assertion(variable: u16, from: u16, right: u16, to: u16) -> Assertion {
     Assertion {
@@ -98,6 +110,54 @@ fn cycles_and_steps_to_oneself_end() {
     assert_eq!(shortest(&standing, 6, 0, 0, 5), None);
 }
 
+/// What the search tells for variable 0 and right 0: the length, then the
+/// rounds begun.
+fn told(standing: &[Assertion], count: usize, principal: usize) -> (Option<usize>, usize) {
+    let found = model::rights::shortest(standing, count, 0, 0, principal);
+    (found.length, found.rounds)
+}
+
+#[test]
+fn rounds_of_a_yes_are_its_length() {
+    assert_eq!(told(&[], 1, 0), (Some(0), 0));
+    assert_eq!(told(&steps(&[(0, 2), (0, 1)]), 4, 0), (Some(0), 0));
+    let line = steps(&[(3, 4), (2, 3), (0, 2)]);
+    for (principal, length) in [(2, 1), (3, 2), (4, 3)] {
+        assert_eq!(told(&line, 5, principal), (Some(length), length));
+    }
+    // Anyone's step to everybody is taken in the round after anyone's own.
+    let open = steps(&[(0, 2), (2, 1)]);
+    assert_eq!(told(&open, 4, 1), (Some(2), 2));
+    assert_eq!(told(&open, 4, 3), (Some(3), 3));
+    assert_eq!(told(&open, 200_000, 199_999), (Some(3), 3));
+}
+
+#[test]
+fn rounds_of_a_no_are_one_more_than_the_longest() {
+    // Nobody but admin has the right: its length is 0.
+    assert_eq!(told(&[], 2, 1), (None, 1));
+    assert_eq!(told(&[assertion(1, 0, 0, 2)], 4, 2), (None, 1));
+    assert_eq!(told(&steps(&[(2, 3), (3, 2)]), 4, 3), (None, 1));
+    assert_eq!(told(&steps(&[(1, 2), (0, 0)]), 4, 3), (None, 1));
+    // A line of three, and a second way to its end.
+    assert_eq!(told(&steps(&[(3, 4), (2, 3), (0, 2)]), 6, 5), (None, 4));
+    let shorter = steps(&[(3, 4), (2, 3), (0, 2), (0, 4)]);
+    assert_eq!(told(&shorter, 6, 5), (None, 3));
+    // As long as a chain gets: all but the wanted name are on it.
+    let path: Vec<(u16, u16)> = std::iter::once((0, 2))
+        .chain((2..1_023).map(|from| (from, from + 1)))
+        .collect();
+    assert_eq!(told(&steps(&path), 1_024, 1), (None, 1_023));
+}
+
+#[test]
+fn no_round_is_begun_for_what_is_no_principal() {
+    let standing = steps(&[(0, 1), (0, 2)]);
+    for (count, principal) in [(0, 0), (1, 1), (2, 2), (3, usize::MAX)] {
+        assert_eq!(told(&standing, count, principal), (None, 0));
+    }
+}
+
 /// Everyone's length, by marking one step further until nothing is marked.
 fn lengths(standing: &[Assertion], count: u16, variable: u16, right: u16) -> Vec<Option<usize>> {
     let mut lengths = vec![None; usize::from(count)];
@@ -120,6 +180,18 @@ fn lengths(standing: &[Assertion], count: u16, variable: u16, right: u16) -> Vec
     lengths
 }
 
+/// What a search for a principal of these must tell, by how lengths and rounds
+/// are related and not by counting rounds (02, M-103): on a yes the length, on
+/// a no one more than the longest of everybody's shortest chains.
+fn related(lengths: &[Option<usize>], principal: usize) -> Outcome {
+    let length = lengths[principal];
+    let longest = lengths.iter().flatten().max().expect("admin's length");
+    Outcome {
+        length,
+        rounds: length.unwrap_or(longest + 1),
+    }
+}
+
 /// Numbers that look random and are the same each time.
 struct Numbers(u64);
 
@@ -135,7 +207,7 @@ impl Numbers {
 #[test]
 fn random_assertions() {
     let mut numbers = Numbers(0x1234_5678_9abc_def1);
-    let (mut yes, mut no) = (0, 0);
+    let (mut yes, mut no, mut late) = (0, 0, 0);
     for _ in 0..3_000 {
         let count = 1 + numbers.below(12);
         let standing: Vec<Assertion> = (0..numbers.below(40))
@@ -152,18 +224,22 @@ fn random_assertions() {
                 holders(&standing, usize::from(count), variable, right),
                 held
             );
-            for (principal, &expected) in expected.iter().enumerate() {
-                let length = shortest(&standing, usize::from(count), variable, right, principal);
-                assert_eq!(length, expected);
-                if length.is_some() {
-                    yes += 1;
-                } else {
-                    no += 1;
+            for principal in 0..usize::from(count) {
+                let wanted = related(&expected, principal);
+                let search = model::rights::shortest;
+                let found = search(&standing, usize::from(count), variable, right, principal);
+                assert_eq!(found, wanted);
+                match found.length {
+                    Some(_) => yes += 1,
+                    None => no += 1,
+                }
+                if found.length.is_none() && found.rounds > 2 {
+                    late += 1;
                 }
             }
         }
     }
-    assert!(yes > 10_000 && no > 10_000);
+    assert!(yes > 10_000 && no > 10_000 && late > 1_000);
 }
 
 #[test]

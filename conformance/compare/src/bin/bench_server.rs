@@ -11,25 +11,13 @@ use std::path::Path;
 use std::time::Duration;
 
 use compare::former::{former, padded, text};
+use compare::page;
 use compare::plans::shortest_names;
 use compare::server;
-use compare::timing::time;
+use compare::timing::{time, Line};
 use model::calls;
 use model::parse::LONGEST_PROGRAM;
 use model::text::BUFFER;
-
-/// A line of the table: what is timed, and how large it is.
-struct Line {
-    name: String,
-    proved: Duration,
-    model: Duration,
-}
-
-impl Line {
-    fn ratio(&self) -> f64 {
-        self.proved.as_secs_f64() / self.model.as_secs_f64()
-    }
-}
 
 struct Buffers {
     state: Vec<u8>,
@@ -185,7 +173,7 @@ fn measured() -> Vec<Line> {
     calls::run(&mut lent.state, &mut lent.work, &mut lent.output, &programs[0]).expect("a right call");
     lines.push(run_line("session of 01, second program", &lent.state, &programs[1]));
     lines.push(ask_line("question after the first program", &lent.state, "admin", "queue"));
-    for depth in [1, 5, 50] {
+    for depth in [1, 5, 50, 100] {
         let (state, last) = venue(depth);
         let text = program(&last, "s", &["return list".to_string()]);
         lines.push(run_line(&format!("venue of 300, chain of {depth}: a read"), &state, &text));
@@ -273,12 +261,22 @@ fn sheet_line(name: &str, state: &[u8], variable: &str, names: &[&str]) -> Sheet
     SheetLine { state: name.to_string(), line: Line { name: format!("{name}: sheet"), proved, model }, question }
 }
 
-/// A state of so many principals with the shortest names, a variable x, and these assertions.
-fn crowd(count: usize, assertions: &str) -> Vec<u8> {
+/// A state of so many principals with the shortest names, a variable x, and these assertions, where that is light enough.
+fn crowd(count: usize, assertions: &str) -> Option<Vec<u8>> {
     let people: String = shortest_names(count - 2).iter().map(|name| format!("P\t{name}\t\t0\n")).collect();
     let state = padded(format!("O\nP\tadmin\t\t0\nN\tanyone\t0\n{people}D\tanyone\nV\tx\tS\t\n{assertions}").as_bytes());
-    assert!(model::text::decode(&state).is_some(), "not well formed");
-    state
+    model::text::decode(&state).is_some().then_some(state)
+}
+
+/// The longest chain that fits, from admin to anyone through all principals, and how long it is: a marking of everyone goes over all of it in each round.
+fn longest_chain() -> (Vec<u8>, usize) {
+    let chain = |count: usize| {
+        let letters = shortest_names(count - 2);
+        let row: Vec<&str> = ["admin"].into_iter().chain(letters.iter().map(String::as_str)).chain(["anyone"]).collect();
+        let assertions: String = row.windows(2).map(|pair| format!("A\tx\t{}\tr\t{}\n", pair[0], pair[1])).collect();
+        crowd(count, &assertions).map(|state| (state, count - 1))
+    };
+    (2..634).rev().find_map(chain).expect("a chain that fits")
 }
 
 /// 30 principals in a row from admin to anyone, and as many assertions as fit: from each to the next and to all before it, for each right, those of
@@ -292,21 +290,24 @@ fn thicket() -> (Vec<u8>, usize) {
     let entry = |from: usize, right: &str, to: usize| format!("A\tx\t{}\t{right}\t{}\n", row[from], row[to]);
     let all = next.into_iter().chain(back).flat_map(|(from, to)| ["r", "w", "a", "d"].map(|right| entry(from, right, to)));
     let assertions: Vec<String> = all.take((8_192 - 12 * COUNT - 2) / 4).collect();
-    (crowd(COUNT, &assertions.concat()), assertions.len())
+    (crowd(COUNT, &assertions.concat()).expect("a light state"), assertions.len())
 }
 
-/// What a sheet costs: of the session, of the venue, of as many principals as can be beside a variable, and of many assertions.
+/// What a sheet costs: of the session, of the venue, of as many principals as can be beside a variable, of the longest chain, and of many assertions.
 fn sheets() -> Vec<SheetLine> {
     let (fresh, programs) = session();
     let mut lent = Buffers::new();
     lent.state.copy_from_slice(&fresh);
     calls::run(&mut lent.state, &mut lent.work, &mut lent.output, &programs[0]).expect("a right call");
     let (venue, last) = venue(50);
+    let (chain, steps) = longest_chain();
     let (thicket, assertions) = thicket();
+    let most = crowd(634, "").expect("a light state");
     vec![
         sheet_line("session of 01, after the first program", &lent.state, "queue", &["rosa", "anyone"]),
         sheet_line("venue of 300, chain of 50", &venue, "list", &[&last, "p299", "anyone"]),
-        sheet_line("634 principals, the most", &crowd(634, ""), "x", &["anyone", "jp"]),
+        sheet_line("634 principals, the most", &most, "x", &["anyone", "jp"]),
+        sheet_line(&format!("chain of {steps}, the longest"), &chain, "x", &["anyone", "z"]),
         sheet_line(&format!("{assertions} assertions, chain of 29"), &thicket, "x", &["anyone", "z", "B"]),
     ]
 }
@@ -322,7 +323,7 @@ fn relation(lines: &[Line]) -> String {
 fn table(lines: &[Line], clear: Duration) -> String {
     let mut text = String::from("| work | server | model | ratio |\n|---|---|---|---|\n");
     for line in lines {
-        writeln!(text, "| {} | {:.1?} | {:.1?} | {:.2} |", line.name, line.proved, line.model, line.ratio()).expect("a line");
+        writeln!(text, "| {} | {} |", line.name, line.times()).expect("a line");
     }
     writeln!(text, "| clearing three lent buffers and copying one | {clear:.1?} | | |").expect("a line");
     text
@@ -354,15 +355,6 @@ fn plot(lines: &[Line]) -> String {
     text + "</svg>\n"
 }
 
-/// The page with the table between its marks written anew.
-fn page(old: &str, text: &str) -> String {
-    const BEGIN: &str = "<!-- figures -->\n";
-    const END: &str = "<!-- end of figures -->";
-    let (before, rest) = old.split_once(BEGIN).expect("a line that says where the figures begin");
-    let (_, after) = rest.split_once(END).expect("a line that says where they end");
-    format!("{before}{BEGIN}{text}{END}{after}")
-}
-
 fn main() {
     let clear = clearing();
     let mut lines = measured();
@@ -381,9 +373,7 @@ fn main() {
     );
     print!("{text}");
     if let Some(folder) = env::args().nth(1) {
-        let path = Path::new(&folder).join("performance.md");
-        let old = fs::read_to_string(&path).expect("the page");
-        fs::write(&path, page(&old, &text)).expect("the page is written");
+        page::write(&Path::new(&folder).join("performance.md"), "figures", &text);
         fs::write(Path::new(&folder).join("performance.svg"), plot(&lines)).expect("the plot is written");
     }
 }
