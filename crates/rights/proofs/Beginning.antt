@@ -105,7 +105,7 @@ going-first ys n p b pos lt ready = record {
     other : (q : ℕ) → q < n → (q ≡ 0 → ⊥) → getD b q 0 ≡ unreached
     other q q-in ne = marked-as q q-in ∙ start-other n some q q-in ne
 
-module _ (ys : List Assertion) (n p : ℕ) (few : n ≤ 4096) (lines : length ys ≤ 2048) (lt : p < n) (d : ℕ) (B : List ℕ) where
+module _ (ys : List Assertion) (n p : ℕ) (few : n ≤ 4096) (lt : p < n) (d : ℕ) (B : List ℕ) where
   abbrev s : List Delegation
   s = map handed ys
 

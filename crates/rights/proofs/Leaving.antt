@@ -91,7 +91,7 @@ module _ (ys : List Assertion) (n p : ℕ) (few : n ≤ 4096) (lines : length ys
       g = w .going
 
       low-d : d < 4096
-      low-d = small ys n p few lines lt d B g
+      low-d = small ys n p few lt d B g
 
       pop : Popped (w .rest) u
       pop = popped (w .rest) u (w .turns)
@@ -132,8 +132,8 @@ module _ (ys : List Assertion) (n p : ℕ) (few : n ≤ 4096) (lines : length ys
           let h = told .hit two in
           let good : Good a d D = g .good a f c in record {
             chain = subst (Chain a (d + 1)) (h .1) (reached-by (h .0) a f c);
-            least = λ k ch. elim (decLe (d + 1) k) [ yes l ↦ l | no l ↦ absurd (omega (arith, good .complete ch (omega arith), none-marked ys n p few lines lt d B g)) ];
-            short = omega (arith, room ys n p few lines lt d B g);
+            least = λ k ch. elim (decLe (d + 1) k) [ yes l ↦ l | no l ↦ absurd (omega (arith, good .complete ch (omega arith), none-marked ys n p few lt d B g)) ];
+            short = omega (arith, room ys n p few lt d B g);
           }
 
       pub within-marked : r ≡ 2 → getD e′ p 0 ≡ unreached → ⊥
@@ -224,7 +224,7 @@ module _ (ys : List Assertion) (n p : ℕ) (few : n ≤ 4096) (lines : length ys
           ]
 
       pub within-fits : (r ≡ 2 → ⊥) → m + r < 2 ^ 64
-      within-fits other = omega (arith, moved other .counts, w .counts, left-le D, cut ys n p few lines lt d B g)
+      within-fits other = omega (arith, moved other .counts, w .counts, left-le D, cut ys n p few lt d B g)
 
       -- the round goes on
       pub within-next : (r ≡ 2 → ⊥) → (i′ : ℕ) → i′ ≡ following n e′ i → Within ys n p d B u i′ (m + r) e′
@@ -295,7 +295,7 @@ module _ (ys : List Assertion) (n p : ℕ) (few : n ≤ 4096) (lines : length ys
           (w .covered k (there .1) (omega arith) (ap (λ (z : ℕ). getD B z 0) is-from ∙ sym (getD-take n B j 0 j-n) ∙ has))
 
       other-marked : getD D 1 0 ≡ d → ⊥
-      other-marked f = w .not-anyone (sym (getD-take n B 1 0 (omega (arith, room ys n p few lines lt d B start-of))) ∙ f)
+      other-marked f = w .not-anyone (sym (getD-take n B 1 0 (omega (arith, room ys n p few lt d B start-of))) ∙ f)
 
       -- it reached nobody: there is no chain to p, and the longest of the shortest chains has d steps
       module _ (nobody : m ≡ 0) where
@@ -304,17 +304,17 @@ module _ (ys : List Assertion) (n p : ℕ) (few : n ≤ 4096) (lines : length ys
 
         pub within-never : Whoever s n (λ a. (k : ℕ) → Chain a k p → ⊥)
         within-never a f c k ch =
-            all-marked a d D (small ys n p few lines lt d B start-of) (start-of .good a f c) other-marked (take n e) (w .ext a f c) (all-covered a f c) unchanged ch (none-marked ys n p few lines lt d B start-of)
+            all-marked a d D (small ys n p few lt d B start-of) (start-of .good a f c) other-marked (take n e) (w .ext a f c) (all-covered a f c) unchanged ch (none-marked ys n p few lt d B start-of)
 
         pub within-longest : Whoever s n (λ a. Longest a d)
         within-longest a f c =
             let good : Good a d D = start-of .good a f c in
-            let low-d : d < 4096 = small ys n p few lines lt d B start-of in
+            let low-d : d < 4096 = small ys n p few lt d B start-of in
             let k : ℕ = start-of .top .who in
             let k-in : k < a .count = omega (arith, start-of .top .is-one) in
             let has : getD D k 0 ≡ d = getD-take n B k 0 (start-of .top .is-one) ∙ start-of .top .has in record {
               who = k;
-              theirs = subst (Shortest a k) has (shortest-marked a d D low-d good k k-in (omega (arith, room ys n p few lines lt d B start-of)) (λ o. omega (arith, low-d)));
+              theirs = subst (Shortest a k) has (shortest-marked a d D low-d good k k-in (omega (arith, room ys n p few lt d B start-of)) (λ o. omega (arith, low-d)));
               most = λ v j sh.
                   let b = good .sound v (chain-in (sh .chain)) (all-marked a d D low-d good other-marked (take n e) (w .ext a f c) (all-covered a f c) unchanged (sh .chain)) in
                   omega (arith, b .0, sh .least (getD D v 0) (b .1));
@@ -332,6 +332,6 @@ module _ (ys : List Assertion) (n p : ℕ) (few : n ≤ 4096) (lines : length ys
           none = w .none;
           top = ⊎-elim (λ h. absurd (some (h .0))) (λ h. h .1) (w .top);
           low = w .low;
-          good = λ a f c. good-next a d D (small ys n p few lines lt d B start-of) (start-of .good a f c) other-marked (take n e) (w .ext a f c) (all-covered a f c);
+          good = λ a f c. good-next a d D (small ys n p few lt d B start-of) (start-of .good a f c) other-marked (take n e) (w .ext a f c) (all-covered a f c);
           front = record { next = w .next; walk = w .next-walk; whole = w .next-whole; kept = w .kept };
         }

@@ -327,7 +327,7 @@ module _ {v : Args} (w : Places v) where
 
     loops₂ : (getD Z 1 0 ≡ d → ⊥) → (i : ℕ) (zs : List ℕ) → (i ≡ nextRound N Z) × (zs ≡ set Z (3 * N) no-assertion) → ent 𝓤 (⋆ 𝓤 H A (In w d 0 i zs)) (Wp 𝓤 H C Λ (En w) (loop parts.turn-1) Left₂)
     loops₂ other i zs told =
-        let start = within-first ys N p (pre .1) (pre .0) (pre .3) d Z g other i zs (told .0) (told .1) in
+        let start = within-first ys N p (pre .1) (pre .3) d Z g other i zs (told .0) (told .1) in
         via 𝓤 (Inv₂ (start .0)) (into₂ (start .0) 0 i zs (start .1))
         (loop-rule 𝓤 H (W .laws) 𝓣 _<_ (Nat·lt-wfRel .wf) (En w) parts.turn-1 Left₂ Inv₂ turns₂ (start .0))
 
@@ -392,7 +392,7 @@ module _ {v : Args} (w : Places v) where
               open-to-all r us one (same ∙ here)
               (searched-yes (D v) N p (d + 1) (getD us p 0) (pre .3)
               (λ h. omega (arith, small, h, ap (λ (l : List ℕ). getD l p 0) (told .opens one .1) ∙ getD-set-same Z p (d + 1) 0 (omega (arith, g .sized, pre .3))))
-              (going-open ys N p (pre .1) (pre .0) (pre .3) d Z g (told .opens one .0)))
+              (going-open ys N p (pre .1) (pre .3) d Z g (told .opens one .0)))
           | no ne ↦
               subst (λ (l : List ℕ). ent 𝓤 (⋆ 𝓤 H A (Spreadd w d r l)) (Wp 𝓤 H C Λ (En w) after-spread Q)) (sym (told .shuts ne .1)) (shut-to-all r ne (told .shuts ne .0))
         ]
