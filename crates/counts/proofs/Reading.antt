@@ -16,13 +16,13 @@ use Rattle.language.specs.Encode.{newline}
 use Rattle.language.specs.Decode.{number}
 use Rattle.language.proofs.Logic.Tests.{both}
 use Rattle.language.proofs.StateText.Clean.{decimal-number}
+use Rattle.language.proofs.StateText.Digits.{decimal-digits}
 use Rattle.store.specs.Rows.{startOf, principalRow}
 use Rattle.store.specs.Contents.{principalAt}
 use Rattle.store.proofs.Records.{all-at}
 use Rattle.contents.specs.Contents.{CountAt}
 use Rattle.lines.specs.Cuts.{isDigit, Digits}
 use Rattle.lines.proofs.Cuts.{unique}
-use Rattle.lines.proofs.Decimals.{decimal-digits}
 use Rattle.counts.specs.Counted.{Counted}
 
 module _ (ks : List Principal) (t : Text) (k : ℕ) (valid : T (all validPrincipal ks)) (below : k < length ks) (s : ℕ) (C : CountAt ks t k s) where

@@ -15,10 +15,10 @@ use Rattle.language.specs.State.{lastCount}
 use Rattle.language.specs.Encode.{headText}
 use Rattle.language.specs.Former.{formerHead}
 use Rattle.language.proofs.StateText.Clean.{decimal-number}
+use Rattle.language.proofs.StateText.Digits.{decimal-digits}
 use Rattle.language.specs.Decode.{number}
 use Rattle.lines.specs.Cuts.{Digits, isDigit}
 use Rattle.lines.proofs.Cuts.{unique}
-use Rattle.lines.proofs.Decimals.{decimal-digits}
 use Rattle.record_fields.specs.Sections.{Reads, Fails, anyText}
 use Rattle.record_fields.proofs.Opening.{twice, tail-of, byte-here, next-here, inside}
 use Rattle.frame.specs.Edges.{fineHead, Top, topText, fineTop, FormerTop, total}

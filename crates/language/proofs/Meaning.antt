@@ -1,4 +1,5 @@
 -- Commands and programs keep a state valid.
+pub mod Prices
 pub mod ValidValues
 pub mod Standing
 pub mod Adding
@@ -10,3 +11,5 @@ pub mod Sent
 pub mod Weights
 pub mod Printed
 pub mod LineCounts
+-- the rounded quotient
+pub mod Rounding

@@ -2,6 +2,7 @@
 pub mod Names
 pub mod Shape
 pub mod Lines
+pub mod Digits
 pub mod Clean
 pub mod RoundTrip
 pub mod Formers

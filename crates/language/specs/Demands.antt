@@ -138,7 +138,8 @@ pub record Demand1 : Type 0 where
 
 -- ---- Demand 2
 --
--- For every program on every open state the lines and the state are those that document 01 defines.
+-- For every program on every open state the lines and the state are those that document 01 defines, as the requests change it: this demand
+-- and the third follow the language (request M-104).
 
 pub record Demand2 : Type 0 where
   pub lines : (b : Buffers) (program : Text) (s : Store) → Sent b s → runCall b program .lent .output ≡ padded (output (endOf s program))

@@ -1,13 +1,14 @@
--- Request M-100: what the functions make of values, where these are strings.
+-- Requests M-100 and M-104: what the functions make of values, where these are strings, and of prices.
 use Prim.Native.Nat.{ℕ, _+_}
 use mathlib.Core.Option.{Option, some}
 use mathlib.Core.List.{[], _∷_, _++_, map}
 use lib.ListN.{length, take, drop}
 use Rattle.language.specs.Text.{Text, bytes, if_then_else_, _>>=_}
 use Rattle.language.specs.Bytes.{between}
-use Rattle.language.specs.Syntax.{Function, split, concat}
+use Rattle.language.specs.Syntax.{Operation, Function, split, concat, arithmetic}
 use Rattle.language.specs.State.{Value, single, string, fields}
 use Rattle.language.specs.Values.{asString}
+use Rattle.language.specs.Prices.{price, priceText, reckoned}
 
 abbrev pub lowerByte : ℕ → ℕ
 lowerByte b = if between "A" "Z" b then b + 32 else b
@@ -21,12 +22,20 @@ lowercase v = do
 abbrev pub cut : Text → ℕ → Value
 cut t n = single (fields (record { label = bytes "fst"; text = take n t } ∷ record { label = bytes "snd"; text = drop n t } ∷ []))
 
-abbrev pub onStrings : Function → Text → Text → Value
-onStrings split t u = cut t (length u)
-onStrings concat t u = single (string (t ++ u))
+abbrev pub onPrices : Operation → Text → Text → Option Value
+onPrices o t u = do
+  a ← price t
+  b ← price u
+  c ← reckoned o a b
+  some (single (string (priceText c)))
+
+abbrev pub onStrings : Function → Text → Text → Option Value
+onStrings split t u = some (cut t (length u))
+onStrings concat t u = some (single (string (t ++ u)))
+onStrings (arithmetic o) t u = onPrices o t u
 
 abbrev pub apply : Function → Value → Value → Option Value
 apply f v w = do
   t ← asString v
   u ← asString w
-  some (onStrings f t u)
+  onStrings f t u

@@ -1,4 +1,4 @@
--- Document 01, "Program text", and request M-100 for functions: the grammar of one line, as readers of its tokens.
+-- Document 01, "Program text", and requests M-100 and M-104 for functions: the grammar of one line, as readers of its tokens.
 use Prim.Native.Nat.{ℕ, zero, suc}
 use Prim.Native.String.{String}
 use mathlib.Core.Option.{Option, none, some}
@@ -6,7 +6,7 @@ use mathlib.Core.List.{List, [], _∷_}
 use lib.ListN.{length}
 use Rattle.language.specs.Text.{Text, bytes, if_then_else_, _==_, _orElse_}
 use Rattle.language.specs.Tokens.{Token, sign, ident, text, wrong}
-use Rattle.language.specs.Syntax.{Name, Right, read, write, append, delegate, Operand, name, dot, quoted, Binding, Function, split, concat, Expr, single, nothing, fields, tolower, call}
+use Rattle.language.specs.Syntax.{Name, Right, read, write, append, delegate, Operand, name, dot, quoted, Binding, Operation, add, sub, times, per, Function, split, concat, arithmetic, Expr, single, nothing, fields, tolower, call}
 use Rattle.language.specs.Syntax.{Target, every, only, Command, create-principal, change-password, set, append-to, local, foreach, set-delegation, delete-delegation, default-delegator, exit, return}
 
 -- A reader takes what it reads from the front of the tokens.
@@ -74,12 +74,25 @@ anyFields (suc n) = do
   v ← anyOperand
   (do the "}"; give (record { label = x; operand = v } ∷ [])) ∣ (do the ","; rest ← anyFields n; give (record { label = x; operand = v } ∷ rest))
 
+-- the operation on two prices that a keyword names
+abbrev pub operationOf : Text → Option Operation
+operationOf w =
+    if w == bytes "add" then some add
+    else if w == bytes "sub" then some sub
+    else if w == bytes "times" then some times
+    else if w == bytes "per" then some per
+    else none
+
+abbrev pub functionFor : Option Operation → Option Function
+functionFor none = none
+functionFor (some o) = some (arithmetic o)
+
 -- the function of two values that a keyword names
 abbrev pub functionOf : Text → Option Function
 functionOf w =
     if w == bytes "split" then some split
     else if w == bytes "concat" then some concat
-    else none
+    else functionFor (operationOf w)
 
 abbrev pub ahead : {A : Type 0} → Option A → Reader A
 ahead none ts = none

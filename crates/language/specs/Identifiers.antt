@@ -1,7 +1,7 @@
--- Document 01, "Program text": identifiers, keywords and strings.
+-- Document 01, "Program text", and request M-104: identifiers, keywords and strings.
 use Prim.Native.Nat.{ℕ}
 use mathlib.Core.Bool.{Bool, false, _&&_, not}
-use mathlib.Core.List.{List, [], _∷_, map}
+use mathlib.Core.List.{List, [], _∷_, _++_, map}
 use lib.ListN.{length}
 use lib.Dec.{leb}
 use Rattle.language.specs.Text.{Text, bytes, all, member}
@@ -14,9 +14,14 @@ baseKeywords = map bytes (
     ∷ "exit" ∷ "foreach" ∷ "in" ∷ "local" ∷ "password" ∷ "principal" ∷ "read" ∷ "replacewith" ∷ "return" ∷ "set" ∷ "to"
     ∷ "write" ∷ "split" ∷ "concat" ∷ "tolower" ∷ "notequal" ∷ "equal" ∷ "filtereach" ∷ "with" ∷ "let" ∷ [])
 
--- the keywords of programs. A language that grows adds its words here, and states keep the names that they hold.
+-- the operations on prices (request M-104)
+abbrev pub priceKeywords : List Text
+priceKeywords = map bytes ("add" ∷ "sub" ∷ "times" ∷ "per" ∷ [])
+
+-- The keywords of programs. A language that grows adds its words here. A state keeps the older names and labels that it holds, and no program
+-- can write them.
 abbrev pub keywords : List Text
-keywords = baseKeywords
+keywords = baseKeywords ++ priceKeywords
 
 abbrev pub isString : Text → Bool
 isString t = all stringByte t

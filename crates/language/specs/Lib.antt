@@ -21,6 +21,8 @@ pub mod Chains
 -- "Values" and "Commands"
 pub mod Values
 pub mod Outcomes
+-- prices, request M-104
+pub mod Prices
 pub mod Functions
 pub mod Expressions
 pub mod Output

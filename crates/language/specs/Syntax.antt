@@ -1,4 +1,4 @@
--- Document 01, "Program text", and request M-100: the abstract syntax of expressions, commands and programs.
+-- Document 01, "Program text", and requests M-100 and M-104: the abstract syntax of expressions, commands and programs.
 use mathlib.Core.Bool.{Bool, true, false}
 use mathlib.Core.List.{List, [], _∷_}
 use Rattle.language.specs.Text.{Text}
@@ -41,9 +41,14 @@ pub record Binding : Type 0 where
   pub label : Name
   pub operand : Operand
 
+-- the operations on two prices (request M-104)
+pub data Operation : Type 0 where
+  add sub times per : Operation
+
 -- the functions of two values (request M-100)
 pub data Function : Type 0 where
   split concat : Function
+  arithmetic : Operation → Function
 
 pub data Expr : Type 0 where
   single : Operand → Expr

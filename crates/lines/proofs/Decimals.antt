@@ -9,11 +9,12 @@ use mathlib.Core.List.{[], _∷_, _++_}
 use lib.Dec.{T, leb, leb→le, le→leb, ltb, lit≤}
 use lib.ListN.{length, getD, drop, length-append, length-drop, List·getD-append}
 use lib.Seq.{drop-cons, length-take-le, getD-take, getD-drop}
-use borrow.Author.Tests.{le-ltb, lt-ltb, ltb-true, ltb-false, lt-leb}
+use borrow.Author.Tests.{le-ltb, lt-ltb, ltb-false, lt-leb}
 use Rattle.language.specs.Text.{Text, if_then_else_, all, digits, decimal}
 use Rattle.language.specs.Decode.{number}
-use Rattle.language.proofs.Logic.Tests.{both, and, all-append, true-of, and-false}
+use Rattle.language.proofs.Logic.Tests.{both, and, true-of, and-false}
 use Rattle.language.proofs.StateText.Clean.{decimal-number, digits-length, number-append}
+use Rattle.language.proofs.StateText.Digits.{decimal-digits}
 use Rattle.lines.specs.Cuts.{isDigit, Field, Worth, Digits}
 use Rattle.text.specs.Parts.{part}
 use Rattle.lines.proofs.Cuts.{unique}
@@ -39,24 +40,6 @@ pub number-step : (n : ℕ) (w : Text) (i : ℕ) → i < length w → number n (
 number-step n w i h = rw (add-one, drop-cons w i 0 h)
 
 -- ---- the digits of a number
-
-abbrev Within : ℕ → ℕ → Type 0
-Within zero n = n < 10
-Within (suc k) n = Within k (n / 10)
-
-digits-all : (k n : ℕ) → Within k n → T (all isDigit (digits k n))
-digits-all zero n h = and (isDigit (48 + n)) true (range-digit (48 + n) (omega arith) (omega arith)) tt
-digits-all (suc k) n h = go (ltb n 10) refl (digits-all k (n / 10) h)
-  where
-    go : (c : Bool) → ltb n 10 ≡ c → T (all isDigit (digits k (n / 10))) → T (all isDigit (if c then (48 + n) ∷ [] else digits k (n / 10) ++ ((48 + n % 10) ∷ [])))
-    go true e r = let l : n < 10 = ltb-true n 10 e in and (isDigit (48 + n)) true (range-digit (48 + n) (omega arith) (omega arith)) tt
-    go false e r = all-append isDigit (digits k (n / 10)) ((48 + n % 10) ∷ []) r (and (isDigit (48 + n % 10)) true (range-digit (48 + n % 10) (omega arith) (omega arith)) tt)
-
-within : (n : ℕ) → n ≤ 4294967295 → Within 9 n
-within n h = omega arith
-
-pub decimal-digits : (n : ℕ) → n ≤ 4294967295 → T (all isDigit (decimal n))
-decimal-digits n h = digits-all 9 n (within n h)
 
 digits-some : (k n : ℕ) → 0 < length (digits k n)
 digits-some zero n = lit≤ tt

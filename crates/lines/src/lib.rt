@@ -77,7 +77,7 @@ fn is_name(w: &[u8]) -> bool
     if !is_letter(w[0]) {
         return false;
     }
-    !keywords::is_keyword(w)
+    !keywords::is_base_keyword(w)
 }
 
 // A name that `stop` ends.

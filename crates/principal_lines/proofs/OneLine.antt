@@ -19,12 +19,12 @@ use Rattle.language.specs.Decode.{number}
 use Rattle.language.specs.Former.{Form, current, former, principalIn, principalWeightIn, validPrincipalIn}
 use Rattle.language.proofs.Logic.Tests.{both, and, three, and-three, not-not}
 use Rattle.language.proofs.StateText.Clean.{decimal-number}
+use Rattle.language.proofs.StateText.Digits.{decimal-digits}
 use Rattle.text.specs.Meaning.{inAlphabet}
 use Rattle.text.specs.declared.Alphabet.the-variants.{Text as Text'}
 use Rattle.text.specs.Parts.{part}
 use Rattle.lines.specs.Cuts.{Field, Digits, isDigit}
 use Rattle.lines.proofs.Cuts.{unique, only, name-only}
-use Rattle.lines.proofs.Decimals.{decimal-digits}
 use Rattle.record_fields.specs.Sections.{Reads, Fails, lightOne, One, Entitled, anyText, opens}
 use Rattle.record_fields.proofs.Opening.{twice, tail-of, byte-here, next-here, part-length}
 use Rattle.record_fields.proofs.Sorts.{inner-fails, inner-reads, any-weaker}

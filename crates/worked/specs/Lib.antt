@@ -8,3 +8,4 @@ pub mod Functions
 pub mod Counts
 pub mod Sheets
 pub mod Searches
+pub mod Prices

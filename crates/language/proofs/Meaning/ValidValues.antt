@@ -10,21 +10,23 @@ use lib.Dec.{T, leb, leb→le, le→leb, ltb, nltb→le, lit≤}
 use Rattle.language.specs.Syntax as E
 use Rattle.language.specs.Text.{Text, if_then_else_, _==_, any, all, each, distinct, present}
 use Rattle.language.specs.Bytes.{_is_, _∈_, between, letter, digit, space, newline, foreign, mark, marks, inString, stringByte}
-use Rattle.language.specs.Syntax.{Name, Operand, name, dot, quoted, Binding, Function, split, concat, Expr, nothing}
+use Rattle.language.specs.Syntax.{Name, Operand, name, dot, quoted, Binding, Operation, Function, split, concat, arithmetic, Expr, nothing}
 use Rattle.language.specs.State.{Field, Element, string, fields, Value, single, list, Variable, named, valueIn}
 use Rattle.language.specs.Identifiers.{isIdentifier, isName, isString}
 use Rattle.language.specs.Weight.{limit, valueWeight}
 use Rattle.language.specs.Valid.{validField, validFields, validElement, validValue, validVariable}
 use Rattle.language.specs.Outcomes.{gives, fills, from}
 use Rattle.language.specs.Values.{Session, lookup, asFields, asString, asList, asElement, textOf, operandValue, fieldValue, recordValue}
-use Rattle.language.specs.Functions.{lowerByte, lowercase, cut, onStrings, apply}
+use Rattle.language.specs.Functions.{lowerByte, lowercase, cut, onPrices, onStrings, apply}
+use Rattle.language.specs.Prices.{inRange, price, reckoned}
 use Rattle.language.specs.Expressions.{isHeavy, weighed, value}
 use Rattle.language.specs.Commands.{withElement, replaced}
 use Rattle.language.proofs.Parsing.ValidPrograms.{validOperand, validBinding, validExpr}
 use Rattle.language.proofs.Logic.Tests.{both, and, and-three, three, all-map, map-all, all-append, all-take, all-drop}
-use Rattle.language.proofs.Logic.Outcomes.{Where, bind-where, if-where, orElse-where, each-where}
+use Rattle.language.proofs.Logic.Outcomes.{Where, anything, bind-where, if-where, orElse-where, each-where}
 use Rattle.language.proofs.Logic.Giving.{Giving, giving-map, bind-giving, from-giving, bind-from}
 use Rattle.language.proofs.StateText.Shape.{Shape}
+use Rattle.language.proofs.Meaning.Prices.{reckoned-in-range, price-string}
 use Rattle.language.proofs.StateText.Clean.{identifier-name}
 
 abbrev pub holding : Variable → Bool
@@ -106,14 +108,22 @@ cut-valid t n h =
     and (isString (take n t) && (isString (drop n t) && true)) true
     (and (isString (take n t)) (isString (drop n t) && true) (all-take stringByte n t h) (and (isString (drop n t)) true (all-drop stringByte n t h) tt)) tt
 
+-- the text of a price is a string
+prices-valid : (o : Operation) (t u : Text) → Where IsValid (onPrices o t u)
+prices-valid o t u =
+    bind-where (λ a. Unit {0}) IsValid (price t) _ (anything (price t)) (λ a h.
+    bind-where (λ b. Unit {0}) IsValid (price u) _ (anything (price u)) (λ b k.
+    bind-where (λ c. T (inRange c)) IsValid (reckoned o a b) _ (reckoned-in-range o a b) (λ c l. price-string c l)))
+
 apply-valid : (f : Function) (v w : Value) → IsValid v → IsValid w → Where IsValid (apply f v w)
 apply-valid f v w h k =
     bind-where (λ t. T (isString t)) IsValid (asString v) _ (string-valid v h) (λ t i.
     bind-where (λ u. T (isString u)) IsValid (asString w) _ (string-valid w k) (λ u j. go f t u i j))
   where
-    go : (f : Function) (t u : Text) → T (isString t) → T (isString u) → IsValid (onStrings f t u)
+    go : (f : Function) (t u : Text) → T (isString t) → T (isString u) → Where IsValid (onStrings f t u)
     go split t u i j = cut-valid t (length u) i
     go concat t u i j = all-append stringByte t u i j
+    go (arithmetic o) t u i j = prices-valid o t u
 
 -- ---- weight
 

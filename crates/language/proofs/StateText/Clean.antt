@@ -7,14 +7,15 @@ use native.Mathlib.Omega.{arith}
 use mathlib.Core.Bool.{Bool, true, false, _&&_, _||_, not}
 use mathlib.Core.List.{[], _∷_, _++_}
 use lib.ListN.{length, length-append}
-use lib.Dec.{T, not-T, eqb, eqb→eq, leb, leb→le, ltb, lit≤}
-use Rattle.language.specs.Text.{Text, if_then_else_, all, member, digits, decimal}
+use lib.Dec.{T, T-not, not-T, eqb, eqb→eq, leb, leb→le, ltb, lit≤}
+use Rattle.language.specs.Text.{Text, if_then_else_, _==_, all, member, digits, decimal}
 use Rattle.language.specs.Encode.{tab, newline as lineEnd}
 use Rattle.language.specs.Bytes.{_is_, _∈_, between, Class, letter, digit, space, newline, foreign, mark, marks, class, isLetter, inWord, inString, wordByte, stringByte}
 use Rattle.language.specs.Decode.{number}
-use Rattle.language.specs.Identifiers.{isString, baseKeywords, isWord, isIdentifier, isName}
-use Rattle.language.proofs.Logic.Tests.{both, and, one-of, all-map, all-append}
+use Rattle.language.specs.Identifiers.{isString, baseKeywords, priceKeywords, keywords, isWord, isIdentifier, isName}
+use Rattle.language.proofs.Logic.Tests.{both, and, one-of, all-map, all-append, any-left}
 use Rattle.language.proofs.StateText.Lines.{isClean}
+use Rattle.language.proofs.StateText.Digits.{Within, ten-digits}
 
 -- ---- alphabets
 
@@ -102,7 +103,9 @@ string-clean = all-map _ _ (λ b h. low-clean b (string-low b h))
 
 -- what a program may write as a name a state text may hold
 pub identifier-name : (t : Text) → T (isIdentifier t) → T (isName t)
-identifier-name t h = h
+identifier-name t h =
+    let (h₁, h₂) = both (isWord t && leb (length t) 255) (not (member t keywords)) h in
+    and (isWord t && leb (length t) 255) (not (member t baseKeywords)) h₁ (not-T (member t baseKeywords) (λ m. T-not (member t keywords) h₂ (any-left (λ u. t == u) baseKeywords priceKeywords m)))
 
 pub name-clean : (t : Text) → T (isName t) → T (isClean t)
 name-clean [] h = tt
@@ -133,12 +136,7 @@ pub number-append : (a d : ℕ) (t : Text) → number a (t ++ d ∷ []) ≡ numb
 number-append a d [] = refl
 number-append a d (b ∷ t) = number-append (a * 10 + (b - 48)) d t
 
--- n has at most k + 1 digits
-abbrev Fits : ℕ → ℕ → Type 0
-Fits zero n = n < 10
-Fits (suc k) n = Fits k (n / 10)
-
-pub number-digits : (k n : ℕ) → Fits k n → number 0 (digits k n) ≡ n
+pub number-digits : (k n : ℕ) → Within k n → number 0 (digits k n) ≡ n
 number-digits zero n h = omega arith
 number-digits (suc k) n h = go (ltb n 10) (number-digits k (n / 10) h)
   where
@@ -147,11 +145,8 @@ number-digits (suc k) n h = go (ltb n 10) (number-digits k (n / 10) h)
     go true e = omega arith
     go false e = number-append 0 (48 + n % 10) (digits k (n / 10)) ∙ ap (λ y. y * 10 + (48 + n % 10 - 48)) e ∙ omega arith
 
-fits : (n : ℕ) → n ≤ 4294967295 → Fits 9 n
-fits n h = omega arith
-
 pub decimal-number : (n : ℕ) → n ≤ 4294967295 → number 0 (decimal n) ≡ n
-decimal-number n h = number-digits 9 n (fits n h)
+decimal-number n h = number-digits 9 n (ten-digits n h)
 
 pub digits-clean : (k n : ℕ) → T (isClean (digits k n))
 digits-clean zero n = and (not (eqb (48 + n) tab) && not (eqb (48 + n) lineEnd)) true (low-clean (48 + n) (omega arith)) tt

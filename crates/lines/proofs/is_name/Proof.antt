@@ -28,15 +28,15 @@ returns-3 c =
     let w = now (start .args .w) in
     sym (name-start w (sym (c .before .is-letter .ensures) ∙ not-true _ (c .if3 .taken)))
 
-is-keyword-requires : tie.Need-is-keyword-requires
-is-keyword-requires c κs = search needs
+is-base-keyword-requires : tie.Need-is-base-keyword-requires
+is-base-keyword-requires c κs = search needs
 
 returns-4 : tie.Need-returns-4
 returns-4 c =
     let start = c .before .before .before .before .before .before .before in
     let w = now (start .args .w) in
     let l : isLetter (class (getD w 0 0)) ≡ true = sym (c .before .before .is-letter .ensures) ∙ not-false _ (c .before .if3 .left) in
-    ap not (c .is-keyword .ensures) ∙ sym (name-kept w (omega arith) (omega arith) l (start .pre))
+    ap not (c .is-base-keyword .ensures) ∙ sym (name-kept w (omega arith) (omega arith) l (start .pre))
 
 pub is-name-spec : {M : Type 1} → statement M
 is-name-spec =
@@ -47,5 +47,5 @@ is-name-spec =
     shared-slice-read-is-letter
     is-letter-requires
     returns-3
-    is-keyword-requires
+    is-base-keyword-requires
     returns-4)

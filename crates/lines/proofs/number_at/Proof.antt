@@ -9,7 +9,8 @@ use Rattle.language.specs.Text.{Text, all, decimal}
 use Rattle.lines.specs.Cuts.{isDigit, Field}
 use Rattle.text.specs.Parts.{part}
 use Rattle.lines.proofs.Cuts.{found, is-field}
-use Rattle.lines.proofs.Decimals.{Spelled, decimal-digits, one-decimal, not-decimal, worth-much, is-decimal}
+use Rattle.language.proofs.StateText.Digits.{decimal-digits}
+use Rattle.lines.proofs.Decimals.{Spelled, one-decimal, not-decimal, worth-much, is-decimal}
 use borrow.Author.Needs.{needs}
 use Rattle.lines.proofs.number_at.Statement.{statement}
 use Rattle.lines.proofs.number_at.Tie as tie
