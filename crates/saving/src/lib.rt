@@ -3,8 +3,8 @@ mod packed; // the assertions' lines
 mod number; // what a number stands for: a record's name, a right's letter
 
 use counts::count_of;
+use decimals::put_decimal;
 use session::Layout;
-use state_lines::put_count;
 use state_lines::put_delegator;
 use state_lines::put_header;
 use state_lines::zero_rest;
@@ -49,7 +49,7 @@ fn put_principals(
     let end = old.end;
     let a = copy_in(out, at, &principals[..start]);
     let more = counted(old.value);
-    let b = put_count(out, a, more as u32);
+    let b = put_decimal(out, a, more as u32);
     copy_in(out, b, &principals[end..])
 }
 

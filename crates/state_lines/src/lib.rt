@@ -3,24 +3,12 @@ use value_text::copy_in;
 use value_text::put_byte;
 ghost use mathlib.Core.Path.{_≡_};
 ghost use mathlib.Core.List.{[], _∷_, _++_};
-ghost use Prim.Native.Nat.{ℕ, _+_, _-_, _≤_};
+ghost use Prim.Native.Nat.{_+_, _-_, _≤_};
 ghost use lib.ListN.{length, take, replicate};
-ghost use Rattle.language.specs.Text.{bytes, if_then_else_, digits, decimal};
+ghost use Rattle.language.specs.Text.{bytes, if_then_else_};
 ghost use Rattle.language.specs.Encode.{headText, delegatorText};
 ghost use Rattle.value_text.specs.Writing.{Written};
-ghost use Rattle.state_lines.specs.Lines.{assertionLine, Digits, DigitsRoom};
-
-// The digits of n, the first of them not zero unless n is.
-fn put_digits(out: &mut [u8], at: usize, n: u32) -> usize
-    requires { ⌜ DigitsRoom n at (length (now out)) ⌝ }
-    ensures { λ r. ⌜ ((more : ℕ) → Digits more n → Written (now (out .entry)) at (digits more n) r (now (out .exit))) ⌝ }
-{
-    if n < 10 {
-        return put_byte(out, at, 48 + n as u8);
-    }
-    let p = put_digits(out, at, n / 10);
-    put_byte(out, p, 48 + (n % 10) as u8)
-}
+ghost use Rattle.state_lines.specs.Lines.{assertionLine};
 
 fn open_letter(is_open: bool) -> u8
     ensures { λ r. ⌜ r ∷ [] ≡ (if is_open then bytes "O" else bytes "C") ⌝ }
@@ -38,14 +26,6 @@ pub fn put_header(out: &mut [u8], at: usize, is_open: bool) -> usize
 {
     let a = put_byte(out, at, open_letter(is_open));
     put_byte(out, a, b'\n')
-}
-
-// The digits of a principal's count.
-pub fn put_count(out: &mut [u8], at: usize, n: u32) -> usize
-    requires { ⌜ at + length (decimal n) ≤ length (now out) ⌝ }
-    ensures { λ r. ⌜ Written (now (out .entry)) at (decimal n) r (now (out .exit)) ⌝ }
-{
-    put_digits(out, at, n)
 }
 
 // A part of a line, and the byte that ends it.

@@ -36,11 +36,11 @@ counted-requires c κs =
     let P = start .pre in
     count-fits (P .store) (P .name) (a .l) (a .principals .now) (a .principal-slots .now) (P .sent) _ (c .before .before .before .before .before .count-of .ensures)
 
-cast-put-count : tie.Need-cast-put-count
-cast-put-count c = search needs
+cast-put-decimal : tie.Need-cast-put-decimal
+cast-put-decimal c = search needs
 
-put-count-requires : tie.Need-put-count-requires
-put-count-requires c κs =
+put-decimal-requires : tie.Need-put-decimal-requires
+put-decimal-requires c κs =
     let back-7 = c .before .before .before .before .before .before .before in
     let start = back-7 .before .before .before .before in
     let a = start .args in
@@ -77,7 +77,7 @@ copy-in-requires-2 c κs =
     let a = start .args in
     let P = start .pre in
     let w = back-9 .copy-in .ensures in
-    let x = c .before .before .before .before .put-count .ensures in
+    let x = c .before .before .before .before .put-decimal .ensures in
     let z = tallied-size (P .store) (P .name) (a .l) (a .principals .now) (a .principal-slots .now) (P .sent) _ (back-12 .count-of .ensures) _ (back-6 .counted .ensures .0) in
     omega (arith, P .room, z, w .ends, written-length w, x .ends, written-length x)
 
@@ -93,7 +93,7 @@ returns c s p S =
     let start = back-15 .before .before .before .before in
     let a = start .args in
     rewritten (tallied-text s p (a .l) (a .principals .now) (a .principal-slots .now) S _ (back-15 .count-of .ensures) _ (back-9 .counted .ensures .0))
-    (back-12 .copy-in .ensures ▸ back-7 .put-count .ensures ▸ c .before .before .copy-in2 .ensures)
+    (back-12 .copy-in .ensures ▸ back-7 .put-decimal .ensures ▸ c .before .before .copy-in2 .ensures)
 
 pub put-principals-spec : {M : Type 1} → statement M
 put-principals-spec =
@@ -103,8 +103,8 @@ put-principals-spec =
     slice-aggregate-copy-in
     copy-in-requires
     counted-requires
-    cast-put-count
-    put-count-requires
+    cast-put-decimal
+    put-decimal-requires
     sub-copy-in
     part-copy-in-start
     part-copy-in-end

@@ -1,20 +1,20 @@
--- `state_lines::put_digits` meets its contract. The measure is the number: it calls itself with a tenth of it.
+-- `decimals::put_digits` meets its contract. The measure is the number: it calls itself with a tenth of it.
 -- Assumes nothing.
 use mathlib.Core.Path.{sym}
 use native.Mathlib.Omega.{arith}
 use lib.ListN.{length}
 use borrow.Author.Needs.{needs}
 use Rattle.value_text.proofs.Pieces.{_▸_, rewritten}
-use Rattle.state_lines.proofs.Lines.{digit-last, longer, digits-room, longer-room, last-room}
+use Rattle.decimals.proofs.Digits.{digit-last, longer, digits-room, longer-room, last-room}
 use Prim.Native.Nat.{ℕ, _<_}
 use borrow.Fn.Kinds.{In}
 use borrow.Fn.PlainCycle.{Measures, is, falls, and}
-use Rattle.state_lines.proofs.put_digits.Reads as put-digits
-use Rattle.state_lines.proofs.put_digits.Kinds as put-digits-kinds
-use Rattle.state_lines.proofs.+put_digits.Lts-put_digits as put-digits-lts
+use Rattle.decimals.proofs.put_digits.Reads as put-digits
+use Rattle.decimals.proofs.put_digits.Kinds as put-digits-kinds
+use Rattle.decimals.proofs.+put_digits.Lts-put_digits as put-digits-lts
 use Rattle.value_text.proofs.put_byte.Reads as put-byte-reads
-use Rattle.state_lines.proofs.+put_digits.{statement}
-use Rattle.state_lines.proofs.+put_digits.Tie.{close}
+use Rattle.decimals.proofs.+put_digits.{statement}
+use Rattle.decimals.proofs.+put_digits.Tie.{close}
 
 abbrev μ-put-digits : Measures 1 put-digits-kinds.ps ℕ
 μ-put-digits κs a = a .1 .1 .0

@@ -1,0 +1,2 @@
+-- Laws of a number's digits.
+pub mod Digits

@@ -1,0 +1,2 @@
+-- Laws of the reading of a price.
+pub mod Readings
