@@ -1,21 +1,26 @@
--- What a function comes to, by the lengths of its strings.
+-- What a function comes to, by the lengths of its strings, or by the prices that they are.
 -- Assumes nothing.
-use mathlib.Core.Path.{_≡_, ap, _∙_}
+use mathlib.Core.Path.{_≡_, refl, ap, subst, _∙_}
 use Prim.Native.Nat.{_+_, _-_, _≤_, _<_}
 use native.Mathlib.Omega.{arith}
 use mathlib.Core.Bool.{Bool, true, false, _||_}
-use mathlib.Core.Option.{some}
+use mathlib.Core.Option.{Option, none, some}
 use mathlib.Core.List.{List, [], _∷_, _++_, map}
+use lib.IntN.{ℤ}
+use lib.Dec.{T}
 use lib.ListN.{length, length-append, length-map, take, drop, take-append-drop}
 use borrow.Author.Tests.{lt-ltb, le-ltb}
 use Rattle.language.specs.Text.{Text, if_then_else_, any}
-use Rattle.language.specs.Syntax.{split, concat}
+use Rattle.language.specs.Syntax.{Operation, Function, split, concat, arithmetic}
 use Rattle.language.specs.State.{Value, single, string}
 use Rattle.language.specs.Weight.{limit, valueWeight}
-use Rattle.language.specs.Outcomes.{Outcome, gives, fills}
+use Rattle.language.specs.Outcomes.{Outcome, gives, fails, fills}
+use Rattle.language.specs.Prices.{inRange, priceText, price, reckoned}
 use Rattle.language.specs.Functions.{lowerByte, cut}
 use Rattle.language.specs.Expressions.{isHeavy, weighed}
 use Rattle.language.proofs.Logic.Tests.{or-true}
+use Rattle.language.proofs.Logic.Outcomes.{Where}
+use Rattle.language.proofs.Meaning.Prices.{price-length, price-in-range, price-is-text, reckoned-in-range}
 use Rattle.application.specs.Applied.{loweredTo, appliedTo}
 
 module _ (vs : List Value) (v : Value) where
@@ -45,6 +50,10 @@ module _ (t : Text) where
 
 -- ---- two arguments
 
+pub no-second : (f : Function) (o : Option Text) → appliedTo f o none ≡ fails
+no-second f none = refl
+no-second f (some t) = refl
+
 module _ (t u : Text) where
   pub second-heavy : (v : Value) → limit < length u → weighed (single (string t) ∷ single (string u) ∷ []) v ≡ fills
   second-heavy v h =
@@ -73,3 +82,31 @@ module _ (t u : Text) where
   pub concat-light : length t + length u ≤ limit → appliedTo concat (some t) (some u) ≡ gives (single (string (t ++ u)))
   concat-light h =
       all-light (single (string t) ∷ single (string u) ∷ []) (single (string (t ++ u))) (omega (arith, h, length-append t u)) (light-arguments (omega (arith, h)) (omega (arith, h)))
+
+-- ---- prices: they are short, and so is what an operation gives
+
+short-price : (t : Text) {a : ℤ} → price t ≡ some a → length t ≤ limit
+short-price t {a} e =
+    let l : length (priceText a) ≤ 11 = price-length a (price-in-range t a e) in
+    omega (arith, l, ap length (price-is-text t a e))
+
+module _ (o : Operation) (t u : Text) where
+  pub no-first-price : price t ≡ none → appliedTo (arithmetic o) (some t) (some u) ≡ fails
+  no-first-price e = rw e
+
+  module _ {a : ℤ} (e₁ : price t ≡ some a) where
+    pub no-second-price : price u ≡ none → appliedTo (arithmetic o) (some t) (some u) ≡ fails
+    no-second-price e = rw (e₁, e)
+
+    module _ {b : ℤ} (e₂ : price u ≡ some b) where
+      pub no-result : reckoned o a b ≡ none → appliedTo (arithmetic o) (some t) (some u) ≡ fails
+      no-result e = rw (e₁, e₂, e)
+
+      pub result-range : {c : ℤ} → reckoned o a b ≡ some c → T (inRange c)
+      result-range e = subst (Where (λ c. T (inRange c))) e (reckoned-in-range o a b)
+
+      pub price-light : {c : ℤ} → reckoned o a b ≡ some c → appliedTo (arithmetic o) (some t) (some u) ≡ gives (single (string (priceText c)))
+      price-light {c} e =
+          let w : appliedTo (arithmetic o) (some t) (some u) ≡ weighed (single (string t) ∷ single (string u) ∷ []) (single (string (priceText c))) = rw (e₁, e₂, e) in
+          let l : length (priceText c) ≤ 11 = price-length c (result-range e) in
+          w ∙ all-light (single (string t) ∷ single (string u) ∷ []) (single (string (priceText c))) (omega (arith, l)) (light-arguments t u (short-price t e₁) (short-price u e₂))

@@ -1,15 +1,21 @@
 // The functions of expressions, applied to strings that were found in values or in the program. An argument that is no string is found out
 // before one that is too heavy.
+use amounts::Amount;
 use evaluated::Evaluated;
 use syntax::Function;
+use syntax::Operation;
 use values::Found;
+ghost use mathlib.Core.Path.{_≡_};
 ghost use mathlib.Core.Option.{some};
 ghost use Prim.Native.Nat.{_≤_};
 ghost use lib.Dec.{T};
+ghost use lib.IntN.{natAbs};
 ghost use lib.ListN.{length};
 ghost use Rattle.language.specs.Syntax as Syntax;
 ghost use Rattle.language.specs.Identifiers.{isString};
-ghost use Rattle.syntax.specs.Values.{functionMeant};
+ghost use Rattle.language.specs.Prices.{greatest, reckoned};
+ghost use Rattle.amounts.specs.Amounts.{amountMeant};
+ghost use Rattle.syntax.specs.Values.{operationMeant, functionMeant};
 ghost use Rattle.values.specs.Answers.{textAt, Placed};
 ghost use Rattle.evaluated.specs.Results.{Valued, MaybeString};
 ghost use Rattle.application.specs.Applied.{loweredTo, appliedTo};
@@ -74,6 +80,43 @@ fn concat(first: &[u8], second: &[u8], out: &mut [u8]) -> Evaluated
     Evaluated::Value { len, weight: m + n }
 }
 
+// What an operation makes of two amounts.
+fn reckon(o: Operation, a: i64, b: i64) -> Amount
+    requires { ⌜ (natAbs a ≤ greatest) × (natAbs b ≤ greatest) ⌝ }
+    ensures { λ r. ⌜ amountMeant r ≡ reckoned (operationMeant o) a b ⌝ }
+{
+    match o {
+        Operation::Add => amounts::add(a, b),
+        Operation::Sub => amounts::sub(a, b),
+        Operation::Times => amounts::times(a, b),
+        Operation::Per => amounts::per(a, b),
+    }
+}
+
+// A price is short: no price is too heavy.
+fn priced(o: Operation, first: &[u8], second: &[u8], out: &mut [u8]) -> Evaluated
+    requires { ⌜ 32768 ≤ length (now out) ⌝ }
+    ensures { λ r. ⌜ Valued r (appliedTo (Syntax.arithmetic (operationMeant o)) (some (now (first .entry))) (some (now (second .entry)))) (now (out .exit)) ⌝ }
+{
+    let one = prices::price_in(first);
+    let Amount::Of(a) = one else {
+        return Evaluated::Missing;
+    };
+    let other = prices::price_in(second);
+    let Amount::Of(b) = other else {
+        return Evaluated::Missing;
+    };
+    let result = reckon(o, a, b);
+    let Amount::Of(c) = result else {
+        return Evaluated::Missing;
+    };
+    let len = functions::put_amount(out, c);
+    Evaluated::Value {
+        len,
+        weight: len - 3,
+    }
+}
+
 fn call(f: Function, first: &[u8], second: &[u8], out: &mut [u8]) -> Evaluated
     requires { ⌜ T (isString (now first)) × T (isString (now second)) × (32768 ≤ length (now out)) ⌝ }
     ensures { λ r. ⌜ Valued r (appliedTo (functionMeant f) (some (now (first .entry))) (some (now (second .entry)))) (now (out .exit)) ⌝ }
@@ -81,6 +124,7 @@ fn call(f: Function, first: &[u8], second: &[u8], out: &mut [u8]) -> Evaluated
     match f {
         Function::Split => split(first, second, out),
         Function::Concat => concat(first, second, out),
+        Function::Arithmetic(o) => priced(o, first, second, out),
     }
 }
 

@@ -6,21 +6,40 @@ use mathlib.Core.List.{List, _∷_}
 use mathlib.Core.Bool.{Bool, true, false}
 use Rattle.language.specs.Text.{Text, bytes, _==_}
 use Rattle.language.specs.Tokens.{Token, sign}
-use Rattle.language.specs.Syntax.{Operand, Function, split, concat, tolower, call}
-use Rattle.language.specs.Grammar.{the, anyOperand, functionOf, anyCall, anyExpression}
+use Rattle.language.specs.Syntax.{Operand, add, sub, times, per, Function, split, concat, tolower, call}
+use Rattle.language.specs.Grammar.{the, anyOperand, operationOf, functionFor, functionOf, anyCall, anyExpression}
 use Rattle.text.proofs.Words.{same-true}
 use Rattle.tokens.proofs.Reading.{no-some, orElse-none}
 
 -- ---- the keyword w
 module _ (w : Text) where
+  pub is-add : (w == bytes "add") ≡ true → operationOf w ≡ some add
+  is-add q = rw q
+
+  module _ (no-add : (w == bytes "add") ≡ false) where
+    pub is-sub : (w == bytes "sub") ≡ true → operationOf w ≡ some sub
+    is-sub q = rw (no-add, q)
+
+    module _ (no-sub : (w == bytes "sub") ≡ false) where
+      pub is-times : (w == bytes "times") ≡ true → operationOf w ≡ some times
+      is-times q = rw (no-add, no-sub, q)
+
+      module _ (no-times : (w == bytes "times") ≡ false) where
+        pub is-per : (w == bytes "per") ≡ true → operationOf w ≡ some per
+        is-per q = rw (no-add, no-sub, no-times, q)
+
+        pub no-operation : (w == bytes "per") ≡ false → operationOf w ≡ none
+        no-operation q = rw (no-add, no-sub, no-times, q)
+
   pub is-split : (w == bytes "split") ≡ true → functionOf w ≡ some split
   is-split q = rw q
 
-  pub is-concat : (w == bytes "split") ≡ false → (w == bytes "concat") ≡ true → functionOf w ≡ some concat
-  is-concat p q = rw (p, q)
+  module _ (no-split : (w == bytes "split") ≡ false) where
+    pub is-concat : (w == bytes "concat") ≡ true → functionOf w ≡ some concat
+    is-concat q = rw (no-split, q)
 
-  pub no-function : (w == bytes "split") ≡ false → (w == bytes "concat") ≡ false → functionOf w ≡ none
-  no-function p q = rw (p, q)
+    pub is-arithmetic : (w == bytes "concat") ≡ false → functionOf w ≡ functionFor (operationOf w)
+    is-arithmetic q = rw (no-split, q)
 
   -- a function of two values is not `tolower`
   not-lower : (f : Function) → functionOf w ≡ some f → (w == bytes "tolower") ≡ false

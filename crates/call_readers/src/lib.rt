@@ -3,6 +3,7 @@ use syntax::Expr;
 use syntax::ExprRead;
 use syntax::Function;
 use syntax::OperandRead;
+use syntax::Operation;
 use syntax::operand_at;
 use text::Span;
 use tokens::reader::Next;
@@ -13,10 +14,10 @@ ghost use mathlib.Core.List.{_∷_};
 ghost use lib.ListN.{length, drop};
 ghost use Rattle.language.specs.Text.{Text, bytes};
 ghost use Rattle.language.specs.Tokens.{lex, sign};
-ghost use Rattle.language.specs.Grammar.{functionOf, anyCall};
+ghost use Rattle.language.specs.Grammar.{operationOf, functionOf, anyCall};
 ghost use Rattle.text.specs.Meaning.{part, Within};
 ghost use Rattle.syntax.specs.Values.{functionMeant, exprReadMeant, ExprPlaced};
-ghost use Rattle.call_readers.specs.Functions.{functionReadMeant};
+ghost use Rattle.call_readers.specs.Functions.{operationReadMeant, functionReadMeant};
 
 // The value that `tolower` takes, in parentheses, from the place `at` past the keyword.
 fn lowered(text: &[u8], at: usize) -> ExprRead
@@ -68,6 +69,31 @@ fn two_arguments(text: &[u8], f: Function, at: usize) -> ExprRead
     ExprRead::Found(Expr::Call(f, v, w), n)
 }
 
+enum OperationRead {
+    Found(Operation),
+    No,
+}
+
+// The operation on two prices that a keyword names.
+fn operation_of(text: &[u8], word: Span) -> OperationRead
+    requires { ⌜ Within (now text) word ⌝ }
+    ensures { λ r. ⌜ operationReadMeant r ≡ operationOf (part (now (text .entry)) word) ⌝ }
+{
+    if tokens::reader::is_sign(text, word, b"add") {
+        return OperationRead::Found(Operation::Add);
+    }
+    if tokens::reader::is_sign(text, word, b"sub") {
+        return OperationRead::Found(Operation::Sub);
+    }
+    if tokens::reader::is_sign(text, word, b"times") {
+        return OperationRead::Found(Operation::Times);
+    }
+    if tokens::reader::is_sign(text, word, b"per") {
+        return OperationRead::Found(Operation::Per);
+    }
+    OperationRead::No
+}
+
 enum FunctionRead {
     Found(Function),
     No,
@@ -84,7 +110,11 @@ fn function_of(text: &[u8], word: Span) -> FunctionRead
     if tokens::reader::is_sign(text, word, b"concat") {
         return FunctionRead::Found(Function::Concat);
     }
-    FunctionRead::No
+    let operation = operation_of(text, word);
+    let OperationRead::Found(o) = operation else {
+        return FunctionRead::No;
+    };
+    FunctionRead::Found(Function::Arithmetic(o))
 }
 
 // The call that starts with a keyword, from the place `at` past it: a function, and as many values as it takes.

@@ -1,6 +1,6 @@
 -- What a function comes to is decided by the strings that its arguments are; and what is known of the source of an operand.
 -- Assumes nothing.
-use mathlib.Core.Path.{_≡_, refl, ap, subst}
+use mathlib.Core.Path.{_≡_, refl, sym, ap, subst}
 use Prim.Native.Nat.{ℕ, _≤_}
 use native.Mathlib.Omega.{arith}
 use mathlib.Core.Option.{Option, none, some}
@@ -11,7 +11,7 @@ use Rattle.language.specs.Text.{Text}
 use Rattle.language.specs.Syntax.{Function, Operand, tolower, call}
 use Rattle.language.specs.Programs.{longest}
 use Rattle.language.specs.State.{string, fields, Value, single, list}
-use Rattle.language.specs.Outcomes.{fails, _>>=_, from}
+use Rattle.language.specs.Outcomes.{_>>=_, from}
 use Rattle.language.specs.Values.{Session, asString, operandValue, lookup}
 use Rattle.language.specs.Functions.{lowercase, apply}
 use Rattle.language.specs.Expressions.{weighed, value}
@@ -22,6 +22,7 @@ use Rattle.syntax.specs.declared.Operand.the-variants.{Name, Field, Quoted}
 use Rattle.syntax.specs.Values.{operandMeant}
 use Rattle.evaluated.specs.Results.{stringIn, MaybeString}
 use Rattle.application.specs.Applied.{loweredTo, appliedTo}
+use Rattle.application.proofs.Heavier.{no-second}
 use Rattle.evaluate.specs.Scopes.{Scope, SourceOf}
 use Rattle.evaluate.proofs.Found.{string-read, field-read, dot-string, read-short}
 
@@ -46,17 +47,12 @@ call-value f (single (string t)) (list ds) = refl
 call-value f (single (fields fs)) w = refl
 call-value f (list es) w = refl
 
--- where an argument has no value the function has none
-no-second : (f : Function) (o : Option Text) → fails ≡ appliedTo f o none
-no-second f none = refl
-no-second f (some t) = refl
-
 pub call-is : (s : Session) (f : Function) (o p : Operand) → value s (call f o p) ≡ appliedTo f (stringIn (operandValue s o)) (stringIn (operandValue s p))
 call-is s f o p = go (operandValue s o) (operandValue s p)
   where
     go : (a b : Option Value) → (from a >>= λ v. from b >>= λ w. from (apply f v w) >>= weighed (v ∷ w ∷ [])) ≡ appliedTo f (stringIn a) (stringIn b)
     go none b = refl
-    go (some v) none = no-second f (asString v)
+    go (some v) none = sym (no-second f (asString v))
     go (some v) (some w) = call-value f v w
 
 -- ---- what was found

@@ -1,11 +1,13 @@
-// The functions on strings, request M-100: each writes the text of its result.
+// The functions on strings, requests M-100 and M-104: each writes the text of its result.
 ghost use mathlib.Core.Path.{_≡_};
 ghost use mathlib.Core.List.{_++_, map};
 ghost use Prim.Native.Nat.{_+_, _≤_};
 ghost use lib.ListN.{length, take, drop};
+ghost use lib.IntN.{natAbs};
 ghost use Rattle.language.specs.Text.{Text};
 ghost use Rattle.language.specs.State.{string};
 ghost use Rattle.language.specs.Encode.{elementText, valueText};
+ghost use Rattle.language.specs.Prices.{greatest, priceText};
 ghost use Rattle.language.specs.Functions.{lowerByte, cut};
 ghost use Rattle.value_text.specs.Writing.{Written};
 
@@ -64,6 +66,16 @@ fn cut_at(n: usize, len: usize) -> usize
         return len;
     }
     n
+}
+
+// add, sub, times and per, where the amount is the result
+pub fn put_amount(out: &mut [u8], amount: i64) -> usize
+    requires { ⌜ (natAbs amount ≤ greatest) × (14 ≤ length (now out)) ⌝ }
+    ensures { λ r. ⌜ Written (now (out .entry)) 0 (elementText (string (priceText amount))) r (now (out .exit)) ⌝ }
+{
+    let a = value_text::copy_in(out, 0, b"S\t");
+    let b = prices::put_price(out, a, amount);
+    value_text::put_byte(out, b, b'\n')
 }
 
 // split, at the length n

@@ -4,11 +4,15 @@ use mathlib.Core.Path.{_≡_, refl, sym, ap, _∙_}
 use mathlib.Core.List.{List, [], _∷_}
 use mathlib.Core.Bool.{Bool, true, false, _&&_, _||_}
 use Prim.Native.Nat.{ℕ, _<_}
+use native.Mathlib.Omega.{arith}
 use lib.Dec.{eqb}
 use lib.ListN.{length, getD, drop}
 use lib.Seq.{drop-cons}
 use Rattle.language.specs.Text.{Text, if_then_else_, _==_, any, keep, member}
-use Rattle.language.specs.Identifiers.{baseKeywords}
+
+pub no-bytes : (w : Text) → length w ≡ 0 → w ≡ []
+no-bytes [] h = refl
+no-bytes (b ∷ w) h = absurd (omega arith)
 
 abbrev pub startsWith : ℕ → Text → Bool
 startsWith b [] = false
@@ -41,12 +45,12 @@ none-starts b (u ∷ ts) h = go (startsWith b u) h (none-starts b ts)
     go false h ih = ih h
 
 -- a word w that starts with the byte b
-module _ (w : Text) (b : ℕ) (some-byte : 0 < length w) (is : getD w 0 0 ≡ b) where
+module _ (w : Text) (b : ℕ) (some-byte : 0 < length w) (is : getD w 0 0 ≡ b) (keywords : List Text) where
   spelled : w ≡ b ∷ drop 1 w
   spelled = drop-cons w 0 0 some-byte ∙ ap (λ (x : ℕ). x ∷ drop 1 w) is
 
-  pub one-of : (words : List Text) → keep (startsWith b) baseKeywords ≡ words → member w words ≡ member w baseKeywords
-  one-of words e = rw spelled (rw (← e) (sym (by-first b (drop 1 w) baseKeywords)))
+  pub one-of : (words : List Text) → keep (startsWith b) keywords ≡ words → member w words ≡ member w keywords
+  one-of words e = rw spelled (rw (← e) (sym (by-first b (drop 1 w) keywords)))
 
-  pub none-of : any (startsWith b) baseKeywords ≡ false → member w baseKeywords ≡ false
-  none-of h = rw spelled (by-first b (drop 1 w) baseKeywords ∙ ap (member (b ∷ drop 1 w)) (none-starts b baseKeywords h))
+  pub none-of : any (startsWith b) keywords ≡ false → member w keywords ≡ false
+  none-of h = rw spelled (by-first b (drop 1 w) keywords ∙ ap (member (b ∷ drop 1 w)) (none-starts b keywords h))

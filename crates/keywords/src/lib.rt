@@ -1,7 +1,7 @@
-// Whether a word is a keyword, for every crate that reads names: one test for programs and for state texts.
+// Whether a word is a keyword, for every crate that reads names: of programs, or of document 01, whose keywords no state text holds.
 ghost use mathlib.Core.Path.{_≡_};
 ghost use Rattle.language.specs.Text.{member, parts};
-ghost use Rattle.language.specs.Identifiers.{baseKeywords};
+ghost use Rattle.language.specs.Identifiers.{baseKeywords, priceKeywords, keywords};
 
 // Whether `w` is one of the words that spaces part.
 fn among(words: &[u8], w: &[u8]) -> bool
@@ -19,7 +19,7 @@ fn among(words: &[u8], w: &[u8]) -> bool
 }
 
 // The keywords of document 01, by their first letter. No state text holds one as a name.
-pub fn is_keyword(w: &[u8]) -> bool
+pub fn is_base_keyword(w: &[u8]) -> bool
     ensures { λ r. ⌜ r ≡ member (now (w .entry)) baseKeywords ⌝ }
 {
     if w.len() == 0 {
@@ -42,4 +42,31 @@ pub fn is_keyword(w: &[u8]) -> bool
         b'w' => among(b"write with", w),
         _ => false,
     }
+}
+
+// The operations on prices, request M-104. A state text may hold one as a name.
+fn is_price_keyword(w: &[u8]) -> bool
+    ensures { λ r. ⌜ r ≡ member (now (w .entry)) priceKeywords ⌝ }
+{
+    if w.len() == 0 {
+        return false;
+    }
+    let first = w[0];
+    match first {
+        b'a' => among(b"add", w),
+        b'p' => among(b"per", w),
+        b's' => among(b"sub", w),
+        b't' => among(b"times", w),
+        _ => false,
+    }
+}
+
+// The keywords of programs.
+pub fn is_keyword(w: &[u8]) -> bool
+    ensures { λ r. ⌜ r ≡ member (now (w .entry)) keywords ⌝ }
+{
+    if is_base_keyword(w) {
+        return true;
+    }
+    is_price_keyword(w)
 }

@@ -19,7 +19,9 @@ use Rattle.syntax.specs.declared.OperandRead.the-variants as OperandIs
 use Rattle.syntax.specs.declared.FieldRead.{FieldRead}
 use Rattle.syntax.specs.declared.FieldRead.the-variants as FieldIs
 use Rattle.syntax.specs.declared.Function.{Function}
-use Rattle.syntax.specs.declared.Function.the-variants.{Split, Concat}
+use Rattle.syntax.specs.declared.Function.the-variants.{Split, Concat, Arithmetic}
+use Rattle.syntax.specs.declared.Operation.{Operation}
+use Rattle.syntax.specs.declared.Operation.the-variants.{Add, Sub, Times, Per}
 use Rattle.syntax.specs.declared.Expr.{Expr}
 use Rattle.syntax.specs.declared.Expr.the-variants.{Single, Empty, Record, Lower, Call}
 use Rattle.syntax.specs.declared.ExprRead.{ExprRead}
@@ -72,9 +74,16 @@ FieldPlaced t at (FieldIs.Found x v more n) = Within t x × OperandWithin t v ×
 FieldPlaced t at FieldIs.No = Unit
 
 -- ---- functions
+abbrev pub operationMeant : Operation → Syntax.Operation
+operationMeant Add = Syntax.add
+operationMeant Sub = Syntax.sub
+operationMeant Times = Syntax.times
+operationMeant Per = Syntax.per
+
 abbrev pub functionMeant : Function → Syntax.Function
 functionMeant Split = Syntax.split
 functionMeant Concat = Syntax.concat
+functionMeant (Arithmetic o) = Syntax.arithmetic (operationMeant o)
 
 -- ---- expressions
 abbrev pub exprMeant : Text → Expr → Option Syntax.Expr

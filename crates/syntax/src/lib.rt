@@ -114,10 +114,19 @@ pub fn record_end(text: &[u8], at: usize) -> Next
     }
 }
 
+// An operation on two prices.
+pub enum Operation {
+    Add,
+    Sub,
+    Times,
+    Per,
+}
+
 // A function of two values.
 pub enum Function {
     Split,
     Concat,
+    Arithmetic(Operation),
 }
 
 // An expression: a value, `[]`, a record, whose fields stand past the place of its brace, or a function with its values. These are

@@ -1,6 +1,6 @@
 -- `application::apply` meets its contract. By what was found of each argument.
 -- Assumes nothing.
-use mathlib.Core.Path.{sym, subst}
+use mathlib.Core.Path.{sym, ap, subst, _∙_}
 use mathlib.Core.Option.{Option}
 use native.Mathlib.Omega.{arith}
 use Rattle.text.specs.Meaning.{Within}
@@ -11,6 +11,7 @@ use Rattle.syntax.specs.Values.{functionMeant}
 use Rattle.language.specs.Text.{Text}
 use Rattle.evaluated.specs.Results.{MaybeString, Valued}
 use Rattle.application.specs.Applied.{appliedTo}
+use Rattle.application.proofs.Heavier.{no-second}
 use borrow.Author.Needs.{needs}
 use Rattle.application.proofs.apply.Statement.{statement}
 use Rattle.application.proofs.apply.Tie as tie
@@ -44,7 +45,11 @@ enum-told-2 : tie.Need-enum-told-2
 enum-told-2 c = search needs
 
 returns-2 : tie.Need-returns-2
-returns-2 c = search needs
+returns-2 c =
+    let start = c .before .before .before .before .before .before .before .before in
+    let a = start .args in
+    ap (λ (g : Found). appliedTo (functionMeant (a .f)) (textAt (a .first .now) (a .a)) (textAt (a .second .now) g)) (c .enum-told2 .given .1)
+    ∙ no-second (functionMeant (a .f)) (textAt (a .first .now) (a .a))
 
 sub-call : tie.Need-sub-call
 sub-call c = let w = within-first (c .before) in omega (arith, w .0, w .1)

@@ -1,7 +1,11 @@
-use mathlib.Core.Path.{sym, _∙_}
+-- `call_readers::function_of` meets its contract. One test for each function on strings, and then the operations on prices.
+-- Assumes nothing.
+use mathlib.Core.Path.{sym, ap, _∙_}
 use denote.Ref.{now}
+use Rattle.language.specs.Grammar.{functionFor}
 use Rattle.text.specs.Meaning.{part}
-use Rattle.call_readers.proofs.Calls.{is-split, is-concat, no-function}
+use Rattle.call_readers.specs.Functions.{operationReadMeant}
+use Rattle.call_readers.proofs.Calls.{is-split, is-concat, is-arithmetic}
 use borrow.Author.Needs.{needs}
 use Rattle.call_readers.proofs.function_of.Statement.{statement}
 use Rattle.call_readers.proofs.function_of.Tie as tie
@@ -27,15 +31,35 @@ returns-2 : tie.Need-returns-2
 returns-2 c =
     let start = c .before .before .before .before .before .before .before in
     let a = start .args in
-    let other = sym (c .before .before .before .before .is-sign .ensures) ∙ c .before .before .before .if1 .left in
-    sym (is-concat (part (now (a .text)) (a .word)) other (sym (c .before .is-sign2 .ensures) ∙ c .if2 .taken))
+    let no-split = sym (c .before .before .before .before .is-sign .ensures) ∙ c .before .before .before .if1 .left in
+    sym (is-concat (part (now (a .text)) (a .word)) no-split (sym (c .before .is-sign2 .ensures) ∙ c .if2 .taken))
+
+operation-of-requires : tie.Need-operation-of-requires
+operation-of-requires c κs = search needs
+
+enum-known-operation : tie.Need-enum-known-operation
+enum-known-operation c = search needs
+
+enum-told : tie.Need-enum-told
+enum-told c = search needs
 
 returns-3 : tie.Need-returns-3
 returns-3 c =
-    let start = c .before .before .before .before .before .before .before in
-    let a = start .args in
-    let other = sym (c .before .before .before .before .is-sign .ensures) ∙ c .before .before .before .if1 .left in
-    sym (no-function (part (now (a .text)) (a .word)) other (sym (c .before .is-sign2 .ensures) ∙ c .if2 .left))
+    let O = c .before .before in
+    let back = O .before in
+    let a = back .before .before .before .before .before .before .before .args in
+    let no-split = sym (back .before .before .before .before .is-sign .ensures) ∙ back .before .before .before .if1 .left in
+    let no-concat = sym (back .before .is-sign2 .ensures) ∙ back .if2 .left in
+    sym (is-arithmetic (part (now (a .text)) (a .word)) no-split no-concat ∙ ap functionFor (sym (O .operation-of .ensures) ∙ ap operationReadMeant (c .enum-told .given .1)))
+
+returns-4 : tie.Need-returns-4
+returns-4 c =
+    let O = c .before .before .before in
+    let back = O .before in
+    let a = back .before .before .before .before .before .before .before .args in
+    let no-split = sym (back .before .before .before .before .is-sign .ensures) ∙ back .before .before .before .if1 .left in
+    let no-concat = sym (back .before .is-sign2 .ensures) ∙ back .if2 .left in
+    sym (is-arithmetic (part (now (a .text)) (a .word)) no-split no-concat ∙ ap functionFor (sym (O .operation-of .ensures) ∙ ap operationReadMeant (c .before .operation .given .1)))
 
 pub function-of-spec : {M : Type 1} → statement M
 function-of-spec =
@@ -47,4 +71,8 @@ function-of-spec =
     slice-aggregate-is-sign-2
     is-sign-requires-2
     returns-2
-    returns-3)
+    operation-of-requires
+    enum-known-operation
+    enum-told
+    returns-3
+    returns-4)
