@@ -26,7 +26,7 @@ extern "C" {
 #endif
 
 /* The version of this header and of what the functions answer. CHANGELOG.md says what changed. */
-#define KIVZURG_VERSION "0.5.1"
+#define KIVZURG_VERSION "0.6.0"
 
 /* The size of the state, of the work buffer and of the output. */
 #define KIVZURG_BUFFER 65536
@@ -48,7 +48,8 @@ uint64_t kivzurg_run(uint8_t *state, size_t state_size, uint8_t *work, size_t wo
                      const uint8_t *program, size_t program_size);
 
 /* Asks whether a principal has a right ('r', 'w', 'a' or 'd') on a shared variable. Answers KIVZURG_YES with the length of a shortest chain,
- * KIVZURG_NO, or the number 2, 4, 6 or 7. */
+ * KIVZURG_NO, or the number 2, 4, 6 or 7. Names that a state has from before they became keywords (`add`, `sub`, `times` and `per` since 0.6.0) are
+ * asked about as any other, here and in a sheet, though no program can write them. */
 uint64_t kivzurg_ask(const uint8_t *state, size_t state_size, const uint8_t *name, size_t name_size, const uint8_t *variable,
                      size_t variable_size, uint8_t right);
 

@@ -106,7 +106,8 @@ impl Server {
         }
     }
 
-    /// A server over a state that was kept. Each call checks that it is well formed.
+    /// A server over a state that was kept. Each call checks that it is well formed. Names in it that became keywords since are well formed, and
+    /// questions and sheets answer about them; no program can write them.
     pub fn over(state: Box<Buffer>) -> Server {
         Server { state, work: zeros(), output: zeros() }
     }

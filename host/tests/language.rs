@@ -38,6 +38,9 @@ fn is_name(word: &str) -> bool {
 #[test]
 fn keywords() {
     let words = block(&page(), "Keywords are no names");
+    for word in ["split", "let", "add", "sub", "times", "per"] {
+        assert!(words.split_whitespace().any(|listed| listed == word), "{word} is not listed");
+    }
     for word in words.split_whitespace() {
         assert!(!is_name(word), "{word} is no keyword");
         assert!(is_name(&format!("{word}_")), "{word}_ is a keyword");
@@ -53,14 +56,23 @@ fn returned(expression: &str) -> String {
     String::from_utf8_lossy(report.output).into_owned()
 }
 
+/// A row of a table that shows a call and what it gives, perhaps with a remark behind.
+fn call_of(row: &str) -> Option<(&str, &str)> {
+    let (call, rest) = row.strip_prefix("| `")?.split_once("` | `")?;
+    let (value, _) = rest.split_once('`')?;
+    Some((call, value))
+}
+
 #[test]
 fn functions() {
     let page = page();
-    let (_, after) = page.split_once("so they are printed by `return`").expect("the text before the table");
-    let rows: Vec<&str> = after.lines().skip_while(|line| !line.starts_with("| `")).take_while(|line| line.starts_with("| `")).collect();
-    assert!(rows.len() > 3, "no table of calls");
-    for row in rows {
-        let (call, value) = row.trim_matches(['|', ' ', '`']).split_once("` | `").expect("a call and what it gives");
+    let (_, after) = page.split_once("so they are printed by `return`").expect("the text before the tables");
+    let (shown, _) = after.split_once("\n## Rights").expect("the section behind the functions");
+    let rows: Vec<(&str, &str)> = shown.lines().filter_map(call_of).collect();
+    for word in ["split", "concat", "tolower", "sub", "times", "per"] {
+        assert!(rows.iter().any(|(call, _)| call.starts_with(&format!("{word}("))), "no row shows {word}");
+    }
+    for (call, value) in rows {
         assert_eq!(returned(call), format!("{{\"status\":\"RETURNING\",\"output\":{value}}}\n"), "{call}");
     }
 }

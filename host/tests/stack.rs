@@ -6,7 +6,7 @@ use std::thread;
 
 use kivzurg::{raw, Buffer, Kind, Principal, Right, Server, Variable, STACK_BYTES};
 
-/// Commands, and how a program of admin's that ends with them ends. Together they have every command and every kind of end.
+/// Commands, and how a program of admin's that ends with them ends. Together they have every command, every function and every kind of end.
 const PROGRAMS: &[(&str, Kind)] = &[
     ("create principal rosa \"r\"\nset a = \"1\"\nset r = {x=a,y=\"2\"}\nset l = []\nreturn r", Kind::Returned),
     ("append to l with r\nappend to l with r\nappend to l with l\nlocal n = r.x\nreturn l", Kind::Returned),
@@ -16,6 +16,10 @@ const PROGRAMS: &[(&str, Kind)] = &[
     ("default delegator = rosa\ncreate principal tom \"t\"\nchange password tom \"tt\"\nreturn \"\"", Kind::Returned),
     ("delete delegation all rosa write -> tom\ndelete delegation l admin read -> anyone\nreturn \"\"", Kind::Returned),
     ("set delegation l tom read -> rosa\nset delegation l anyone read -> rosa\nreturn \"\"", Kind::Denied),
+    ("local s = split(\"Blue Moon\",\"----\")\nlocal t = concat(s.fst,\"!\")\nreturn tolower(t)", Kind::Returned),
+    ("set m = []\nappend to m with add(\"1.25\",\"-0.50\")\nforeach y in m replacewith times(y,\"12.50\")\nreturn m", Kind::Returned),
+    ("foreach y in m replacewith per(y,\"-0.03\")\nlocal p = sub(\"0.01\",\"0.02\")\nreturn p", Kind::Returned),
+    ("foreach y in m replacewith per(y,\"0.00\")\nreturn m", Kind::Failed),
     ("return none", Kind::Failed),
     ("return [ ]", Kind::Failed),
     ("exit", Kind::Exited),

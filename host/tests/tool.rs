@@ -86,6 +86,37 @@ delegations, in order of entry
     assert_eq!(folder.printed(0, &["show", "state"], ""), expected);
 }
 
+/// A state with a principal per, a variable add and labels times and sub, which are keywords since 0.6.0.
+const OLDER: &str = "O|P,admin,desk,0|N,anyone,0|P,per,p1,4|P,rosa,r1,0|D,anyone|V,add,R|F,times,ten|F,b,two|V,list,L|R|F,sub,x|\
+                     A,add,admin,r,per|A,add,admin,d,rosa|";
+
+#[test]
+fn names_that_became_keywords() {
+    let folder = Folder::of("older");
+    let mut state = OLDER.replace('|', "\n").replace(',', "\t").into_bytes();
+    state.resize(kivzurg::BUFFER, 0);
+    fs::write(folder.path("state"), state).expect("written");
+    let shown = folder.printed(0, &["show", "state"], "");
+    let expected = "keywords by now, which no program can write
+  principal per, which cannot log in
+  variable add
+  label sub
+  label times
+";
+    assert!(shown.ends_with(expected), "{shown}");
+    assert!(shown.contains("\n  add = {times=\"ten\", b=\"two\"}\n"), "{shown}");
+    let table = folder.printed(0, &["who", "state", "add"], "");
+    assert!(table.contains("\nper        1      -       -         -\n"), "{table}");
+    assert!(folder.printed(0, &["why", "state", "per", "add", "read"], "").starts_with("yes: "));
+    let sheet = folder.printed(0, &["sheet", "state", "add"], "");
+    assert!(sheet.contains(&format!("{:34} r...\n", "per")), "{sheet}");
+    let program = "as principal per password \"p1\" do\nreturn \"in\"\n***\n";
+    assert_eq!(folder.printed(0, &["run", "state"], program), "{\"status\":\"FAILED\"}\n");
+    fs::write(folder.path("program"), program).expect("written");
+    let said = folder.printed(1, &["check", "state", "program"], "");
+    assert!(said.contains("line 1 is not a login"), "{said}");
+}
+
 #[test]
 fn who_and_why() {
     let folder = venue("who");

@@ -47,6 +47,7 @@ const NO_COUNTS: [&str; 15] = [
     "", "00", "01", "0000000001", "4294967296", "4294967300", "9999999999", "42949672950", "99999999999999999999", "1a", "-1", "+1", " 1", "1 ", "1.",
 ];
 
+/// Those that no state may hold. Names that became keywords later stay.
 const KEYWORDS: [&str; 31] = [
     "all", "append", "as", "change", "create", "default", "delegate", "delegation", "delegator", "delete", "do", "exit",
     "foreach", "in", "local", "password", "principal", "read", "replacewith", "return", "set", "to", "write", "split",

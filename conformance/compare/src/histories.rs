@@ -1,6 +1,8 @@
 //! Programs that mean something to one another: several principals share a few variables, hand rights on and withdraw them, fill lists and
 //! come near the weight's limit. Most can be done, many cannot.
 
+use crate::older::{Names, OLDER};
+use crate::prices::{nearly, price, RARE};
 use crate::programs;
 use crate::random::Random;
 
@@ -10,6 +12,10 @@ const LOCALS: [&str; 3] = ["l", "m", "x"];
 const RIGHTS: [&str; 4] = ["read", "write", "append", "delegate"];
 const LABELS: [&str; 3] = ["a", "b", "key"];
 const FUNCTIONS: [&str; 3] = ["split", "concat", "tolower"];
+const SUMS: [&str; 4] = ["add", "sub", "times", "per"];
+
+/// What a state may have older names for.
+pub const RENAMED: Names = Names { principals: &["bob", "carol", "dave", "eve"], variables: &["song", "queue", "y", "list"], labels: &LABELS };
 
 fn one<'a>(random: &mut Random, words: &[&'a str]) -> &'a str {
     words[random.below(words.len())]
@@ -38,12 +44,19 @@ impl World {
         World { principals: 3 + random.below(4), variables: 2 + random.below(5) }
     }
 
+    /// Rarely an older name, as which no program can write it.
     fn principal(self, random: &mut Random) -> &'static str {
+        if random.below(80) == 0 {
+            return one(random, &OLDER);
+        }
         let known = if random.below(24) == 0 { PRINCIPALS.len() } else { self.principals };
         PRINCIPALS[random.below(known)]
     }
 
     fn variable(self, random: &mut Random) -> &'static str {
+        if random.below(120) == 0 {
+            return one(random, &OLDER);
+        }
         let known = if random.below(24) == 0 { VARIABLES.len() } else { self.variables };
         VARIABLES[random.below(known)]
     }
@@ -88,18 +101,33 @@ fn call_at_the_limit(random: &mut Random) -> String {
     }
 }
 
+/// What a function on prices is called with: mostly a price, sometimes what is nearly one, rarely a heavy string or what another function takes.
+fn summand(random: &mut Random, world: World) -> String {
+    match random.below(40) {
+        0 => format!("\"{}\"", "9".repeat(8_186 + random.below(12))),
+        1 | 2 => nearly(random),
+        3..=5 => argument(random, world),
+        6..=12 => one(random, &["song", "y", "l", "r.a"]).to_string(),
+        _ => price(random),
+    }
+}
+
 /// Mostly with as many arguments as the function takes, and between parentheses.
 fn call(random: &mut Random, world: World) -> String {
-    if random.below(60) == 0 {
-        return call_at_the_limit(random);
+    match random.below(120) {
+        0 | 1 => return call_at_the_limit(random),
+        2..=6 => return one(random, &RARE).to_string(),
+        _ => {}
     }
-    let function = one(random, &FUNCTIONS);
+    let is_sum = random.below(2) == 0;
+    let function = if is_sum { one(random, &SUMS) } else { one(random, &FUNCTIONS) };
     let count = match random.below(24) {
         0 => random.below(4),
         _ if function == "tolower" => 1,
         _ => 2,
     };
-    let arguments = (0..count).map(|_| argument(random, world)).collect::<Vec<String>>().join(",");
+    let value = |random: &mut Random| if is_sum { summand(random, world) } else { argument(random, world) };
+    let arguments = (0..count).map(|_| value(random)).collect::<Vec<String>>().join(",");
     match random.below(80) {
         0 => format!("{function} {arguments}"),
         1 => format!("{function}({arguments}"),
@@ -135,7 +163,7 @@ fn expression(random: &mut Random, world: World) -> String {
 
 /// What foreach replaces by: y1 is its element.
 fn replacement(random: &mut Random, world: World) -> String {
-    match random.below(12) {
+    match random.below(16) {
         0 | 1 => "y1".to_string(),
         2 => "{a=y1.a,b=\"0\"}".to_string(),
         3 => "{key=y1}".to_string(),
@@ -145,6 +173,10 @@ fn replacement(random: &mut Random, world: World) -> String {
         7 => one(random, &["tolower(y1)", "tolower(y1.a)", "split(y1.a,y1.a)"]).to_string(),
         // Too heavy for one element, where a later one may be no string.
         8 => format!("{}({},{})", one(random, &["split", "concat"]), one(random, &["y1", "y1.a"]), letters(8_185 + random.below(16))),
+        9 => format!("{}(y1,{})", one(random, &SUMS), summand(random, world)),
+        10 => format!("{}({},y1)", one(random, &SUMS), summand(random, world)),
+        11 => format!("{}(y1.a,{})", one(random, &SUMS), summand(random, world)),
+        12 => format!("{}({},y1.a)", one(random, &SUMS), price(random)),
         _ => expression(random, world),
     }
 }
@@ -174,13 +206,29 @@ fn command(random: &mut Random, world: World, sender: &str) -> String {
     }
 }
 
+/// A list of many short strings, each of which a call makes longer until they are too heavy together, and an element behind them that may fail.
+fn swollen(random: &mut Random) -> Vec<String> {
+    let last = match random.below(3) {
+        0 => nearly(random),
+        1 => price(random),
+        _ => one(random, &["\"0.00\"", "{a=\"0.01\"}"]).to_string(),
+    };
+    let call = one(random, &["per(\"12345.67\",y1)", "sub(y1,\"1234567.00\")", "add(\"-9000000.00\",y1)", "concat(y1,y1)"]);
+    let mut lines = vec!["local s = []".to_string(), format!("append to s with {}", one(random, &["\"0.01\"", "\"0.02\""]))];
+    lines.extend((0..10).map(|_| "append to s with s".to_string()));
+    lines.push(format!("append to s with {last}"));
+    lines.push(format!("foreach y1 in s replacewith {call}"));
+    lines
+}
+
 /// A program of a principal who mostly knows the password. `last` may end the history.
 fn program(random: &mut Random, world: World, last: bool) -> Vec<u8> {
     let sender = if random.below(3) == 0 { "admin" } else { world.principal(random) };
     let password = if random.below(16) == 0 { one(random, &["t", ""]) } else { "s" };
     let mut lines = vec![format!("as principal {sender} password \"{password}\" do")];
-    for _ in 0..random.below(4) {
-        lines.push(command(random, world, sender));
+    match random.below(300) {
+        0 => lines.extend(swollen(random)),
+        _ => (0..random.below(4)).for_each(|_| lines.push(command(random, world, sender))),
     }
     lines.push(if last && random.below(2) == 0 { "exit".to_string() } else { format!("return {}", expression(random, world)) });
     lines.push("***".to_string());
@@ -208,13 +256,16 @@ pub fn opening(random: &mut Random, world: World) -> Vec<u8> {
     for name in &VARIABLES[..world.variables] {
         let value = match *name {
             "list" | "queue" => "[]",
-            "r" => "{a=\"1\",key=\"F\"}",
+            "r" => one(random, &["{a=\"1\",key=\"F\"}", "{a=\"2.25\",key=\"F\"}"]),
+            "song" | "y" => one(random, &["\"text\"", "\"12.50\"", "\"-0.05\""]),
             _ => "\"text\"",
         };
         lines.push(format!("set {name} = {value}"));
     }
+    let priced = random.below(2) == 0;
     for _ in 0..random.below(4) {
-        lines.push(format!("append to list with {}", one(random, &["\"one\"", "{a=\"1\"}", "\"\""])));
+        let values: &[&str] = if priced { &["\"0.15\"", "\"-9.99\"", "\"0.00\""] } else { &["\"one\"", "{a=\"1\"}", "{a=\"0.25\"}", "\"\""] };
+        lines.push(format!("append to list with {}", one(random, values)));
     }
     for _ in 0..random.below(16) {
         lines.push(format!(

@@ -3,9 +3,11 @@
 pub mod damage;
 pub mod former;
 pub mod histories;
+pub mod older;
 pub mod page;
 pub mod parser;
 pub mod plans;
+pub mod prices;
 pub mod programs;
 pub mod random;
 pub mod rights;

@@ -2,7 +2,7 @@
 
 use crate::former::{self, Form};
 use crate::random::Random;
-use model::names::keyword;
+use model::names::{keyword, may_be_kept};
 use model::rights::Assertion;
 use model::state::{Principals, State, COUNT_WEIGHT, HEAVIEST};
 use model::text::encode;
@@ -87,10 +87,10 @@ const LETTERS: &[u8] = b"abcdefghijklmnopqrstuvwxyzABCDEFGHIJKLMNOPQRSTUVWXYZ";
 const WORD: &[u8] = b"abcdefghijklmnopqrstuvwxyzABCDEFGHIJKLMNOPQRSTUVWXYZ0123456789_";
 const STRING: &[u8] = b"abcdefghijklmnopqrstuvwxyzABCDEFGHIJKLMNOPQRSTUVWXYZ0123456789_ ,;.?!-";
 
-/// Names that are easy to mistake for others: keywords with more or less of them, and some with the same hash.
-const NAMES: [&str; 22] = [
+/// Names that are easy to mistake for others: keywords with more or less of them, some with the same hash, and those that became keywords later.
+const NAMES: [&str; 30] = [
     "rosa", "queue", "x", "y", "admi", "admins", "anyon", "anyones", "a9_", "Set", "sets", "al", "alls", "Aa", "BB", "AaAa",
-    "AaBB", "BBAa", "BBBB", "wit", "splits", "tolowe",
+    "AaBB", "BBAa", "BBBB", "wit", "splits", "tolowe", "add", "sub", "times", "per", "adds", "Sub", "time", "pe",
 ];
 
 fn run(random: &mut Random, bytes: &[u8], length: usize) -> Bytes {
@@ -105,7 +105,7 @@ pub fn name(random: &mut Random) -> Bytes {
             let more = random.below(12);
             let mut name = run(random, LETTERS, 1);
             name.extend(run(random, WORD, more));
-            if keyword(&name).is_some() {
+            if !may_be_kept(&name) {
                 name.push(b'_');
             }
             name

@@ -1,13 +1,15 @@
 //! Programs that look random: whole ones with odd spaces and comments, and damaged ones.
 
+use crate::prices::price;
 use crate::random::Random;
 
 const NAMES: [&str; 12] = ["admin", "anyone", "bob", "carol", "x", "y", "z", "song_1", "Queue", "a9_", "sets", "doo"];
-const KEYWORDS: [&str; 31] = [
+const KEYWORDS: [&str; 35] = [
     "all", "append", "as", "change", "create", "default", "delegate", "delegation", "delegator", "delete", "do", "exit",
     "foreach", "in", "local", "password", "principal", "read", "replacewith", "return", "set", "to", "write", "split",
-    "concat", "tolower", "notequal", "equal", "filtereach", "with", "let",
+    "concat", "tolower", "notequal", "equal", "filtereach", "with", "let", "add", "sub", "times", "per",
 ];
+const FUNCTIONS: [&str; 7] = ["split", "concat", "tolower", "add", "sub", "times", "per"];
 const RIGHTS: [&str; 4] = ["read", "write", "append", "delegate"];
 const TEXTS: [&str; 6] = ["", "s", "Blue Moon", "-_,;.?! 9", "a b", "0"];
 
@@ -42,6 +44,7 @@ fn operand(random: &mut Random) -> String {
     match random.below(4) {
         0 | 1 => name(random),
         2 => format!("{}{}.{}{}", name(random), gap(random), gap(random), name(random)),
+        _ if random.below(3) == 0 => price(random),
         _ => string(random),
     }
 }
@@ -49,7 +52,7 @@ fn operand(random: &mut Random) -> String {
 /// A call of a function, with gaps. Rarely it has another number of arguments than the function takes, a call for an argument, or a
 /// parenthesis too few or too many.
 fn call(random: &mut Random) -> String {
-    let function = one(random, &["split", "concat", "tolower"]);
+    let function = one(random, &FUNCTIONS);
     let count = match random.below(20) {
         0 => random.below(4),
         _ if function == "tolower" => 1,

@@ -2,6 +2,7 @@
 
 use std::collections::HashSet;
 
+use crate::older::OLDER;
 use crate::plans::short_name;
 use crate::random::Random;
 use model::state::HEAVIEST;
@@ -53,13 +54,16 @@ impl Venue {
             weight: 2 * 12,
         };
         for _ in 0..1 + random.below(4) {
-            let name = match random.below(10) {
+            let name = match random.below(12) {
                 0 => long_name(random),
-                at => ["x", "y", "queue", "list", "admin", "anyone", "aa", "x", "y"][at - 1].to_string(),
+                at => ["x", "y", "queue", "list", "admin", "anyone", "aa", "x", "y", "add", "per"][at - 1].to_string(),
             };
             venue.add_variable(name);
         }
         let long = random.below(3) == 0;
+        if random.below(6) == 0 {
+            venue.add_principal(OLDER[random.below(OLDER.len())].to_string());
+        }
         for at in 0..crowd(random) {
             let name = if long && random.below(3) == 0 { long_name(random) } else { String::from_utf8_lossy(&short_name(at)).into_owned() };
             venue.add_principal(name);

@@ -12,16 +12,18 @@ use compare::seen::{must_come, note, setting, side_by_side, Seen, WORKERS};
 use compare::server::{ask, bring, run, Answer};
 use compare::states::{self, figures, FIGURES};
 use model::calls;
+use model::observe::older::is_older;
 use model::state::HEAVIEST;
 use model::text::{decode, decode_former, BUFFER};
 
 /// What must come: answers, what was brought over, and what was refused for what.
-const EXPECTED: [&str; 27] = [
+const EXPECTED: [&str; 29] = [
     "ready", "number 2", "number 10", "number 11", "ready: open", "ready: closed", "ready: count of one digit", "ready: count of ten digits",
     "ready: the last count", "ready: anyone has a password", "ready: delegator another than anyone", "ready: more than 300 principals",
     "ready: more than 1,000 assertions or variables", "ready: new weight 8,192", "ready: new weight 8,191", "11: new weight 8,193",
     "11: new weight 8,194", "11: former weight 8,192", "11: more than 682 principals", "10: a state in the lines of now", "10: zeros",
     "2: former, whole", "2: former, damaged", "2: state, whole", "2: state, damaged", "2: both", "program and question afterwards",
+    "ready: older principal", "ready: older variable",
 ];
 
 /// Brings over on both sides; the answer, and what stands in the second buffer.
@@ -57,6 +59,8 @@ fn observed(seen: &mut Seen, buffer: &[u8], answer: Answer) {
         tell(state.delegator != 1, "delegator another than anyone");
         tell(people > 300, "more than 300 principals");
         tell(others > 1_000, "more than 1,000 assertions or variables");
+        tell(state.principals.iter().any(|one| is_older(one.name)), "older principal");
+        tell(state.variables.iter().any(|one| is_older(one.name)), "older variable");
         tell(weight == HEAVIEST, "new weight 8,192");
         tell(weight == HEAVIEST - 1, "new weight 8,191");
     } else {

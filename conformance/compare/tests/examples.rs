@@ -81,3 +81,8 @@ fn evening() {
 fn titles() {
     compared("titles");
 }
+
+#[test]
+fn bill() {
+    compared("bill");
+}

@@ -1,23 +1,26 @@
 //! Histories of calls, beside the model: programs of several principals, damaged programs and states, buffers of wrong sizes, a question and a sheet
 //! after every call. The answer, and every byte of the state, of the work buffer and of the output, are compared. Some go on from a state whose counts
-//! stand near the end of a width, some from a former state brought over.
+//! stand near the end of a width, some from one with older names, some from a former state brought over.
 //!
 //! In the gate 20,000 histories are run. For more of them, or others:
 //!
 //!     HISTORIES=1000000 SEED=7 cargo test --offline --release -p compare --test histories -- --nocapture
 
 use compare::former::{count, former, padded, recounted, text};
-use compare::histories::{next, opening, World, PRINCIPALS, VARIABLES};
+use compare::histories::{next, opening, World, PRINCIPALS, RENAMED, VARIABLES};
+use compare::older::{renamed, OLDER};
 use compare::random::Random;
 use compare::seen::{must_come, note, setting, side_by_side, Seen, WORKERS};
 use compare::server::{ask, bring, make, run, sheet, Answer};
 use model::calls;
 use model::engine::End;
+use model::observe::older::{is_older, older, Met, OLDER as OLDER_MET};
+use model::observe::prices::{FAILURES, ROUNDINGS};
 use model::observe::{self, COUNTS, FUNCTIONS, MISHAPS, PLACES, SHAPES};
 use model::text::BUFFER;
 
-/// What must come: each status, each kind of end, each number, each answer; beside them each form of a call and each mishap of one, and what becomes of
-/// counts, by the lists of `model::observe`.
+/// What must come: each status, each kind of end, each number, each answer; beside them each form of a call and each mishap of one, how prices are
+/// rounded, what becomes of counts, and what programs meet of older names, by the lists of `model::observe`.
 const STATUSES: [&str; 11] = [
     "CREATE_PRINCIPAL", "CHANGE_PASSWORD", "SET", "APPEND", "LOCAL", "FOREACH", "SET_DELEGATION", "DELETE_DELEGATION",
     "DEFAULT_DELEGATOR", "RETURNING", "EXITING",
@@ -28,9 +31,12 @@ const NUMBERS: [&str; 16] = [
     "sheet 7",
 ];
 const ANSWERS: [&str; 5] = ["yes", "no", "ready", "listed: open", "listed: closed"];
+/// What is answered about older names.
+const OLDER_ANSWERS: [&str; 5] =
+    ["yes: older principal", "yes: older variable", "no: older name", "listed: older variable", "listed: older principal"];
 /// Histories that start otherwise than from a server just made, and what came after.
-const STARTS: [&str; 8] = [
-    "counts set", "brought over", "brought over: Returned", "brought over: Exited", "brought over: Denied", "brought over: Failed", "brought over: Full",
+const STARTS: [&str; 10] = [
+    "counts set", "older names set", "older names brought over", "brought over", "brought over: Returned", "brought over: Exited", "brought over: Denied", "brought over: Failed", "brought over: Full",
     "bring 10",
 ];
 
@@ -65,6 +71,8 @@ fn run_both(seen: &mut Seen, proved: &mut Lent, model: &mut Lent, program: &[u8]
             if matches!(report.end, End::Returned | End::Exited) {
                 observe::count(&before, program, &model.state).iter().for_each(|told| note(seen, told));
             }
+            let met = Met { before: &before, program, end: report.end, output: &model.output[..report.bytes], after: &model.state };
+            older(&met).iter().for_each(|told| note(seen, told));
             Answer::Ended(report)
         }
         Err(refusal) => {
@@ -84,18 +92,26 @@ fn one<'a>(random: &mut Random, words: &[&'a str]) -> &'a str {
     words[random.below(words.len())]
 }
 
+/// One of these names, or rarely an older one.
+fn name<'a>(random: &mut Random, names: &[&'a str]) -> &'a str {
+    if random.below(8) == 0 { one(random, &OLDER) } else { one(random, names) }
+}
+
 fn ask_both(seen: &mut Seen, random: &mut Random, state: &[u8]) {
-    let name = if random.below(12) == 0 { "nobody" } else { one(random, &PRINCIPALS) };
-    let variable = one(random, &VARIABLES);
+    let name = if random.below(12) == 0 { "nobody" } else { self::name(random, &PRINCIPALS) };
+    let variable = self::name(random, &VARIABLES);
     let right = b"rwadrwadrwadx"[random.below(13)];
     let answer = ask(state, name.as_bytes(), variable.as_bytes(), right);
     let expected = match calls::ask(state, name.as_bytes(), variable.as_bytes(), right) {
         Ok(Some(length)) => {
             note(seen, "yes");
+            is_older(name.as_bytes()).then(|| note(seen, "yes: older principal"));
+            is_older(variable.as_bytes()).then(|| note(seen, "yes: older variable"));
             Answer::Yes(length)
         }
         Ok(None) => {
             note(seen, "no");
+            [name, variable].iter().any(|word| is_older(word.as_bytes())).then(|| note(seen, "no: older name"));
             Answer::No
         }
         Err(refusal) => {
@@ -112,8 +128,16 @@ fn sheet_of(random: &mut Random) -> String {
         0 => String::new(),
         1 => one(random, &PRINCIPALS).to_string(),
         2 => one(random, &VARIABLES).repeat(300),
-        _ => one(random, &VARIABLES).to_string(),
+        _ => name(random, &VARIABLES).to_string(),
     }
+}
+
+/// What a sheet shows, and of whom.
+fn listed(seen: &mut Seen, state: &[u8], variable: &str, sheet: &[u8]) {
+    note(seen, if state[0] == b'O' { "listed: open" } else { "listed: closed" });
+    is_older(variable.as_bytes()).then(|| note(seen, "listed: older variable"));
+    let has_older = sheet.chunks(40).any(|line| line.split(|byte| *byte == b' ').next().is_some_and(is_older));
+    has_older.then(|| note(seen, "listed: older principal"));
 }
 
 /// The same sheet on both sides, in an output that held something else and sometimes has another size.
@@ -128,7 +152,7 @@ fn sheet_both(seen: &mut Seen, random: &mut Random, state: &[u8]) {
     assert!(lent == state, "a sheet of {variable} changed the state");
     assert!(proved == expected, "the sheet of {variable}");
     match outcome {
-        Ok(_) => note(seen, if state[0] == b'O' { "listed: open" } else { "listed: closed" }),
+        Ok(sheet) => listed(seen, state, &variable, &proved[..sheet.bytes]),
         Err(refusal) => note(seen, &format!("sheet {}", refusal.number())),
     }
 }
@@ -172,10 +196,12 @@ fn call_aside(seen: &mut Seen, random: &mut Random, lent: &Lent, program: &[u8])
     run_both(seen, &mut aside, &mut expected, program);
 }
 
-/// The state as a former one, brought over on both sides into a buffer that held something else. Rarely it is damaged first, and the history goes on
-/// with the state that it had.
+/// The state as a former one, brought over on both sides into a buffer that held something else. Sometimes it has older names. Rarely it is damaged
+/// first, and the history goes on with the state that it had.
 fn bring_both(seen: &mut Seen, random: &mut Random, state: &[u8]) -> Option<Vec<u8>> {
-    let mut old = padded(&former(text(state), count(random)));
+    let has_older = random.below(3) == 0;
+    let state = if has_older { renamed(random, text(state), &RENAMED) } else { text(state).to_vec() };
+    let mut old = padded(&former(&state, count(random)));
     if random.below(8) == 0 {
         let used = text(&old).len();
         old[random.below(used)] = b"OCPNDVSRLFA\t\n01ab\0\xff"[random.below(19)];
@@ -187,20 +213,24 @@ fn bring_both(seen: &mut Seen, random: &mut Random, state: &[u8]) -> Option<Vec<
     assert_eq!(answer, outcome.map_or_else(|refusal| Answer::Wrong(refusal.number()), |()| Answer::Ready));
     assert!(lent == old && proved == expected, "the buffers of a bringing");
     match outcome {
-        Ok(()) => note(seen, "brought over"),
+        Ok(()) => note(seen, if has_older { "older names brought over" } else { "brought over" }),
         Err(refusal) => note(seen, &format!("bring {}", refusal.number())),
     }
     outcome.is_ok().then_some(proved)
 }
 
-/// Some histories go on from a state with other counts, some from one brought over; whether this is one of these.
+/// Some histories go on from a state with other counts, some from one with older names, some from one brought over; whether this is one of the last.
 fn goes_on_from_another(seen: &mut Seen, random: &mut Random, proved: &mut Lent, model: &mut Lent) -> bool {
-    let (state, is_brought) = match random.below(6) {
+    let (state, is_brought) = match random.below(8) {
         0 | 1 => {
             note(seen, "counts set");
             (Some(padded(&recounted(random, text(&proved.state)))), false)
         }
         2 => (bring_both(seen, random, &proved.state), true),
+        3 | 4 => {
+            note(seen, "older names set");
+            (Some(padded(&renamed(random, text(&proved.state), &RENAMED))), false)
+        }
         _ => (None, false),
     };
     let Some(state) = state else { return false };
@@ -249,6 +279,7 @@ fn histories() {
         seen
     });
     must_come(&seen, STATUSES.iter().chain(&ENDS).chain(&NUMBERS).chain(&ANSWERS).chain(&STARTS).chain(&COUNTS).chain(&MISHAPS).chain(&SHAPES));
+    must_come(&seen, ROUNDINGS.iter().chain(&FAILURES).chain(&OLDER_MET).chain(&OLDER_ANSWERS));
     for (function, place) in FUNCTIONS.iter().flat_map(|function| PLACES.map(|place| (function, place))) {
         assert!(seen.contains_key(&format!("{function} in {place}")), "{function} was never done in {place}");
     }

@@ -15,18 +15,19 @@ use compare::server::{ask, sheet, Answer};
 use compare::steps::has_ring;
 use compare::venues::Venue;
 use model::calls::{self, Listed};
+use model::observe::older::is_older;
 use model::rights::{holders, Assertion, Right, ADMIN};
 use model::state::State;
 use model::text::{decode, BUFFER};
 
 /// What must come: of sheets, of the rights in them, and of refusals.
-const EXPECTED: [&str; 33] = [
+const EXPECTED: [&str; 35] = [
     "listed: open", "listed: closed", "listed: two lines", "listed: more than 300 lines", "listed: more than 1,000 assertions", "name of 33 whole",
     "name of 34 whole", "name of 35 cut", "name of 255 cut", "two names look alike", "two names look alike with other rights", "letter r", "letter w",
     "letter a", "letter d", "point", "all letters, not admin", "right through anyone", "right of anyone by a chain", "ring without admin",
     "step to oneself without the right", "chain that one pass does not follow", "variable of a principal's name", "right on another variable only",
     "number 1", "1 and all else wrong", "number 2", "2 and not well formed", "number 4", "4 and no such variable", "number 7", "7: a principal's name",
-    "7: no name",
+    "7: no name", "older variable", "older principal",
 ];
 
 /// The sheet by both sides, from an output of this size that held something else: the answer, and what stands in the output.
@@ -108,6 +109,8 @@ fn observed(seen: &mut Seen, decoded: &State, variable: &[u8], lines: &[&[u8]]) 
     tell(lines.len() > 300, "listed: more than 300 lines");
     tell(decoded.standing().len() > 1_000, "listed: more than 1,000 assertions");
     tell(decoded.principals.find(variable).is_some(), "variable of a principal's name");
+    tell(is_older(variable), "older variable");
+    tell(decoded.principals.iter().any(|principal| is_older(principal.name)), "older principal");
     tell(lines[1..].iter().any(|line| line.ends_with(b" rwad\n")), "all letters, not admin");
     for line in &lines[1..] {
         for letter in &line[35..39] {

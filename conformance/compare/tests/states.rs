@@ -6,8 +6,10 @@ use compare::former::Form;
 use compare::plans::{name, Plan, Shape};
 use compare::random::Random;
 use compare::states::{self, figures, value_text, Answer, FIGURES, ROOM};
+use model::observe::older::is_older;
 use model::state::State;
 use model::text::{decode, BUFFER};
+use model::value::{Item, Value};
 use std::collections::BTreeMap;
 use std::fmt::Debug;
 
@@ -43,6 +45,7 @@ impl Comparison {
             same(&states::principal_count(buffer, b"admin"), &Answer::Bad, buffer);
             return false;
         };
+        self.older_names(&state);
         let few = state.principals.count() + usize::from(state.variables.count()) < 20;
         if few && self.random.below(30) == 0 {
             self.look_up_all(buffer, &state);
@@ -50,6 +53,24 @@ impl Comparison {
             self.look_up_some(buffer, &state);
         }
         true
+    }
+
+    /// Names and labels that became keywords later, which a state may hold.
+    fn older_names(&mut self, state: &State) {
+        let has_label = |item: &Item| matches!(item, Item::Record(record) if record.fields().iter().any(|field| is_older(field.label)));
+        let has_labels = |value: &Value| match value {
+            Value::Item(item) => has_label(item),
+            Value::List(list) => list.items().iter().any(has_label),
+        };
+        for (is_so, kind) in [
+            (state.principals.iter().any(|one| is_older(one.name)), "older principal"),
+            (state.variables.iter().any(|one| is_older(one.name)), "older variable"),
+            (state.variables.iter().any(|one| has_labels(&one.value)), "older label"),
+        ] {
+            if is_so {
+                *self.looked_up.entry(kind).or_default() += 1;
+            }
+        }
     }
 
     fn look_up_some(&mut self, buffer: &[u8], state: &State) {
@@ -241,9 +262,9 @@ fn states(seed: u64, count: usize) -> Seen {
 }
 
 /// What look-ups must have met.
-const KINDS: [&str; 11] = [
+const KINDS: [&str; 14] = [
     "principal by name", "variable by name", "principal by number", "variable by number", "found", "missing", "no password kept", "count of 0",
-    "count of ten digits", "another count", "no count: no such principal",
+    "count of ten digits", "another count", "no count: no such principal", "older principal", "older variable", "older label",
 ];
 
 /// Two runs side by side, and what each of them must have met.

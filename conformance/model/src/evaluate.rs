@@ -218,7 +218,9 @@ impl<'a> Template<'a> {
             Template::Constant(_) | Template::Part(Part::Element) => true,
             Template::Part(part) => part.text(item).is_some(),
             Template::Record(parts) => parts.iter().all(|(_, part)| part.text(item).is_some()),
-            Template::Call(call) => call.arguments().all(|part| part.text(item).is_some()),
+            Template::Call(call) => call
+                .map(|part| part.text(item))
+                .is_some_and(|call| !call.fails()),
         }
     }
 }

@@ -1,4 +1,5 @@
-//! The functions on strings (001, String functions; 02, M-100).
+//! The functions on strings (001, String functions; 02, M-100) and on prices
+//! (02, M-104).
 
 use crate::session::Undone;
 use crate::state::HEAVIEST;
@@ -8,12 +9,16 @@ use crate::value::{Field, Item, Record};
 
 impl<'a> Call<&'a [u8]> {
     /// What the function gives. FULL where an argument or the result weighs
-    /// too much; what would is not made.
+    /// too much; what would is not made. A string that weighs too much is no
+    /// price, and FAILED goes before FULL.
     pub fn result(&self, maker: &Maker<'a>) -> Result<Item<'a>, Undone> {
-        if self.arguments().any(|text| text.len() > HEAVIEST) {
-            return Err(Undone::Full);
-        }
+        let is_heavy = self.arguments().any(|text| text.len() > HEAVIEST);
         let item = match *self {
+            Call::Prices(operation, first, second) => {
+                let price = operation.of_texts(first, second).ok_or(Undone::Failed)?;
+                Item::Text(maker.keep(price.text()))
+            }
+            _ if is_heavy => return Err(Undone::Full),
             Call::Split(text, measure) => Item::Record(split(text, measure.len())),
             Call::Concat(first, second) if first.len() + second.len() > HEAVIEST => {
                 return Err(Undone::Full)
@@ -25,6 +30,15 @@ impl<'a> Call<&'a [u8]> {
             return Err(Undone::Full);
         }
         Ok(item)
+    }
+
+    /// Whether the function is FAILED for these strings. The functions on
+    /// strings never are.
+    pub fn fails(&self) -> bool {
+        match *self {
+            Call::Prices(operation, first, second) => operation.of_texts(first, second).is_none(),
+            Call::Split(..) | Call::Concat(..) | Call::Tolower(_) => false,
+        }
     }
 }
 

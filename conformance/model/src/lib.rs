@@ -5,9 +5,10 @@
 //! From the bottom up: [`bytes`] and [`names`] know the alphabets, [`syntax`],
 //! [`token`] and [`parse`] the program text, [`value`], [`state`] and [`text`]
 //! the state and its text, [`rights`] the chains, [`strings`], [`session`],
-//! [`functions`], [`evaluate`], [`lines`] and [`engine`] what a program does,
-//! [`sheet`] who may do what on paper, and [`calls`] what the host program may call. [`observe`] is for tests: it
-//! tells what became of the calls of functions in a program.
+//! [`prices`], [`functions`], [`evaluate`], [`lines`] and [`engine`] what a
+//! program does, [`sheet`] who may do what on paper, and [`calls`] what the host
+//! program may call. [`observe`] is for tests: it tells what became of the calls
+//! of functions in a program, and what a program met of older names.
 
 #![forbid(unsafe_code)]
 
@@ -20,6 +21,7 @@ pub mod lines;
 pub mod names;
 pub mod observe;
 pub mod parse;
+pub mod prices;
 pub mod rights;
 pub mod session;
 pub mod sheet;

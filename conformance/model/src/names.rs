@@ -8,10 +8,11 @@ use crate::bytes::{class, Class};
 /// The longest identifier (001, Grammar).
 pub const LONGEST_NAME: usize = 255;
 
-/// 01: Keywords. Those of 001's optional features that are not taken in are
-/// reserved without a use.
+/// Keywords: 01's, and the four of 02's M-104. Those of 001's optional features
+/// that are not taken in are reserved without a use.
 #[derive(Clone, Copy, PartialEq, Eq, Debug)]
 pub enum Keyword {
+    Add,
     All,
     Append,
     As,
@@ -29,12 +30,15 @@ pub enum Keyword {
     In,
     Local,
     Password,
+    Per,
     Principal,
     Read,
     Replacewith,
     Return,
     Set,
     Split,
+    Sub,
+    Times,
     To,
     Tolower,
     With,
@@ -42,8 +46,21 @@ pub enum Keyword {
     Reserved,
 }
 
+impl Keyword {
+    /// 02, M-104: whether this was a name before it became a keyword, so that
+    /// a state may still hold it. No program can write it as a name.
+    pub fn was_a_name(self) -> bool {
+        matches!(
+            self,
+            Keyword::Add | Keyword::Sub | Keyword::Times | Keyword::Per
+        )
+    }
+}
+
+/// The keyword that a word of a program is, if it is one.
 pub fn keyword(word: &[u8]) -> Option<Keyword> {
     Some(match word {
+        b"add" => Keyword::Add,
         b"all" => Keyword::All,
         b"append" => Keyword::Append,
         b"as" => Keyword::As,
@@ -61,12 +78,15 @@ pub fn keyword(word: &[u8]) -> Option<Keyword> {
         b"in" => Keyword::In,
         b"local" => Keyword::Local,
         b"password" => Keyword::Password,
+        b"per" => Keyword::Per,
         b"principal" => Keyword::Principal,
         b"read" => Keyword::Read,
         b"replacewith" => Keyword::Replacewith,
         b"return" => Keyword::Return,
         b"set" => Keyword::Set,
         b"split" => Keyword::Split,
+        b"sub" => Keyword::Sub,
+        b"times" => Keyword::Times,
         b"to" => Keyword::To,
         b"tolower" => Keyword::Tolower,
         b"with" => Keyword::With,
@@ -77,12 +97,12 @@ pub fn keyword(word: &[u8]) -> Option<Keyword> {
 }
 
 /// Whether a run of word bytes is a name or label that a state text may hold:
-/// an identifier, no keyword.
+/// an identifier that is no keyword, or was none when it was written.
 pub fn may_be_kept(run: &[u8]) -> bool {
     run.first()
         .is_some_and(|&first| class(first) == Class::Letter)
         && run.len() <= LONGEST_NAME
-        && keyword(run).is_none()
+        && keyword(run).is_none_or(Keyword::was_a_name)
 }
 
 /// A quick hash of short byte strings and of single numbers.

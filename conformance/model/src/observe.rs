@@ -2,25 +2,29 @@
 //! count, told in a few words each. Random tests count them, so that no form
 //! and no mishap is left out unnoticed.
 
+pub mod older;
+pub mod prices;
+
 use crate::engine::login;
 use crate::names::Keyword;
 use crate::parse::parse;
 use crate::session::{Session, Undone};
 use crate::state::HEAVIEST;
 use crate::strings::Strings;
-use crate::syntax::{Call, Command, Expression, Foreach, Last, Operand, Program};
+use crate::syntax::{Call, Command, Expression, Foreach, Last, Operand, Operation, Program};
 use crate::text::decode;
 use crate::token::{Scanner, Token};
-use crate::value::Value;
+use crate::value::{Item, Value};
 
-pub const FUNCTIONS: [&str; 3] = ["split", "concat", "tolower"];
+pub const FUNCTIONS: [&str; 7] = ["split", "concat", "tolower", "add", "sub", "times", "per"];
 
 /// Where an expression may stand. A call that was done is told as "split in
 /// set".
 pub const PLACES: [&str; 5] = ["set", "append", "local", "foreach", "return"];
 
-/// What a call may come to where the program ends with it.
-pub const MISHAPS: [&str; 9] = [
+/// What a call may come to where the program ends with it. Where its strings
+/// are no prices, or have no result, [`prices::FAILURES`] has the words.
+pub const MISHAPS: [&str; 10] = [
     "DENIED by an argument",
     "FAILED by a missing name",
     "FAILED by a missing field",
@@ -30,6 +34,7 @@ pub const MISHAPS: [&str; 9] = [
     "FULL by an argument",
     "FULL by a result",
     "FULL by what is left",
+    "FAILED behind strings that are too heavy",
 ];
 
 /// Why a program with such a call does not parse.
@@ -95,9 +100,9 @@ pub fn calls(state: &[u8], program: &[u8]) -> Vec<String> {
             true => Err(Undone::Denied),
             false => session.evaluate(expression).map(|_| ()),
         };
-        told.push(match outcome {
-            Ok(()) => done(call, PLACES[4]),
-            Err(undone) => mishap(&session, call, None, undone).to_string(),
+        told.extend(match outcome {
+            Ok(()) => done_with(&session, call, PLACES[4], None),
+            Err(undone) => mishap(&session, call, None, undone),
         });
     }
     told
@@ -119,8 +124,68 @@ fn done<A>(call: &Call<A>, place: &str) -> String {
         Call::Split(..) => FUNCTIONS[0],
         Call::Concat(..) => FUNCTIONS[1],
         Call::Tolower(..) => FUNCTIONS[2],
+        Call::Prices(Operation::Add, ..) => FUNCTIONS[3],
+        Call::Prices(Operation::Sub, ..) => FUNCTIONS[4],
+        Call::Prices(Operation::Times, ..) => FUNCTIONS[5],
+        Call::Prices(Operation::Per, ..) => FUNCTIONS[6],
     };
     format!("{function} in {place}")
+}
+
+/// A call that was done, and how each price that it gave was rounded.
+fn done_with<'a>(
+    session: &Session<'a>,
+    call: &Call<Operand<'a>>,
+    place: &str,
+    foreach: Option<&Foreach<'a>>,
+) -> Vec<String> {
+    let strings = applied(session, call, foreach).into_iter().flatten();
+    let rounded = strings.flat_map(|call| of_prices(&call));
+    let told = rounded.map(str::to_string);
+    [done(call, place)].into_iter().chain(told).collect()
+}
+
+/// What became of an operation on prices.
+fn of_prices(call: &Call<&[u8]>) -> Vec<&'static str> {
+    match *call {
+        Call::Prices(operation, first, second) => prices::outcome(operation, first, second),
+        _ => Vec::new(),
+    }
+}
+
+/// The call with its strings, for each element of a foreach or once; none
+/// where an argument is no string.
+fn applied<'a>(
+    session: &Session<'a>,
+    call: &Call<Operand<'a>>,
+    foreach: Option<&Foreach<'a>>,
+) -> Vec<Option<Call<&'a [u8]>>> {
+    let Some(foreach) = foreach else {
+        return vec![call.map(|operand| string(session, operand, None))];
+    };
+    let list = session.read(foreach.list).and_then(Value::list);
+    let items = list.map_or(&[][..], |list| list.items());
+    let bound = items.iter().map(|item| (foreach.element, item));
+    bound
+        .map(|bound| call.map(|operand| string(session, operand, Some(bound))))
+        .collect()
+}
+
+/// An operand's value where it is a string, a name being bound to an item.
+fn string<'a>(
+    session: &Session<'a>,
+    operand: &Operand<'a>,
+    bound: Option<(&[u8], &Item<'a>)>,
+) -> Option<&'a [u8]> {
+    let item = |name: &[u8]| match bound {
+        Some((element, item)) if element == name => Some(item.clone()),
+        _ => session.read(name)?.item().cloned(),
+    };
+    match *operand {
+        Operand::Variable(name) => item(name)?.text(),
+        Operand::Field(name, label) => item(name)?.field(label),
+        Operand::Text(text) => Some(text),
+    }
 }
 
 /// Does a command and tells what became of its call; whether it was done. The
@@ -132,15 +197,15 @@ fn stepped<'a>(session: &mut Session<'a>, command: &Command<'a>, told: &mut Vec<
     };
     let before = session.clone();
     let outcome = session.step(command);
-    let element = match command {
+    let foreach = match command {
         Command::Foreach(foreach) if !before.foreach_evaluates(foreach) => return outcome.is_ok(),
-        Command::Foreach(foreach) => Some(foreach.element),
+        Command::Foreach(foreach) => Some(foreach),
         _ => None,
     };
     match outcome {
-        Ok(()) => told.push(done(call, place)),
+        Ok(()) => told.extend(done_with(&before, call, place, foreach)),
         Err(undone) if before.clone().step(&without_call(command)) != outcome => {
-            told.push(mishap(&before, call, element, undone).to_string());
+            told.extend(mishap(&before, call, foreach, undone));
         }
         Err(_) => {}
     }
@@ -176,26 +241,65 @@ fn without_call<'a>(command: &Command<'a>) -> Command<'a> {
     }
 }
 
-/// Why the call could not be done, of [`MISHAPS`].
+/// Why the call could not be done, of [`MISHAPS`] or [`prices::FAILURES`].
 fn mishap<'a>(
     session: &Session<'a>,
     call: &Call<Operand<'a>>,
-    element: Option<&[u8]>,
+    foreach: Option<&Foreach<'a>>,
     undone: Undone,
-) -> &'static str {
-    match undone {
-        Undone::Denied => MISHAPS[0],
-        Undone::Failed => call
-            .arguments()
-            .filter(|operand| element.is_none() || element != named(operand))
-            .find_map(|operand| no_string(session, operand))
-            .unwrap_or(MISHAPS[5]),
-        Undone::Full if call.arguments().any(heavy) => MISHAPS[6],
+) -> Vec<String> {
+    let why = match undone {
+        Undone::Denied => vec![MISHAPS[0]],
+        Undone::Failed => failure(session, call, foreach),
+        Undone::Full if call.arguments().any(heavy) => vec![MISHAPS[6]],
         Undone::Full => match session.evaluate(&Expression::Call(Box::new(*call))) {
-            Err(Undone::Full) => MISHAPS[7],
-            _ => MISHAPS[8],
+            Err(Undone::Full) => vec![MISHAPS[7]],
+            _ => vec![MISHAPS[8]],
         },
+    };
+    why.into_iter().map(str::to_string).collect()
+}
+
+/// Why it is FAILED: an argument that is no string whatever the element is, an
+/// element that gives none, or strings for which the function fails.
+fn failure<'a>(
+    session: &Session<'a>,
+    call: &Call<Operand<'a>>,
+    foreach: Option<&Foreach<'a>>,
+) -> Vec<&'static str> {
+    let element = foreach.map(|foreach| foreach.element);
+    let mut outside = call
+        .arguments()
+        .filter(|operand| element.is_none() || element != named(operand));
+    if let Some(told) = outside.find_map(|operand| no_string(session, operand)) {
+        return vec![told];
     }
+    let applied = applied(session, call, foreach);
+    let fails = |call: &Option<Call<&[u8]>>| call.is_none_or(|call| call.fails());
+    let at = applied.iter().position(fails).unwrap_or(applied.len());
+    let mut told = match applied.get(at) {
+        Some(Some(call)) => of_prices(call),
+        _ => vec![MISHAPS[5]],
+    };
+    if too_heavy(session, &applied[..at]) {
+        told.push(match call {
+            Call::Prices(..) => prices::FAILURES[7],
+            _ => MISHAPS[9],
+        });
+    }
+    told
+}
+
+/// Whether what these calls give is too heavy already for a list.
+fn too_heavy<'a>(session: &Session<'a>, calls: &[Option<Call<&'a [u8]>>]) -> bool {
+    let results = calls
+        .iter()
+        .flatten()
+        .map(|call| call.result(&session.maker));
+    let weight: Result<usize, Undone> = results
+        .map(|result| result.map(|item| 1 + item.weight()))
+        .sum();
+    weight.map_or(true, |weight| weight > HEAVIEST)
 }
 
 /// Only a string that the program itself has can weigh too much.
@@ -280,7 +384,16 @@ fn mistake(tokens: &[Placed], at: usize) -> Option<(&'static str, usize)> {
 }
 
 fn is_function(word: Keyword) -> bool {
-    matches!(word, Keyword::Split | Keyword::Concat | Keyword::Tolower)
+    matches!(
+        word,
+        Keyword::Split
+            | Keyword::Concat
+            | Keyword::Tolower
+            | Keyword::Add
+            | Keyword::Sub
+            | Keyword::Times
+            | Keyword::Per
+    )
 }
 
 /// How many tokens there are from an opening parenthesis, which stands first,

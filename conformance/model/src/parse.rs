@@ -3,7 +3,7 @@
 use crate::names::Keyword;
 use crate::rights::Right;
 use crate::syntax::{
-    Call, Command, Delegation, Expression, Foreach, Last, Operand, Program, Target,
+    Call, Command, Delegation, Expression, Foreach, Last, Operand, Operation, Program, Target,
 };
 use crate::token::{Scanner, Token};
 
@@ -212,10 +212,19 @@ impl<'a> Reader<'a> {
             Keyword::Split => Call::Split(self.value()?, self.next_value()?),
             Keyword::Concat => Call::Concat(self.value()?, self.next_value()?),
             Keyword::Tolower => Call::Tolower(self.value()?),
+            Keyword::Add => self.prices(Operation::Add)?,
+            Keyword::Sub => self.prices(Operation::Sub)?,
+            Keyword::Times => self.prices(Operation::Times)?,
+            Keyword::Per => self.prices(Operation::Per)?,
             _ => return None,
         };
         self.the(Token::CloseParenthesis)?;
         Some(call)
+    }
+
+    /// The two values of an operation on prices.
+    fn prices(&mut self, operation: Operation) -> Option<Call<Operand<'a>>> {
+        Some(Call::Prices(operation, self.value()?, self.next_value()?))
     }
 
     /// 01's value: x, x.y or a string.

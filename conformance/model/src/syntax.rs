@@ -66,18 +66,30 @@ pub enum Expression<'a> {
     Call(Box<Call<Operand<'a>>>),
 }
 
-/// A function and what it is called with (001, String functions).
+/// A function and what it is called with (001, String functions; 02, M-104).
 #[derive(Clone, Copy, PartialEq, Eq, Debug)]
 pub enum Call<A> {
     Split(A, A),
     Concat(A, A),
     Tolower(A),
+    Prices(Operation, A, A),
+}
+
+/// What is done with two prices (02, M-104).
+#[derive(Clone, Copy, PartialEq, Eq, Debug)]
+pub enum Operation {
+    Add,
+    Sub,
+    Times,
+    Per,
 }
 
 impl<A> Call<A> {
     pub fn arguments(&self) -> impl Iterator<Item = &A> {
         let (first, second) = match self {
-            Call::Split(first, second) | Call::Concat(first, second) => (first, Some(second)),
+            Call::Split(first, second)
+            | Call::Concat(first, second)
+            | Call::Prices(_, first, second) => (first, Some(second)),
             Call::Tolower(only) => (only, None),
         };
         iter::once(first).chain(second)
@@ -90,6 +102,9 @@ impl<A> Call<A> {
             Call::Split(first, second) => Call::Split(change(first)?, change(second)?),
             Call::Concat(first, second) => Call::Concat(change(first)?, change(second)?),
             Call::Tolower(only) => Call::Tolower(change(only)?),
+            Call::Prices(operation, first, second) => {
+                Call::Prices(*operation, change(first)?, change(second)?)
+            }
         })
     }
 }

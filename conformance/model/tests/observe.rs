@@ -3,6 +3,9 @@
 mod common;
 
 use common::{program, Server};
+use model::engine::End;
+use model::observe::older::{older, Met, OLDER};
+use model::observe::prices::{FAILURES, ROUNDINGS};
 use model::observe::{self, FUNCTIONS, MISHAPS, PLACES, SHAPES};
 
 /// Bob may read the list l and the record r, and not the string s.
@@ -22,10 +25,8 @@ fn told(lines: &[&str]) -> Vec<String> {
 
 #[test]
 fn calls_that_are_done() {
-    for (call, function) in ["split(r.a,\"x\")", "concat(r.a,\"x\")", "tolower(r.a)"]
-        .iter()
-        .zip(FUNCTIONS)
-    {
+    let calls = ["split(r.a,\"x\")", "concat(r.a,\"x\")", "tolower(r.a)"];
+    for (call, function) in calls.iter().zip(FUNCTIONS) {
         let lines = [
             format!("set new = {call}"),
             format!("append to l with {call}"),
@@ -103,6 +104,12 @@ fn calls_that_do_not_parse() {
         ("(tolower(r.a))", Some(SHAPES[4])),
         ("(r.a)", Some(SHAPES[4])),
         ("tolower([])", None),
+        ("add(r.a)", Some(SHAPES[0])),
+        ("per(r.a,r.a,r.a)", Some(SHAPES[0])),
+        ("times(r.a,sub(r.a,r.a))", Some(SHAPES[1])),
+        ("{a=add(r.a,r.a)}", Some(SHAPES[2])),
+        ("sub r.a,r.a", Some(SHAPES[3])),
+        ("(add(r.a,r.a))", Some(SHAPES[4])),
         ("concat(r.a,,\"x\")", Some(SHAPES[0])),
         ("\"", None),
     ] {
@@ -111,4 +118,157 @@ fn calls_that_do_not_parse() {
         let lines = [&format!("set x = {written}"), "return \"\""];
         assert_eq!(told(&lines), expected, "{written}");
     }
+}
+
+/// A call of a function on prices that is done is told with how its result
+/// was rounded, in foreach for each element.
+#[test]
+fn prices_that_are_done() {
+    for (call, kinds) in [
+        ("add(\"0.10\",\"0.20\")", &[0][..]),
+        ("sub(\"0.10\",\"0.20\")", &[0]),
+        ("times(\"0.07\",\"0.07\")", &[1]),
+        ("per(\"2.00\",\"-3.00\")", &[2]),
+        ("times(\"0.05\",\"0.50\")", &[3]),
+        ("per(\"0.01\",\"-2.00\")", &[4]),
+        ("times(\"-0.01\",\"0.10\")", &[1, 5]),
+        ("times(\"2227171.49\",\"4.49\")", &[1, 6]),
+    ] {
+        let function = call.split('(').next().unwrap();
+        let rounded = kinds.iter().map(|&kind| ROUNDINGS[kind].to_string());
+        let mut expected = vec![format!("{function} in return")];
+        expected.extend(rounded);
+        assert_eq!(told(&[&format!("return {call}")]), expected, "{call}");
+    }
+    let lines = [
+        "local e = []",
+        "append to e with \"0.05\"",
+        "append to e with \"-0.05\"",
+        "foreach y in e replacewith times(y,\"0.10\")",
+        "return e",
+    ];
+    let expected = ["times in foreach", ROUNDINGS[3], ROUNDINGS[4]];
+    assert_eq!(told(&lines), expected);
+}
+
+#[test]
+fn prices_that_end_the_program() {
+    let heavy = format!("add(\"0.00\",\"{}\")", "1".repeat(8_193));
+    for (call, kinds) in [
+        ("add(\"x\",\"0.00\")", &[0][..]),
+        ("add(\"0.00\",r.b)", &[0]),
+        (&heavy, &[1]),
+        ("per(\"-1.00\",\"0.00\")", &[2]),
+        ("per(\"0.00\",\"0.00\")", &[3]),
+        ("times(\"10000.00\",\"1000.00\")", &[4]),
+        ("times(\"-10000.00\",\"1000.00\")", &[5]),
+        ("times(\"9090909.09\",\"1.10\")", &[4, 6]),
+        ("times(\"9090909.09\",\"-1.10\")", &[5, 6]),
+    ] {
+        let expected: Vec<&str> = kinds.iter().map(|&kind| FAILURES[kind]).collect();
+        assert_eq!(told(&[&format!("return {call}")]), expected, "{call}");
+        let lines = [
+            "local e = []",
+            "append to e with \"1.00\"",
+            &format!("foreach y in e replacewith {call}"),
+            "return e",
+        ];
+        assert_eq!(told(&lines), expected, "{call}");
+    }
+    assert_eq!(told(&["return add(s,\"x\")"]), [MISHAPS[0]]);
+    assert_eq!(told(&["return add(\"x\",nosuch)"]), [MISHAPS[1]]);
+    assert_eq!(told(&["return add(l,\"x\")"]), [MISHAPS[3]]);
+    // The first element is a string and no price; the second is no string.
+    let line = "foreach y in l replacewith add(y,\"0.00\")";
+    assert_eq!(told(&[line, "return \"\""]), [FAILURES[0]]);
+    let line = "foreach y in l replacewith add(y.a,\"0.00\")";
+    assert_eq!(told(&[line, "return \"\""]), [MISHAPS[5]]);
+}
+
+/// A later element fails where the results so far are too heavy already.
+#[test]
+fn calls_that_fail_behind_what_is_too_heavy() {
+    let heavy = format!(
+        "foreach y in l replacewith split(y,\"{}\")",
+        "b".repeat(8_193)
+    );
+    assert_eq!(told(&[&heavy, "return \"\""]), [MISHAPS[5], MISHAPS[9]]);
+    let mut lines = vec!["local e = []", "append to e with \"0.01\""];
+    lines.extend(["append to e with e"; 10]);
+    for (last, expected) in [
+        ("\"x\"", vec![FAILURES[0], FAILURES[7]]),
+        ("\"0.00\"", vec![FAILURES[2], FAILURES[7]]),
+        ("{a=\"0.01\"}", vec![MISHAPS[5], FAILURES[7]]),
+        ("\"0.02\"", vec![MISHAPS[8]]),
+    ] {
+        let append = format!("append to e with {last}");
+        let foreach = "foreach y in e replacewith per(\"12345.67\",y)";
+        let lines = [&lines[..], &[&append, foreach, "return e"]].concat();
+        assert_eq!(told(&lines), expected, "{last}");
+    }
+}
+
+/// What is told of a program on a state with a principal per, a variable add
+/// and a label times.
+fn told_of_older(name: &str, lines: &[&str]) -> Vec<&'static str> {
+    let mut server = Server::of_text(
+        "O\nP|admin|desk|0\nN|anyone|0\nP|per|p|0\nP|bob|b|0\nD|bob\nV|add|S|\n\
+         V|list|L\nR\nF|times|ten\nA|add|admin|d|bob\n",
+    );
+    let before = server.state.clone();
+    let password = if name == "admin" { "desk" } else { &name[..1] };
+    let program = program(name, password, lines);
+    let (end, output) = server.send(program.as_bytes());
+    older(&Met {
+        before: &before,
+        program: program.as_bytes(),
+        end,
+        output: output.as_bytes(),
+        after: &server.state,
+    })
+}
+
+#[test]
+fn older_names_that_are_met() {
+    let held = &OLDER[..3];
+    assert_eq!(told_of_older("admin", &["return \"\""]), held);
+    for (name, lines, kinds) in [
+        ("admin", &["return add"][..], &[3][..]),
+        ("admin", &["set per = add(\"\",\"\")", "return \"\""], &[3]),
+        ("bob", &["create principal per \"\"", "exit"], &[3]),
+        ("per", &["return \"\""], &[4]),
+        // Not for an older name, for one that is not there, and for two.
+        ("admin", &["return sub"], &[]),
+        ("admin", &["return add("], &[]),
+        ("per", &["return add"], &[]),
+        ("admin", &["return nosuch"], &[]),
+    ] {
+        let expected: Vec<&str> = kinds.iter().map(|&kind| OLDER[kind]).collect();
+        assert_eq!(told_of_older(name, lines), expected, "{lines:?}");
+    }
+    for (lines, kind) in [
+        (
+            &["set delegation all bob read -> anyone", "return \"\""][..],
+            5,
+        ),
+        (
+            &["delete delegation all admin delegate -> bob", "return \"\""],
+            5,
+        ),
+        (&["create principal tom \"\"", "return \"\""], 6),
+        (&["return list"], 7),
+        (&["local l = list", "return l"], 7),
+    ] {
+        let expected = [held, &OLDER[kind..=kind]].concat();
+        assert_eq!(told_of_older("admin", lines), expected, "{lines:?}");
+    }
+    let plain = Server::venue().state;
+    let met = Met {
+        before: &plain,
+        program: b"",
+        end: End::Failed,
+        output: b"",
+        after: &plain,
+    };
+    assert_eq!(older(&met), [""; 0]);
 }

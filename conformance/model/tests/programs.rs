@@ -2,7 +2,7 @@
 
 mod common;
 
-use common::{program, returning, Server, KEYWORDS};
+use common::{program, returning, Server, KEYWORDS, NEWER_KEYWORDS};
 use model::engine::End;
 use model::parse::parse;
 use model::rights::Right;
@@ -438,7 +438,7 @@ fn programs_of_16384_and_16385_bytes() {
 
 #[test]
 fn keywords_are_no_names() {
-    for keyword in KEYWORDS {
+    for keyword in KEYWORDS.into_iter().chain(NEWER_KEYWORDS) {
         for line in [
             format!("set {keyword} = []"),
             format!("set x = {keyword}"),

@@ -6,160 +6,40 @@ mod common;
 
 use std::collections::BTreeMap;
 
+use common::generator::{any_program, Numbers, PRINCIPALS, VARIABLES};
 use common::{buffer, program, Server, DIRT, FRESH, SESSION};
 use model::calls;
 use model::engine::{self, End};
 use model::lines::Lines;
+use model::observe::older::{older, Met, OLDER};
+use model::observe::prices::{FAILURES, ROUNDINGS};
 use model::observe::{self, COUNTS, FUNCTIONS, MISHAPS, PLACES, SHAPES};
 use model::strings::Strings;
 use model::text::{decode, encode, BUFFER};
 
-/// Numbers that look random and are the same each time.
-struct Numbers(u64);
-
-impl Numbers {
-    fn below(&mut self, bound: usize) -> usize {
-        self.0 ^= self.0 << 13;
-        self.0 ^= self.0 >> 7;
-        self.0 ^= self.0 << 17;
-        (self.0 >> 33) as usize % bound
-    }
-
-    fn one<'a>(&mut self, words: &[&'a str]) -> &'a str {
-        words[self.below(words.len())]
-    }
-}
-
-const PRINCIPALS: [&str; 6] = ["admin", "anyone", "bob", "carol", "dave", "eve"];
-const VARIABLES: [&str; 6] = ["u", "v", "w", "x", "y", "z"];
-const RIGHTS: [&str; 4] = ["read", "write", "append", "delegate"];
-
-fn operand(numbers: &mut Numbers) -> String {
-    let variable = numbers.one(&VARIABLES);
-    match numbers.below(5) {
-        0 => variable.to_string(),
-        1 => format!("{variable}.{}", numbers.one(&["a", "b"])),
-        2 => format!("\"{}\"", "t".repeat(numbers.below(60) * numbers.below(60))),
-        _ => format!("\"{}\"", numbers.one(&["", "s", "a b", "-_,;.?!"])),
-    }
-}
-
-/// What a function is called with: a value, rarely a heavy one or none.
-fn argument(numbers: &mut Numbers) -> String {
-    match numbers.below(32) {
-        0 => format!("\"{}\"", "A".repeat(8_100 + numbers.below(200))),
-        1 | 2 => format!("\"{}\"", "B".repeat(4_000 + numbers.below(200))),
-        3 => "[]".to_string(),
-        4 => call(numbers),
-        _ => operand(numbers),
-    }
-}
-
-/// Mostly with as many arguments as there should be, and between parentheses.
-fn call(numbers: &mut Numbers) -> String {
-    let function = numbers.one(&FUNCTIONS);
-    let count = match numbers.below(16) {
-        0 => numbers.below(4),
-        _ if function == "tolower" => 1,
-        _ => 2,
-    };
-    let arguments: Vec<String> = (0..count).map(|_| argument(numbers)).collect();
-    let arguments = arguments.join(",");
-    match numbers.below(48) {
-        0 => format!("{function} {arguments}"),
-        1 => format!("{function}({arguments}"),
-        2 => format!("({function}({arguments}))"),
-        _ => format!("{function}({arguments})"),
-    }
-}
-
-fn field(numbers: &mut Numbers) -> String {
-    match numbers.below(48) {
-        0 => call(numbers),
-        _ => operand(numbers),
-    }
-}
-
-fn expression(numbers: &mut Numbers) -> String {
-    match numbers.below(8) {
-        0 | 1 => operand(numbers),
-        2 | 3 => "[]".to_string(),
-        4 => format!("{{a={}}}", field(numbers)),
-        5 => format!("{{a={},b={}}}", field(numbers), field(numbers)),
-        _ => call(numbers),
-    }
-}
-
-/// What foreach replaces its element e by.
-fn replacement(numbers: &mut Numbers) -> String {
-    match numbers.below(6) {
-        0 => "{a=e}".to_string(),
-        1 => "split(e.a,\"s\")".to_string(),
-        2 => format!("concat(e,{})", operand(numbers)),
-        3 => "tolower(e.a)".to_string(),
-        _ => call(numbers),
-    }
-}
-
-fn command(numbers: &mut Numbers) -> String {
-    let (x, y) = (numbers.one(&VARIABLES), numbers.one(&VARIABLES));
-    let (q, p) = (numbers.one(&PRINCIPALS), numbers.one(&PRINCIPALS));
-    let right = numbers.one(&RIGHTS);
-    let target = if numbers.below(4) == 0 { "all" } else { x };
-    match numbers.below(16) {
-        0 => format!("create principal {p} \"{p}\""),
-        1 => format!("change password {p} \"{p}\""),
-        2..=4 => format!("set {x} = {}", expression(numbers)),
-        5..=7 => format!("append to {x} with {}", expression(numbers)),
-        8 => {
-            let x = numbers.one(&["new", "other", x]);
-            format!("local {x} = {}", expression(numbers))
-        }
-        9 => match numbers.below(2) {
-            0 => format!("foreach {y} in {x} replacewith {}", expression(numbers)),
-            _ => format!("append to {x} with {x}"),
-        },
-        10 => format!("foreach e in {x} replacewith {}", replacement(numbers)),
-        11 => format!("delete delegation {target} {q} {right} -> {p}"),
-        12 => format!("default delegator = {p}"),
-        13 => format!("set delegation {target} admin {right} -> {p}"),
-        _ => format!("set delegation {target} {q} {right} -> {p}"),
-    }
-}
-
-fn any_program(numbers: &mut Numbers) -> String {
-    let sender = match numbers.below(3) {
-        0 => "admin",
-        _ => numbers.one(&PRINCIPALS),
-    };
-    let count = numbers.below(4);
-    let mut lines: Vec<String> = (0..count).map(|_| command(numbers)).collect();
-    lines.push(match numbers.below(200) {
-        0 => "exit".to_string(),
-        _ => format!("return {}", expression(numbers)),
-    });
-    let lines: Vec<&str> = lines.iter().map(String::as_str).collect();
-    program(sender, sender, &lines)
-}
+/// The weight of a string that leaves little room.
+const HEAVY: usize = 7_770;
 
 /// Names and variables to start with, so that most commands can be done, and
-/// a heavy string, so that some cannot.
-fn peopled() -> Server {
+/// a string that may be heavy, so that some cannot.
+fn peopled(weight: usize) -> Server {
     let mut server = Server::new("admin");
-    let heavy = format!("set w = \"{}\"", "t".repeat(7_800));
+    let heavy = format!("set w = \"{}\"", "t".repeat(weight));
     let lines = [
         "create principal bob \"bob\"",
         "create principal carol \"carol\"",
         "create principal dave \"dave\"",
         "change password anyone \"anyone\"",
         "set u = []",
-        "append to u with {a=\"1\",b=\"2\"}",
+        "append to u with {a=\"1\",b=\"2.25\"}",
         "set v = u",
         "append to v with \"s\"",
         &heavy,
-        "set x = {a=\"1\",b=\"2\"}",
+        "set x = {a=\"1\",b=\"-0.05\"}",
+        "set p = \"12.50\"",
         "set delegation u admin read -> anyone",
         "set delegation u admin delegate -> bob",
+        "set delegation v admin delegate -> anyone",
         "set delegation all admin write -> carol",
         "return \"\"",
     ];
@@ -254,14 +134,26 @@ fn recounted(numbers: &mut Numbers, text: &str) -> String {
     text.lines().map(&mut counted).collect()
 }
 
-/// How often each form of a call, each mishap and each move of a count came:
-/// every one must.
+/// The same text, or with names and a label that have become keywords.
+fn with_older_names(numbers: &mut Numbers, text: &str) -> String {
+    match numbers.below(3) {
+        0 => text
+            .replace("|dave", "|per")
+            .replace("|v|", "|add|")
+            .replace("F|b|", "F|times|"),
+        _ => text.to_string(),
+    }
+}
+
+/// How often each form of a call, each mishap, each move of a count and each
+/// meeting with older names came: every one must.
 fn all_came(seen: &BTreeMap<String, usize>) {
     let forms = FUNCTIONS.iter().flat_map(|function| {
         let told = move |place: &&str| format!("{function} in {place}");
         PLACES.iter().map(told)
     });
     let others = MISHAPS.iter().chain(&SHAPES).chain(&COUNTS);
+    let others = others.chain(&ROUNDINGS).chain(&FAILURES).chain(&OLDER);
     for key in forms.chain(others.map(|key| key.to_string())) {
         let times = seen.get(&key).copied().unwrap_or(0);
         println!("{key}: {times}");
@@ -276,7 +168,9 @@ fn whole_programs() {
     let mut seen = BTreeMap::new();
     let (mut yes, mut no) = (0, 0);
     for _ in 0..400 {
-        let mut server = Server::of_text(&recounted(&mut numbers, &peopled().text()));
+        let weight = [70, HEAVY][numbers.below(2)];
+        let text = recounted(&mut numbers, &peopled(weight).text());
+        let mut server = Server::of_text(&with_older_names(&mut numbers, &text));
         for _ in 0..60 {
             let program = any_program(&mut numbers);
             let before = server.state.clone();
@@ -284,8 +178,17 @@ fn whole_programs() {
             for told in observe::calls(&server.state, program.as_bytes()) {
                 *seen.entry(told).or_default() += 1;
             }
-            let (end, _) = server.send(program.as_bytes());
+            let (end, output) = server.send(program.as_bytes());
             ends[end as usize] += 1;
+            for told in older(&Met {
+                before: &before,
+                program: program.as_bytes(),
+                end,
+                output: output.as_bytes(),
+                after: &server.state,
+            }) {
+                *seen.entry(told.to_string()).or_default() += 1;
+            }
             if matches!(end, End::Returned | End::Exited) {
                 if let Some(told) = observe::count(&before, program.as_bytes(), &server.state) {
                     *seen.entry(told.to_string()).or_default() += 1;
@@ -392,7 +295,7 @@ fn former_states() {
     let mut numbers = Numbers(0x5eed_0bad_5eed_0bad);
     let (mut brought, mut damaged) = (0, 0);
     for _ in 0..300 {
-        let mut server = peopled();
+        let mut server = peopled(HEAVY);
         for _ in 0..10 {
             let program = any_program(&mut numbers);
             if server.send(program.as_bytes()).0 == End::Exited {

@@ -3,7 +3,7 @@
 
 mod common;
 
-use common::{buffer, FRESH, KEYWORDS, SESSION};
+use common::{buffer, FRESH, KEYWORDS, NEWER_KEYWORDS, SESSION};
 use model::text::{decode, encode, BUFFER};
 
 fn is_well_formed(text: &str) -> bool {
@@ -237,12 +237,16 @@ fn many_labels_one_of_them_twice() {
 #[test]
 fn names_and_labels_are_identifiers() {
     let longest = "n".repeat(255);
-    for name in ["x", "X9_", "a_", "admin", "anyone", "alls", &longest] {
+    let good = ["x", "X9_", "a_", "admin", "anyone", "alls", &longest];
+    for name in good.into_iter().chain(NEWER_KEYWORDS) {
         assert!(variable_is_well_formed(&format!("{name}|L")), "{name}");
         assert!(
             variable_is_well_formed(&format!("x|R\nF|{name}|")),
             "{name}"
         );
+    }
+    for name in NEWER_KEYWORDS {
+        accepted("P|rosa|r1|1", &format!("P|rosa|r1|1\nP|{name}||0"));
     }
     let too_long = "n".repeat(256);
     let wrong = [

@@ -192,20 +192,41 @@ fn measured() -> Vec<Line> {
     lines
 }
 
-/// What a call of each function costs beside a plain `set`, which comes first: programs of one command over and over, all with the same number
-/// of commands, which is as many as fit where the command is longest.
-fn functions() -> Vec<Line> {
-    let expressions = ["y", "concat(y,\"a\")", "tolower(y)", "split(y,\"a\")"];
+/// Programs of one command over and over, `set x=` and each of these expressions, all with the same number of commands, which is as many as fit where
+/// the command is longest.
+fn repeated(expressions: &[&str], state: &[u8]) -> Vec<Line> {
     let last = "return x".to_string();
     let longest = expressions.iter().map(|expression| format!("set x={expression}\n").len()).max().expect("an expression");
     let count = (LONGEST_PROGRAM - program("admin", "desk", &[last.clone()]).len()) / longest;
-    let state = server_after(&[vec!["set x = \"\"".to_string(), "set y = \"Blue Moon\"".to_string()]]);
-    let line = |expression: &str| {
+    let line = |expression: &&str| {
         let mut commands = vec![format!("set x={expression}"); count];
         commands.push(last.clone());
-        run_line(&format!("{count} times `set x={expression}`"), &state, &program("admin", "desk", &commands))
+        run_line(&format!("{count} times `set x={expression}`"), state, &program("admin", "desk", &commands))
     };
-    expressions.into_iter().map(line).collect()
+    expressions.iter().map(line).collect()
+}
+
+/// What a call of each function on strings costs beside a plain `set`, which comes first.
+fn functions() -> Vec<Line> {
+    let state = server_after(&[vec!["set x = \"\"".to_string(), "set y = \"Blue Moon\"".to_string()]]);
+    repeated(&["y", "concat(y,\"a\")", "tolower(y)", "split(y,\"a\")"], &state)
+}
+
+/// The same for the functions on prices; then one call by itself, and what a list of bills costs, by a field of each and by its price.
+fn prices() -> Vec<Line> {
+    let state = server_after(&[["set x = \"\"", "set y = \"12.50\"", "set z = \"-2.25\""].map(str::to_string).to_vec()]);
+    let mut lines = repeated(&["y", "add(y,z)", "sub(y,z)", "times(y,z)", "per(y,z)"], &state);
+    for call in ["add(\"12.50\",\"2.25\")", "times(\"12.50\",\"2.25\")", "per(\"9999999.99\",\"3.00\")"] {
+        lines.push(run_line(&format!("`return {call}`"), &state, &program("admin", "desk", &[format!("return {call}")])));
+    }
+    let mut making = vec!["set bills = []".to_string(), "append to bills with {rate=\"12.50\",hours=\"2.25\"}".to_string()];
+    making.extend(vec!["append to bills with bills".to_string(); 8]);
+    let bills = server_after(&[making]);
+    for expression in ["b.rate", "times(b.rate,b.hours)"] {
+        let commands = [format!("foreach b in bills replacewith {expression}"), "return \"\"".to_string()];
+        lines.push(run_line(&format!("256 bills: each `{expression}`"), &bills, &program("admin", "desk", &commands)));
+    }
+    lines
 }
 
 /// What it costs to bring states over: the session's, the venue's, and one that then stands at the weight limit.
@@ -312,12 +333,12 @@ fn sheets() -> Vec<SheetLine> {
     ]
 }
 
-/// How the line of concat stands to that of the plain `set`.
-fn relation(lines: &[Line]) -> String {
-    let (plain, concat) = (&lines[0], &lines[1]);
-    let times = concat.proved.as_secs_f64() / plain.proved.as_secs_f64();
-    let ratios = concat.ratio() / plain.ratio();
-    format!("A set with concat takes {times:.2} times a plain one; its ratio to the model is {ratios:.2} times that of the plain one.")
+/// How the line of a function stands to that of the plain `set`, which is the first.
+fn relation(name: &str, lines: &[Line], at: usize) -> String {
+    let (plain, called) = (&lines[0], &lines[at]);
+    let times = called.proved.as_secs_f64() / plain.proved.as_secs_f64();
+    let ratios = called.ratio() / plain.ratio();
+    format!("A set with {name} takes {times:.2} times a plain one; its ratio to the model is {ratios:.2} times that of the plain one.")
 }
 
 fn table(lines: &[Line], clear: Duration) -> String {
@@ -359,9 +380,9 @@ fn main() {
     let clear = clearing();
     let mut lines = measured();
     let small = lines[0].proved.as_secs_f64() / clear.as_secs_f64();
-    let functions = functions();
-    let relation = relation(&functions);
-    lines.extend(functions);
+    let (functions, prices) = (functions(), prices());
+    let relation = format!("{} {}", relation("concat", &functions, 1), relation("times", &prices, 3));
+    lines.extend(functions.into_iter().chain(prices));
     lines.extend(bringing());
     let sheets = sheets();
     let relations: String = sheets.iter().map(|sheet| format!("- {}\n", sheet.relation())).collect();

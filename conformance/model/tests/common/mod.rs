@@ -2,6 +2,8 @@
 //! buffers. State texts are written as in 01, a `|` for each tab.
 #![allow(dead_code)]
 
+pub mod generator;
+
 use model::calls::{self, Listed, Refusal, Report};
 use model::engine::End;
 use model::names::keyword;
@@ -261,7 +263,11 @@ pub fn sheet_line(name: &str, rights: &str) -> String {
     format!("{shown:34} {rights}\n")
 }
 
-/// 01's keywords.
+/// The keywords of 02's M-104, which were names before: a state may still hold
+/// them.
+pub const NEWER_KEYWORDS: [&str; 4] = ["add", "sub", "times", "per"];
+
+/// 01's keywords, which neither a program nor a state may have for a name.
 pub const KEYWORDS: [&str; 31] = [
     "all",
     "append",

@@ -68,7 +68,9 @@ It holds programs with their passwords and is as secret as FILE. Once a state ha
         words: &["FILE"],
         takes_journal: false,
         gist: "print the state for reading, without passwords",
-        detail: "The server checks that FILE is well formed. What is printed is the tool's own reading of it.",
+        detail: "\
+The server checks that FILE is well formed. What is printed is the tool's own reading of it. Names and labels that became keywords after they were
+given are listed last: they stay, and no program can write them.",
         run: show::show,
     },
     Command {
