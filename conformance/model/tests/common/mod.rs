@@ -8,6 +8,7 @@ use model::calls::{self, Listed, Refusal, Report};
 use model::engine::End;
 use model::names::keyword;
 use model::parse::parse;
+use model::syntax::{Call, Command, Expression, Foreach, Last, Operand};
 use model::text::{decode, BUFFER};
 
 /// What a byte of a lent buffer is before the call, where it does not matter.
@@ -46,6 +47,34 @@ pub fn program(name: &str, password: &str, lines: &[&str]) -> String {
         text.push('\n');
     }
     text + "***\n"
+}
+
+/// That a call, so written, is read as this one wherever an expression may
+/// stand.
+pub fn is_read(written: &str, expected: Call<Operand>) {
+    let call = || Expression::Call(Box::new(expected));
+    let lines = [
+        format!("set v = {written}"),
+        format!("append to v with {written}"),
+        format!("local v={written}"),
+        format!("foreach y in v replacewith {written} // x"),
+        format!("return {written}"),
+    ];
+    let bytes = program("p", "", &lines.each_ref().map(String::as_str));
+    let parsed = parse(bytes.as_bytes()).expect(written);
+    let foreach = Foreach {
+        element: b"y",
+        list: b"v",
+        expression: call(),
+    };
+    let commands = [
+        Command::Set(b"v", call()),
+        Command::Append(b"v", call()),
+        Command::Local(b"v", call()),
+        Command::Foreach(foreach),
+    ];
+    assert_eq!(parsed.commands, commands);
+    assert_eq!(parsed.last, Last::Return(call()));
 }
 
 pub fn statuses(names: &[&str]) -> String {
