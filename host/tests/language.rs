@@ -69,7 +69,7 @@ fn functions() {
     let (_, after) = page.split_once("so they are printed by `return`").expect("the text before the tables");
     let (shown, _) = after.split_once("\n## Rights").expect("the section behind the functions");
     let rows: Vec<(&str, &str)> = shown.lines().filter_map(call_of).collect();
-    for word in ["split", "concat", "tolower", "sub", "times", "per"] {
+    for word in ["split", "concat", "tolower", "add", "sub", "times", "per"] {
         assert!(rows.iter().any(|(call, _)| call.starts_with(&format!("{word}("))), "no row shows {word}");
     }
     for (call, value) in rows {
