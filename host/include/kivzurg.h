@@ -26,7 +26,7 @@ extern "C" {
 #endif
 
 /* The version of this header and of what the functions answer. CHANGELOG.md says what changed. */
-#define KIVZURG_VERSION "0.6.0"
+#define KIVZURG_VERSION "0.7.0"
 
 /* The size of the state, of the work buffer and of the output. */
 #define KIVZURG_BUFFER 65536
@@ -43,7 +43,8 @@ uint64_t kivzurg_make(uint8_t *state, size_t state_size, const uint8_t *password
 uint64_t kivzurg_bring(const uint8_t *former, size_t former_size, uint8_t *state, size_t state_size);
 
 /* Runs a program. Answers an end (KIVZURG_RETURNED to KIVZURG_FULL) with its lines and bytes, or a number from 1 to 5. After an end the output
- * holds the lines and zeros, the work buffer is zero, and the state holds the new text or, where the program was not completed, what it held. */
+ * holds the lines and zeros, the work buffer is zero, and the state holds the new text or, where the program was not completed, what it held. A login
+ * is refused alike for a name that is missing and for a wrong password (since 0.7.0): by the code KIVZURG_DENIED and the same bytes. */
 uint64_t kivzurg_run(uint8_t *state, size_t state_size, uint8_t *work, size_t work_size, uint8_t *output, size_t output_size,
                      const uint8_t *program, size_t program_size);
 
@@ -72,9 +73,9 @@ uint64_t kivzurg_sheet(const uint8_t *state, size_t state_size, uint8_t *output,
 enum kivzurg_code {
     KIVZURG_RETURNED = 16, /* completed by return */
     KIVZURG_EXITED = 17,   /* completed by exit: the server is closed */
-    KIVZURG_DENIED = 18,
-    KIVZURG_FAILED = 19,
-    KIVZURG_FULL = 20,
+    KIVZURG_DENIED = 18,   /* the login is not right, or a command is reserved to others or needs a right that is not had */
+    KIVZURG_FAILED = 19,   /* it does not parse, or a command cannot be done */
+    KIVZURG_FULL = 20,     /* a value, or what a command leaves, would weigh more than 8,192 */
     KIVZURG_YES = 32,
     KIVZURG_NO = 33,
     KIVZURG_READY = 48,

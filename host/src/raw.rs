@@ -46,7 +46,8 @@ pub enum Kind {
     Returned,
     /// Completed by `exit`: the server is closed.
     Exited,
-    /// Not done: its sender may not do it.
+    /// Not done: its login is not right, or its sender may not do it. A name that
+    /// is missing is refused as a wrong password is.
     Denied,
     /// Not done: it does not parse, or it cannot be done.
     Failed,

@@ -173,7 +173,9 @@ fn programs_that_parse() {
         (APPENDING, "returned"),
         ("// first\nas principal tom password \"t1\" do\nset queue = []\nexit\n//last\n***", "denied"),
         ("as principal tom password\"a\"do\nexit\n***", "denied"),
-        ("as principal nobody password \"b\" do\nreturn queue\n***\n", "failed"),
+        ("as principal nobody password \"b\" do\nreturn queue\n***\n", "denied"),
+        ("as principal admin password \"a\" do\nreturn nosuch\n***\n", "denied"),
+        ("as principal admin password \"b\" do\nreturn nosuch\n***\n", "denied"),
         ("as principal admin password \"desk\" do\nexit // good night\n***", "exited"),
     ] {
         let said = checked(&folder, 0, program);

@@ -14,6 +14,10 @@ const LABELS: [&str; 3] = ["a", "b", "key"];
 const FUNCTIONS: [&str; 3] = ["split", "concat", "tolower"];
 const SUMS: [&str; 4] = ["add", "sub", "times", "per"];
 
+/// Names that no principal gets: two that share a hash with bob's, one told from his by its case and one with which his begins, a variable's, one that
+/// begins with admin's.
+const STRANGERS: [&str; 6] = ["cPb", "bpC", "Bob", "bo", "list", "admins"];
+
 /// What a state may have older names for.
 pub const RENAMED: Names = Names { principals: &["bob", "carol", "dave", "eve"], variables: &["song", "queue", "y", "list"], labels: &LABELS };
 
@@ -221,13 +225,23 @@ fn swollen(random: &mut Random) -> Vec<String> {
     lines
 }
 
-/// A program of a principal who mostly knows the password. `last` may end the history.
+/// Mostly a principal.
+fn sender(random: &mut Random, world: World) -> &'static str {
+    match random.below(48) {
+        0 => one(random, &STRANGERS),
+        1..=16 => "admin",
+        _ => world.principal(random),
+    }
+}
+
+/// A program of somebody who mostly has a name and knows the password. `last` may end the history.
 fn program(random: &mut Random, world: World, last: bool) -> Vec<u8> {
-    let sender = if random.below(3) == 0 { "admin" } else { world.principal(random) };
+    let sender = sender(random, world);
     let password = if random.below(16) == 0 { one(random, &["t", ""]) } else { "s" };
     let mut lines = vec![format!("as principal {sender} password \"{password}\" do")];
     match random.below(300) {
         0 => lines.extend(swollen(random)),
+        1..=3 => lines.push(format!("create principal {sender} \"{password}\"")),
         _ => (0..random.below(4)).for_each(|_| lines.push(command(random, world, sender))),
     }
     lines.push(if last && random.below(2) == 0 { "exit".to_string() } else { format!("return {}", expression(random, world)) });

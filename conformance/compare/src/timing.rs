@@ -3,12 +3,17 @@
 use std::hint::black_box;
 use std::time::{Duration, Instant};
 
-/// The least time of one call among many batches.
-pub fn time(mut call: impl FnMut() -> usize) -> Duration {
+/// How many calls take some two milliseconds.
+fn batch(mut call: impl FnMut() -> usize) -> u32 {
     let began = Instant::now();
     black_box(call());
     let once = began.elapsed().max(Duration::from_nanos(50));
-    let batch = (Duration::from_millis(2).as_nanos() / once.as_nanos()).clamp(1, 20_000) as u32;
+    (Duration::from_millis(2).as_nanos() / once.as_nanos()).clamp(1, 20_000) as u32
+}
+
+/// The least time of one call among many batches.
+pub fn time(mut call: impl FnMut() -> usize) -> Duration {
+    let batch = batch(&mut call);
     (0..60)
         .map(|_| {
             let began = Instant::now();
@@ -19,6 +24,23 @@ pub fn time(mut call: impl FnMut() -> usize) -> Duration {
         })
         .min()
         .unwrap()
+}
+
+/// The least time of each of several calls, told by their numbers, in nanoseconds. They are measured in turns, so that what else the machine does falls
+/// on all of them.
+pub fn in_turns(count: usize, mut call: impl FnMut(usize) -> usize) -> Vec<f64> {
+    let batch = batch(|| call(0));
+    let mut least = vec![f64::INFINITY; count];
+    for _ in 0..200 {
+        for (at, least) in least.iter_mut().enumerate() {
+            let began = Instant::now();
+            for _ in 0..batch {
+                black_box(call(at));
+            }
+            *least = least.min(began.elapsed().as_nanos() as f64 / f64::from(batch));
+        }
+    }
+    least
 }
 
 /// What is timed, and how long both sides take for it.

@@ -6,9 +6,10 @@ use std::path::Path;
 use compare::page::with;
 
 /// A page of the folder docs, and what is written into it.
-const FIGURES: [(&str, &str); 2] = [
+const FIGURES: [(&str, &str); 3] = [
     ("performance.md", "figures"),
     ("performance.md", "search figures"),
+    ("performance.md", "login figures"),
 ];
 
 #[test]

@@ -67,14 +67,14 @@ fn complete<'a>(
     Ok((end, state))
 }
 
-/// The sender's number, where the name exists and the password is right.
+/// The sender's number, where the name exists and the password is right. A
+/// name that is missing is answered as a wrong password is (02, M-105).
 pub fn login(state: &State, program: &Program) -> Result<u16, Undone> {
     let sender = state.principals.find(program.principal);
-    let sender = sender.ok_or(Undone::Failed)?;
-    if state.principals.get(sender).password != Some(program.password) {
-        return Err(Undone::Denied);
-    }
-    Ok(sender)
+    let password = |number| state.principals.get(number).password;
+    sender
+        .filter(|&number| password(number) == Some(program.password))
+        .ok_or(Undone::Denied)
 }
 
 impl<'a> Session<'a> {

@@ -1,7 +1,8 @@
-//! What became of the calls of functions in a program, and of its sender's
-//! count, told in a few words each. Random tests count them, so that no form
-//! and no mishap is left out unnoticed.
+//! What became of the calls of functions in a program, of its login and of its
+//! sender's count, told in a few words each. Random tests count them, so that
+//! no form and no mishap is left out unnoticed.
 
+pub mod logins;
 pub mod older;
 pub mod prices;
 

@@ -35,7 +35,7 @@ fn only_what_is_completed_counts_and_for_its_sender() {
     // A program that is too heavy, and a name that is missing.
     let heavy = format!("return \"{}\"", "a".repeat(8_193));
     assert_eq!(server.rosa(&[&heavy]).0, End::Full);
-    assert_eq!(server.run("bo", "b", &["return \"\""]).0, End::Failed);
+    assert_eq!(server.run("bo", "b", &["return \"\""]).0, End::Denied);
     // A question and a wrong call.
     assert_eq!(server.ask("rosa", "queue", b'a'), Ok(Some(1)));
     assert!(calls::run(&mut server.state, &mut [], &mut [], b"").is_err());

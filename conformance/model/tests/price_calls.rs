@@ -120,8 +120,10 @@ fn before_the_login() {
     assert_eq!(end, End::Failed);
     let (end, _) = server.run("rosa", "wrong", &["return add(rate,rate)"]);
     assert_eq!(end, End::Denied);
-    let (end, _) = server.run("nobody", "r1", &["return add(rate,rate)"]);
+    let (end, _) = server.run("nobody", "r1", &["return add(rate)"]);
     assert_eq!(end, End::Failed);
+    let (end, _) = server.run("nobody", "r1", &["return add(rate,rate)"]);
+    assert_eq!(end, End::Denied);
 }
 
 #[test]

@@ -1,4 +1,5 @@
-//! Login and the commands about principals (01, A run and Commands).
+//! Login and the commands about principals (01, A run and Commands; for names
+//! that are missing 02, M-105).
 
 mod common;
 
@@ -18,9 +19,9 @@ fn login() {
         ("rosa", "r2", End::Denied),
         ("rosa", "r", End::Denied),
         ("rosa", "", End::Denied),
-        ("nobody", "r1", End::Failed),
+        ("nobody", "r1", End::Denied),
         ("anyone", "", End::Denied),
-        ("queue", "", End::Failed),
+        ("queue", "", End::Denied),
         ("admin", "desk", End::Returned),
         ("admin", "r1", End::Denied),
     ] {

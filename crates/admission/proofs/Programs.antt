@@ -12,7 +12,7 @@ use Rattle.language.specs.State.{Store, named}
 use Rattle.language.specs.Grammar.{Opening}
 use Rattle.language.specs.Values.{Session}
 use Rattle.language.specs.Commands.{DENIED, FAILED}
-use Rattle.language.specs.Run.{refusal, Login, unknown, mistaken, loginAs, begin, runAs, run}
+use Rattle.language.specs.Run.{refusal, Login, mistaken, loginAs, begin, runAs, run}
 use Rattle.parser.specs.Bodies.{withBody}
 
 pub not-parsed : (s : Store) (o : Option Program) → o ≡ none → run s o ≡ refusal FAILED
@@ -28,10 +28,6 @@ opened s p = begin s (sent p [])
 module _ (s : Store) (p : Opening) where
   pub by-login : (cs : List Command) (l : Login) → loginAs (p .password) (named (s .principals) (p .sender)) ≡ l → run s (some (sent p cs)) ≡ runAs l (opened s p) cs
   by-login cs l h = ap (λ (k : Login). runAs k (opened s p) cs) h
-
-  pub sender-unknown : (o : Option (List Command)) → loginAs (p .password) (named (s .principals) (p .sender)) ≡ unknown → run s (withBody p o) ≡ refusal FAILED
-  sender-unknown none h = refl
-  sender-unknown (some cs) h = by-login cs unknown h
 
   pub sender-mistaken : (o : Option (List Command)) → present o ≡ true → loginAs (p .password) (named (s .principals) (p .sender)) ≡ mistaken
       → run s (withBody p o) ≡ refusal DENIED

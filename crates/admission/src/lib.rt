@@ -17,8 +17,8 @@ pub enum Admission {
     Sender(usize, usize),
 }
 
-// First the login is read, and then the password is looked at. After a mistaken one the commands are read as well: a text that is no program
-// is FAILED, wherever that is found out.
+// First the login is read, and then the name and the password are looked at. After a mistaken login, of a missing name as with another password,
+// the commands are read as well: a text that is no program is FAILED, wherever that is found out.
 pub fn admit(state: &[u8], principal_slots: &[u32], parts: Parts, program: &[u8]) -> Admission
     requires { ⌜ SomeState (now state) (now «principal_slots») parts ⌝ }
     ensures { λ r. ⌜ ((variable-slots assertions : List ℕ) (s : Store) → Represents (now (state .entry)) (now («principal_slots» .entry)) variable-slots assertions parts s
@@ -45,7 +45,6 @@ pub fn admit(state: &[u8], principal_slots: &[u32], parts: Parts, program: &[u8]
         &program[from..to],
     );
     match login {
-        Login::Unknown => Admission::Refused(Refusal::Failed),
         Login::Mistaken => {
             if parser::body_at(program, at) {
                 return Admission::Refused(Refusal::Denied);

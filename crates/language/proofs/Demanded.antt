@@ -90,7 +90,7 @@ module _ {Lent : Type 0} (lent : Lent) (r : Reply Lent) (P : ℕ → Type 0) (re
 -- ---- runs
 
 module _ (b : Buffers) (program : Text) where
-  runs : (s : Store) → Sent b s → runCall b program ≡ endReply b (endOf s program)
+  pub runs : (s : Store) → Sent b s → runCall b program ≡ endReply b (endOf s program)
   runs s h =
       met b (sized (b .output)) _ _ (h .output-sized) ∙ met b (sized (b .state)) _ _ (is-sized (h .holds)) ∙ met b (sized (b .work)) _ _ (h .work-sized)
       ∙ decoded-held b (decode (b .state)) _ (runOn b program) s (holds-decodes (h .holds)) ∙ met b (s .isOpen) _ _ (h .is-open)

@@ -12,3 +12,5 @@ pub mod Parsing
 pub mod Histories
 -- The three demands together
 pub mod Demanded
+-- Names are not found out by trying them
+pub mod Enumeration

@@ -30,16 +30,17 @@ abbrev pub perform : Session → List Command → End
 perform s [] = completed [] (s .store)
 perform s (c ∷ rest) = next (step s c) (λ t. perform t rest)
 
--- a login: the name is missing, or the password is another or none is kept, or it is right
+-- a login is right, or mistaken: the name is missing, or the password is another, or none is kept. These are one case, so that nothing
+-- tells a name that is missing from one that is not (document 02, M-105; 01 and 001 have FAILED for it)
 pub data Login : Type 0 where
-  unknown mistaken right : Login
+  mistaken right : Login
 
 abbrev pub opens : Text → Option Text → Bool
 opens t none = false
 opens t (some u) = t == u
 
 abbrev pub loginAs : Text → Option Principal → Login
-loginAs t none = unknown
+loginAs t none = mistaken
 loginAs t (some k) = if opens t (k .password) then right else mistaken
 
 abbrev pub login : Store → Program → Login
@@ -65,7 +66,6 @@ tallied p (refusal r) = refusal r
 tallied p (completed lines s) = completed lines (tally p s)
 
 abbrev pub runAs : Login → Session → List Command → End
-runAs unknown s cs = refusal FAILED
 runAs mistaken s cs = refusal DENIED
 runAs right s cs = tallied (s .sender) (perform s cs)
 

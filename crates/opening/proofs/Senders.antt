@@ -16,7 +16,7 @@ use Rattle.opening.specs.Logins.{LoginMeant}
 use Rattle.opening.specs.declared.Login.the-variants as Is
 
 module _ (s : Store) (x : Name) (w : Text) where
-  pub not-there : Missing ≡ place (map principalRow (s .principals)) x → LoginMeant Is.Unknown s x w
+  pub not-there : Missing ≡ place (map principalRow (s .principals)) x → LoginMeant Is.Mistaken s x w
   not-there e = ap (loginAs w) (principal-missing (s .principals) x e)
 
   module _ (k from to : ℕ) (e : At k from to ≡ place (map principalRow (s .principals)) x) where

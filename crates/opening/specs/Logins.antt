@@ -5,17 +5,16 @@ use mathlib.Core.List.{List}
 use Rattle.language.specs.Text.{Text}
 use Rattle.language.specs.Syntax.{Name}
 use Rattle.language.specs.State.{Store, named}
-use Rattle.language.specs.Run.{unknown, mistaken, right, loginAs}
+use Rattle.language.specs.Run.{mistaken, right, loginAs}
 use Rattle.store.specs.Rows.{position}
 use Rattle.named_rights.specs.Numbers.{principalsOf}
 use Rattle.validate.specs.Checked.{Represents}
 use Rattle.validate.specs.declared.Parts.{Parts}
 use Rattle.opening.specs.declared.Login.{Login}
-use Rattle.opening.specs.declared.Login.the-variants.{Unknown, Mistaken, Right}
+use Rattle.opening.specs.declared.Login.the-variants.{Mistaken, Right}
 
 -- the answer to the name x with the password w; a login that is right has the number of the principal
 abbrev pub LoginMeant : Login → Store → Name → Text → Type 0
-LoginMeant Unknown s x w = loginAs w (named (s .principals) x) ≡ unknown
 LoginMeant Mistaken s x w = loginAs w (named (s .principals) x) ≡ mistaken
 LoginMeant (Right k) s x w = (loginAs w (named (s .principals) x) ≡ right) × (k ≡ position (principalsOf s) x)
 

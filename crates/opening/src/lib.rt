@@ -24,9 +24,8 @@ ghost use Rattle.session.specs.Sessions.{slices, Sized, Running};
 ghost use Rattle.opening.specs.Logins.{LoginMeant, SomeState};
 ghost use Rattle.opening.specs.Beginnings.{SomeValid};
 
-// A name that is missing; a password that is another, or none is kept; or the number of the principal.
+// The number of the principal; or mistaken, which does not say whether the name is missing or its password is not the one given.
 pub enum Login {
-    Unknown,
     Mistaken,
     Right(usize),
 }
@@ -72,7 +71,7 @@ pub fn log_in(
             }
             Login::Mistaken
         }
-        Found::Missing => Login::Unknown,
+        Found::Missing => Login::Mistaken,
     }
 }
 

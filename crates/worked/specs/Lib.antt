@@ -9,3 +9,4 @@ pub mod Counts
 pub mod Sheets
 pub mod Searches
 pub mod Prices
+pub mod Logins

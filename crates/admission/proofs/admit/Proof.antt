@@ -15,7 +15,7 @@ use Rattle.validate.specs.Checked.{Represents}
 use Rattle.opening.specs.Logins.{LoginMeant}
 use Rattle.opening.specs.declared.Login.{Login}
 use Rattle.opening.specs.declared.Login.the-variants as Are
-use Rattle.admission.proofs.Programs.{not-parsed, sender-unknown, sender-mistaken, no-body}
+use Rattle.admission.proofs.Programs.{not-parsed, sender-mistaken, no-body}
 use borrow.Author.Needs.{needs}
 use Rattle.admission.proofs.admit.Statement.{statement}
 use Rattle.admission.proofs.admit.Tie as tie
@@ -94,9 +94,6 @@ log-in-requires c κs = search needs
 enum-told-2 : tie.Need-enum-told-2
 enum-told-2 c = search needs
 
-enum-told-3 : tie.Need-enum-told-3
-enum-told-3 c = search needs
-
 body-at-requires : tie.Need-body-at-requires
 body-at-requires c κs =
     let back-6 = c .before .before .before .before .before .before in
@@ -108,29 +105,21 @@ returns-2 c v k s R =
     let start = back-8 .before .before .before .before .before .before in
     let o = bodyFrom (start .args .program .now) (back-8 .head .given .0 .1 .1 .0) in
     ap (run s) (parsed back-8)
-    ∙ sender-mistaken s (opening back-8) o (sym (c .before .body-at .ensures) ∙ c .if1 .taken) (answered (c .before .before .before .before) v k s R Are.Mistaken (c .before .before .enum-told3 .given .1))
+    ∙ sender-mistaken s (opening back-8) o (sym (c .before .body-at .ensures) ∙ c .if1 .taken) (answered (c .before .before .before .before) v k s R Are.Mistaken (c .before .before .enum-told2 .given .1))
 
 enum-known-login : tie.Need-enum-known-login
 enum-known-login c = search needs
 
 returns-3 : tie.Need-returns-3
 returns-3 c v k s R =
-    let back-6 = c .before .before .before .before .before .before in
-    let start = back-6 .before .before .before .before .before .before in
-    let o = bodyFrom (start .args .program .now) (back-6 .head .given .0 .1 .1 .0) in
-    ap (run s) (parsed back-6)
-    ∙ sender-unknown s (opening back-6) o (answered (c .before .before) v k s R Are.Unknown (c .enum-told2 .given .1))
-
-returns-4 : tie.Need-returns-4
-returns-4 c v k s R =
     let back-8 = c .before .before .before .before .before .before .before .before in
     let start = back-8 .before .before .before .before .before .before in
     let o = bodyFrom (start .args .program .now) (back-8 .head .given .0 .1 .1 .0) in
     ap (run s) (parsed back-8)
     ∙ no-body s (opening back-8) o (sym (c .before .body-at .ensures) ∙ c .if1 .left)
 
-returns-5 : tie.Need-returns-5
-returns-5 c v k s R =
+returns-4 : tie.Need-returns-4
+returns-4 c v k s R =
     let back-7 = c .before .before .before .before .before .before .before in
     let h = answered (c .before .before .before) v k s R (Are.Right (c .before .login2 .given .0 .0)) (c .before .login2 .given .1) in
     let p = placed back-7 in
@@ -159,10 +148,8 @@ admit-spec =
     part-log-in-end-2
     log-in-requires
     enum-told-2
-    enum-told-3
     body-at-requires
     returns-2
     enum-known-login
     returns-3
-    returns-4
-    returns-5)
+    returns-4)

@@ -13,7 +13,7 @@ use Rattle.language.specs.Syntax.{Name, Program}
 use Rattle.language.specs.State.{Principal, Store, lastCount, named}
 use Rattle.language.specs.Weight.{limit, storeWeight}
 use Rattle.language.specs.Valid.{validPassword, validPrincipal, wellFormed, validStore}
-use Rattle.language.specs.Run.{End, refusal, completed, perform, Login, unknown, mistaken, right, login, begin, counted, counts, tally, tallied, runAs, run, left}
+use Rattle.language.specs.Run.{End, refusal, completed, perform, Login, mistaken, right, login, begin, counted, counts, tally, tallied, runAs, run, left}
 use Rattle.language.specs.Programs.{parse}
 use Rattle.language.specs.History.{Call, send, ask, sheet, Book, isWrong, entered, bookOf, countIn, countOf, oneIfCompleted, programCount, completions, completedBy, shownCount}
 use Rattle.language.proofs.Logic.Tests.{both, three, ==→≡}
@@ -120,7 +120,6 @@ module _ (p : Name) where
 
       go : (l : Login) → login b q ≡ l
           → countOf (left b (runAs l (begin b q) (q .commands))) p ≡ shownCount (m + oneIfCompleted p (q .sender) (runAs l (begin b q) (q .commands)))
-      go unknown i = e ∙ ap shownCount (sym (add-zero m))
       go mistaken i = e ∙ ap shownCount (sym (add-zero m))
       go right i = ends (perform (begin b q) (q .commands)) (perform-same (q .commands) (begin b q) (begin-ready b q v i) (commands-valid q w))
 

@@ -11,7 +11,7 @@ use Rattle.language.specs.Outcomes.{eachOf}
 use Rattle.language.specs.Values.{Session, isShared, isLocal, isDefined, isPrincipal, lookup, asList, listOf}
 use Rattle.language.specs.Expressions.{value}
 use Rattle.language.specs.Commands.{withStore, withLocals, withVariables, enterAll, withPrincipal, entering, withdrawing, assertionsOn, targets, delegations, granted, assign, elements, replaced, extend, Effect, effect, denied, Step, refused, went, step}
-use Rattle.language.specs.Run.{End, refusal, completed, after, next, perform, Login, unknown, mistaken, right, login, begin, tallied, runAs, run, left}
+use Rattle.language.specs.Run.{End, refusal, completed, after, next, perform, Login, mistaken, right, login, begin, tallied, runAs, run, left}
 use Rattle.language.specs.Programs.{parse}
 use Rattle.language.specs.Events.{Event, enters, withdraws, events, eventsThen, eventsOf, afterEvent, afterEvents}
 use Rattle.language.specs.History.{Call, send, ask, sheet, Book, isWrong, entered, bookOf, completedEvents, programEvents, callEvents, historyOf, Reaches, here, onward}
@@ -148,7 +148,6 @@ run-enters b (some p) = go (login b p)
 
     go : (l : Login) → left b (runAs l (begin b p) (p .commands)) .assertions
         ≡ afterEvents (b .assertions) (completedEvents (runAs l (begin b p) (p .commands)) (eventsOf (begin b p) (p .commands)))
-    go unknown = refl
     go mistaken = refl
     go right = ending (tallied (p .sender) (perform (begin b p) (p .commands))) (eventsOf (begin b p) (p .commands)) (tallied-leaves (eventsOf (begin b p) (p .commands)) (p .sender) (perform (begin b p) (p .commands)) (perform-enters (p .commands) (begin b p)))
 

@@ -12,7 +12,7 @@ use Rattle.language.specs.Chains.{Chain, has}
 use Rattle.language.specs.Valid.{wellFormed, validStore, validAssertion}
 use Rattle.language.specs.Values.{Session}
 use Rattle.language.specs.Commands.{Step, refused, went, DENIED, FAILED, FULL, step}
-use Rattle.language.specs.Run.{End, refusal, completed, after, next, perform, Login, unknown, mistaken, right, login, begin, tallied, runAs, run}
+use Rattle.language.specs.Run.{End, refusal, completed, after, next, perform, Login, mistaken, right, login, begin, tallied, runAs, run}
 use Rattle.language.specs.Events.{Event, events}
 use Rattle.language.specs.History.{Reaches, here, onward, Overstepping, Offends}
 use Rattle.language.specs.Programs.{parse}
@@ -142,7 +142,6 @@ module _ (b : Store) (b-valid : T (validStore b)) where
   offends text d = go (parse text) refl d
     where
       known : (p : Program) → parse text ≡ some p → (l : Login) → login b p ≡ l → EndsDenied (runAs l (begin b p) (p .commands)) → Offends b text
-      known p e unknown k d = absurd d
       known p e mistaken k d = record { program = p; parses = e; either = inl k }
       known p e right k d = record {
         program = p;

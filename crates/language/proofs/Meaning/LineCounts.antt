@@ -16,7 +16,7 @@ use Rattle.language.specs.Outcomes.{gives}
 use Rattle.language.specs.Values.{Session}
 use Rattle.language.specs.Expressions.{value}
 use Rattle.language.specs.Commands.{Effect, effect, denied, Step, refused, went, step}
-use Rattle.language.specs.Run.{End, refusal, completed, after, next, perform, Login, unknown, mistaken, right, login, begin, tallied, runAs, run, lineCount}
+use Rattle.language.specs.Run.{End, refusal, completed, after, next, perform, Login, mistaken, right, login, begin, tallied, runAs, run, lineCount}
 use Rattle.language.proofs.Logic.Tests.{both}
 use Rattle.language.proofs.Logic.Giving.{Giving, giving-map, bind-giving}
 use Rattle.language.proofs.Parsing.ValidPrograms.{validCommand, validProgram}
@@ -77,6 +77,5 @@ line-each s v p h lines t e = subst (EndsCounted (length (p .commands))) e (go (
     tallied-counted (completed lines t) k = k
 
     go : (l : Login) → login s p ≡ l → EndsCounted (length (p .commands)) (runAs l (begin s p) (p .commands))
-    go unknown e = tt
     go mistaken e = tt
     go right e = tallied-counted (perform (begin s p) (p .commands)) (perform-counted (p .commands) (begin s p) (begin-ready s p v e) (commands-valid p h))

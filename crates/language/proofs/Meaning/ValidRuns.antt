@@ -16,7 +16,7 @@ use Rattle.language.specs.Valid.{wellFormed, validStore}
 use Rattle.language.specs.Outcomes.{Outcome, gives, fails, fills}
 use Rattle.language.specs.Values.{Session}
 use Rattle.language.specs.Commands.{Effect, effect, denied, heavy, sessionWeight, Step, refused, went, FULL, verdict, step}
-use Rattle.language.specs.Run.{End, refusal, completed, after, next, perform, Login, unknown, mistaken, right, loginAs, login, begin, tallied, runAs, run}
+use Rattle.language.specs.Run.{End, refusal, completed, after, next, perform, Login, mistaken, right, loginAs, login, begin, tallied, runAs, run}
 use Rattle.language.proofs.Parsing.ValidPrograms.{validCommand, endsOnce, validProgram}
 use Rattle.language.proofs.Logic.Tests.{both, and}
 use Rattle.language.proofs.Logic.Outcomes.{Where}
@@ -93,13 +93,12 @@ begin-ready s p h e =
       is-light = leb→le (storeWeight s) limit l;
     }
   where
-    isKnown : Login → Type 0
-    isKnown unknown = ⊥
-    isKnown mistaken = Unit {0}
-    isKnown right = Unit {0}
+    isRight : Login → Type 0
+    isRight mistaken = ⊥
+    isRight right = Unit {0}
 
     go : (o : Option Principal) → loginAs (p .password) o ≡ right → T (present o)
-    go none e = subst isKnown (sym e) tt
+    go none e = subst isRight (sym e) tt
     go (some k) e = tt
 
 module _ (p : Program) (h : T (validProgram p)) where
@@ -123,7 +122,6 @@ run-valid s h none k = tt
 run-valid s h (some p) k = go (login s p) refl
   where
     go : (l : Login) → login s p ≡ l → EndsValid (runAs l (begin s p) (p .commands))
-    go unknown e = tt
     go mistaken e = tt
     go right e = tallied-valid (p .sender) (perform (begin s p) (p .commands)) (perform-valid (p .commands) (begin s p) (begin-ready s p h e) (commands-valid p k))
 

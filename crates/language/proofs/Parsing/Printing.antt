@@ -20,7 +20,7 @@ use Rattle.language.specs.Commands.{Refusal, elements, replaced, targets
 use Rattle.language.specs.Outcomes.{eachOf}
 use Rattle.language.specs.Values.{Session, isPrincipal, isDefined, isShared, listOf}
 use Rattle.language.specs.Expressions.{value}
-use Rattle.language.specs.Run.{End, refusal, completed, after, next, perform, Login, unknown, mistaken, right, login, begin, tallied, runAs, run, refusalLine, output}
+use Rattle.language.specs.Run.{End, refusal, completed, after, next, perform, Login, mistaken, right, login, begin, tallied, runAs, run, refusalLine, output}
 use Rattle.language.specs.Programs.{parse}
 use Rattle.language.proofs.Parsing.ValidPrograms.{validCommand, isEnding, endsOnce}
 use Rattle.language.proofs.Logic.Tests.{both, three}
@@ -171,7 +171,6 @@ program-short s v p h = go (login s p) refl
     tally n (completed lines t) k = k
 
     go : (l : Login) → login s p ≡ l → EndsShort (8 * bufferSize) (runAs l (begin s p) (p .commands))
-    go unknown e = tt
     go mistaken e = tt
     go right e =
         tally (8 * bufferSize) (perform (begin s p) (p .commands))

@@ -1,7 +1,7 @@
 //! `kivzurg check FILE PROGRAM`.
 //!
-//! Whether a text parses is asked of the server. One that holds the sender's name under another password answers DENIED exactly where the text parses,
-//! and FAILED where it does not.
+//! Whether a text parses is asked of the server: one on which the login is not right answers DENIED exactly where the text parses, and FAILED where it
+//! does not.
 
 use std::fs;
 
@@ -31,31 +31,15 @@ pub fn check(arguments: &Arguments) -> Outcome {
     Ok(true)
 }
 
-/// Of two passwords one is not the program's.
+/// Two servers just made know admin only, each under another password: on one of them at least the login is not right.
 fn parses(program: &[u8]) -> Result<bool, String> {
     for password in ["a", "b"] {
-        let mut server = holding(sender(program), password)?;
+        let mut server = Server::make(password.as_bytes()).map_err(|error| error.to_string())?;
         if server.run(program).map_err(|error| error.to_string())?.kind == Kind::Denied {
             return Ok(true);
         }
     }
     Ok(false)
-}
-
-/// The third word of the login, the first line that is no comment. Where the program parses that is its sender.
-fn sender(program: &[u8]) -> &[u8] {
-    let login = program.split(|byte| *byte == b'\n').find(|line| !line.starts_with(b"//"));
-    let mut words = login.unwrap_or_default().split(|byte| *byte == b' ').filter(|word| !word.is_empty());
-    words.nth(2).unwrap_or_default()
-}
-
-/// A server with this name and password, as far as it is a name.
-fn holding(name: &[u8], password: &str) -> Result<Server, String> {
-    let mut server = Server::make(password.as_bytes()).map_err(|error| error.to_string())?;
-    let login = format!("as principal admin password \"{password}\" do\ncreate principal ");
-    let program = [login.as_bytes(), name, format!(" \"{password}\"\nreturn \"\"\n***").as_bytes()].concat();
-    server.run(&program).map_err(|error| error.to_string())?;
-    Ok(server)
 }
 
 /// The first thing that is wrong with a program that does not parse.
