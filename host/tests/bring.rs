@@ -141,6 +141,8 @@ fn no_other_host_is_at_work() {
         lock.lock().expect("locked");
         let said = folder.printed(3, &["bring", "old", "new"], "");
         assert!(said.contains("another host is at work on it"), "{said}");
+        // Not only closed: a child that another test has just forked has the file open too, until it is another program.
+        lock.unlock().expect("unlocked");
     }
     folder.printed(0, &["bring", "old", "new"], "");
 }
