@@ -44,7 +44,7 @@ uint64_t kivzurg_bring(const uint8_t *former, size_t former_size, uint8_t *state
 
 /* Runs a program. Answers an end (KIVZURG_RETURNED to KIVZURG_FULL) with its lines and bytes, or a number from 1 to 5. After an end the output
  * holds the lines and zeros, the work buffer is zero, and the state holds the new text or, where the program was not completed, what it held. A login
- * is refused alike for a name that is missing and for a wrong password (since 0.7.0): by the code KIVZURG_DENIED and the same bytes. */
+ * under a name that is missing is refused as one with another password, or where none is kept (since 0.7.0): by KIVZURG_DENIED and the same bytes. */
 uint64_t kivzurg_run(uint8_t *state, size_t state_size, uint8_t *work, size_t work_size, uint8_t *output, size_t output_size,
                      const uint8_t *program, size_t program_size);
 

@@ -46,8 +46,7 @@ pub enum Kind {
     Returned,
     /// Completed by `exit`: the server is closed.
     Exited,
-    /// Not done: its login is not right, or its sender may not do it. A name that
-    /// is missing is refused as a wrong password is.
+    /// Not done: its login is not right, or its sender may not do it. A name that is missing is refused as a wrong password is.
     Denied,
     /// Not done: it does not parse, or it cannot be done.
     Failed,

@@ -128,7 +128,7 @@ fn session() {
     sent(&mut state, ROSA, "append to queue with \"x\"\nreturn queue", End::Denied);
     sent(&mut state, ROSA, "set own = \"a\"\nreturn nosuch", End::Failed);
     sent(&mut state, "rosa password \"r2\"", "return \"\"", End::Denied);
-    sent(&mut state, "nobody password \"r1\"", "return \"\"", End::Failed);
+    sent(&mut state, "nobody password \"r1\"", "return \"\"", End::Denied);
     sent(&mut state, ROSA, "return", End::Failed);
     let long = "s".repeat(8_163);
     sent(&mut state, ADMIN, &format!("set x = \"{long}\"\nreturn x"), End::Full);

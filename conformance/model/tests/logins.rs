@@ -8,19 +8,30 @@ use model::engine::End;
 use model::observe::logins::{logins, MISSING, PARSED, UNPARSED};
 use model::text::BUFFER;
 
-/// Names that 01's session has not: one of its own kind, one told from rosa by
-/// its case alone, a part of one, a variable's, the longest.
+/// Names that 01's session has not: a plain one, one told from rosa by its case,
+/// one with which hers begins, one that begins with hers, a variable's, and the
+/// longest.
 fn missing_names() -> Vec<String> {
     let names = ["bob", "Rosa", "ros", "rosas", "queue"];
     let longest = "n".repeat(255);
-    names.map(str::to_string).into_iter().chain([longest]).collect()
+    names
+        .map(str::to_string)
+        .into_iter()
+        .chain([longest])
+        .collect()
 }
 
 #[test]
 fn a_missing_name_is_denied_whatever_it_sends() {
     let heavy = format!("return \"{}\"", "a".repeat(8_193));
     for name in missing_names() {
-        for line in ["return \"a\"", "return nosuch", "return queue", &heavy, "exit"] {
+        for line in [
+            "return \"a\"",
+            "return nosuch",
+            "return queue",
+            &heavy,
+            "exit",
+        ] {
             let mut server = Server::session();
             let (end, text) = server.run(&name, "r1", &[line]);
             assert_eq!((end, text), (End::Denied, statuses(&["DENIED"])), "{name}");
@@ -32,19 +43,27 @@ fn a_missing_name_is_denied_whatever_it_sends() {
 #[test]
 fn what_does_not_parse_fails_whoever_sent_it() {
     let too_long = "n".repeat(256);
-    let whole = program("bob", "r1", &["return \"a\""]);
-    let texts = [
-        program("bob", "r1", &[]),
-        program("bob", "r1", &["retrun \"a\"", "return \"a\""]),
-        program("bob", "r1", &["return \"a\"", "return \"a\""]),
-        whole.replace("***\n", ""),
-        whole.replace("***\n", "***\n\n"),
-        program("set", "r1", &["return \"a\""]),
-        program(&too_long, "r1", &["return \"a\""]),
-    ];
-    for text in texts {
-        let (end, _) = Server::session().send(text.as_bytes());
-        assert_eq!(end, End::Failed, "{text}");
+    for (name, password) in [
+        ("bob", "r1"),
+        ("rosa", "r1"),
+        ("rosa", "r2"),
+        ("anyone", ""),
+    ] {
+        let whole = program(name, password, &["return \"a\""]);
+        for text in [
+            program(name, password, &[]),
+            program(name, password, &["retrun \"a\""]),
+            program(name, password, &["retrun \"a\"", "return \"a\""]),
+            program(name, password, &["return \"a\"", "return \"a\""]),
+            whole.replace("***\n", ""),
+            whole.replace("***\n", "***\n\n"),
+            whole.replacen(name, "set", 1),
+            whole.replacen(name, &too_long, 1),
+        ] {
+            let mut server = Server::session();
+            assert_eq!(server.send(text.as_bytes()).0, End::Failed, "{text}");
+            assert_eq!(server.text(), SESSION);
+        }
     }
 }
 
@@ -52,7 +71,10 @@ fn what_does_not_parse_fails_whoever_sent_it() {
 #[test]
 fn the_longest_program() {
     let program = |more| {
-        let lines = format!("as principal bob password \"b\" do\nreturn \"{}\"\n***", "a".repeat(more));
+        let lines = format!(
+            "as principal bob password \"b\" do\nreturn \"{}\"\n***",
+            "a".repeat(more)
+        );
         let length = lines.len();
         (lines, length)
     };
@@ -92,7 +114,11 @@ fn missing_names_in_commands_fail() {
         "set x = nosuch",
         "append to nosuch with \"a\"",
     ] {
-        assert_eq!(server.admin(&[line, "return \"a\""]).0, End::Failed, "{line}");
+        assert_eq!(
+            server.admin(&[line, "return \"a\""]).0,
+            End::Failed,
+            "{line}"
+        );
     }
 }
 
@@ -108,7 +134,13 @@ fn seen(text: &str, program: &str) -> (String, Vec<u8>, Vec<u8>) {
 #[test]
 fn two_states_show_the_same() {
     let other = "O\nP|admin|x|7\nP|anyone||0\nP|bob|b|3\nD|bob\nV|nosuch|S|a\n";
-    for (name, password) in [("bob", "c"), ("rosa", "b"), ("admin", "a"), ("anyone", "a"), ("nobody", "")] {
+    for (name, password) in [
+        ("bob", "c"),
+        ("rosa", "b"),
+        ("admin", "a"),
+        ("anyone", "a"),
+        ("nobody", ""),
+    ] {
         for line in ["return nosuch", "return queue", "exit", "exit now"] {
             let sent = program(name, password, &[line]);
             assert!(seen(SESSION, &sent) == seen(other, &sent), "{sent}");
@@ -120,7 +152,12 @@ fn two_states_show_the_same() {
 fn what_is_told_of_logins() {
     let state = buffer(SESSION);
     let told = |text: &str| logins(&state, text.as_bytes());
-    for (name, password, at) in [("rosa", "r1", 0), ("bob", "r1", 1), ("rosa", "r2", 2), ("anyone", "", 3)] {
+    for (name, password, at) in [
+        ("rosa", "r1", 0),
+        ("bob", "r1", 1),
+        ("rosa", "r2", 2),
+        ("anyone", "", 3),
+    ] {
         let text = program(name, password, &["return \"a\""]);
         assert_eq!(told(&text), [PARSED[at]]);
         assert_eq!(told(&text.replace("return", "retrun")), [UNPARSED[at]]);
@@ -135,9 +172,20 @@ fn what_is_told_of_logins() {
         ("bob", "create principal bob \"\"", 4),
         ("bob", "exit", 5),
     ] {
-        let lines = if at == 4 { vec![line, "return \"a\""] } else { vec![line] };
-        assert_eq!(told(&program(name, "", &lines)), [PARSED[1], MISSING[at]], "{name}");
+        let lines = if at == 4 {
+            vec![line, "return \"a\""]
+        } else {
+            vec![line]
+        };
+        assert_eq!(
+            told(&program(name, "", &lines)),
+            [PARSED[1], MISSING[at]],
+            "{name}"
+        );
     }
     let closed = buffer(&SESSION.replacen('O', "C", 1));
-    assert_eq!(logins(&closed, program("bob", "", &["exit"]).as_bytes()), [""; 0]);
+    assert_eq!(
+        logins(&closed, program("bob", "", &["exit"]).as_bytes()),
+        [""; 0]
+    );
 }

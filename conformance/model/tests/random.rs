@@ -11,6 +11,7 @@ use common::{buffer, program, Server, DIRT, FRESH, SESSION};
 use model::calls;
 use model::engine::{self, End};
 use model::lines::Lines;
+use model::observe::logins::{logins, PARSED, UNPARSED};
 use model::observe::older::{older, Met, OLDER};
 use model::observe::prices::{FAILURES, ROUNDINGS};
 use model::observe::{self, COUNTS, FUNCTIONS, MISHAPS, PLACES, SHAPES};
@@ -145,8 +146,19 @@ fn with_older_names(numbers: &mut Numbers, text: &str) -> String {
     }
 }
 
-/// How often each form of a call, each mishap, each move of a count and each
-/// meeting with older names came: every one must.
+/// A program whose login is not right is DENIED, and what is none is FAILED.
+fn login_decides(told: &str, end: End) {
+    if PARSED[1..].contains(&told) {
+        assert_eq!(end, End::Denied, "{told}");
+    }
+    if UNPARSED.contains(&told) {
+        assert_eq!(end, End::Failed, "{told}");
+    }
+}
+
+/// How often each form of a call, each mishap, each sort of login, each move of
+/// a count and each meeting with older names came: every one must. All names
+/// have a password here.
 fn all_came(seen: &BTreeMap<String, usize>) {
     let forms = FUNCTIONS.iter().flat_map(|function| {
         let told = move |place: &&str| format!("{function} in {place}");
@@ -154,6 +166,7 @@ fn all_came(seen: &BTreeMap<String, usize>) {
     });
     let others = MISHAPS.iter().chain(&SHAPES).chain(&COUNTS);
     let others = others.chain(&ROUNDINGS).chain(&FAILURES).chain(&OLDER);
+    let others = others.chain(&PARSED[..3]).chain(&UNPARSED[..3]);
     for key in forms.chain(others.map(|key| key.to_string())) {
         let times = seen.get(&key).copied().unwrap_or(0);
         println!("{key}: {times}");
@@ -180,6 +193,10 @@ fn whole_programs() {
             }
             let (end, output) = server.send(program.as_bytes());
             ends[end as usize] += 1;
+            for told in logins(&before, program.as_bytes()) {
+                login_decides(told, end);
+                *seen.entry(told.to_string()).or_default() += 1;
+            }
             for told in older(&Met {
                 before: &before,
                 program: program.as_bytes(),

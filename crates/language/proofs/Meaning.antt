@@ -6,6 +6,8 @@ pub mod Adding
 pub mod Stores
 pub mod ValidCommands
 pub mod Counting
+-- logins that are right
+pub mod Logins
 pub mod ValidRuns
 pub mod Sent
 pub mod Weights

@@ -1,21 +1,21 @@
--- Document 02, M-105: nobody finds out names by trying them. (The field calls that user enumeration.)
+-- Document 02, M-105: nobody without a right login finds out names by trying them. (The field calls that user enumeration.)
 --
--- Whoever sends a program without a right login gets to see the answer, the output and the work buffer. On any two open states these are the
--- same, byte for byte: they tell whether the text is a program, and nothing of the state. Each state keeps its bytes, so this goes on over any
--- list of tries. Of the time that a call takes nothing is said.
+-- Whoever sends a text without a right login sees at most the answer, the output and the work buffer. On any two open states these are the same,
+-- byte for byte, whoever has a name there. Each state keeps its bytes, so that the next such try finds both as they were. Of the time that a call
+-- takes nothing is said.
 use mathlib.Core.Path.{_≡_}
 use mathlib.Core.Option.{some}
 use Rattle.language.specs.Text.{Text}
 use Rattle.language.specs.Syntax.{Program}
-use Rattle.language.specs.State.{Store}
+use Rattle.language.specs.State.{Principal, Store, named}
 use Rattle.language.specs.Programs.{parse}
-use Rattle.language.specs.Run.{right, login}
 use Rattle.language.specs.Calls.{Buffers, Reply, runCall}
 use Rattle.language.specs.Demands.{Sent}
 
--- a text that is no program, or whose login is not right
+-- a text that is no program, or whose password is not kept under its sender's name: the name is missing, or it keeps another, or none
 abbrev pub Unauthenticated : Store → Text → Type 0
-Unauthenticated s text = (p : Program) → parse text ≡ some p → ¬ (login s p ≡ right)
+Unauthenticated s text =
+    (p : Program) → parse text ≡ some p → (k : Principal) → named (s .principals) (p .sender) ≡ some k → ¬ (k .password ≡ some (p .password))
 
 -- two replies that are the same, but for the state's buffer
 pub record Alike (q r : Reply Buffers) : Type 0 where

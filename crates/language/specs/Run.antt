@@ -30,8 +30,8 @@ abbrev pub perform : Session → List Command → End
 perform s [] = completed [] (s .store)
 perform s (c ∷ rest) = next (step s c) (λ t. perform t rest)
 
--- a login is right, or mistaken: the name is missing, or the password is another, or none is kept. These are one case, so that nothing
--- tells a name that is missing from one that is not (document 02, M-105; 01 and 001 have FAILED for it)
+-- a login is right, or mistaken: the name is missing, or the password is another, or none is kept. These are one case, since they are answered
+-- alike (document 02, M-105; in 01 and 001 a missing name is FAILED)
 pub data Login : Type 0 where
   mistaken right : Login
 

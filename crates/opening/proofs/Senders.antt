@@ -1,4 +1,4 @@
--- A login by the record of its name: the password that is kept there decides.
+-- A login by the record of its name: where there is none it is mistaken, and otherwise the password that is kept there decides.
 -- Assumes nothing.
 use mathlib.Core.Path.{_≡_, sym, ap, _∙_}
 use mathlib.Core.Bool.{Bool, true, false}

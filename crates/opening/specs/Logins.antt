@@ -1,4 +1,4 @@
--- What a login answers (document 01, "A run").
+-- What a login answers (document 01, "A run", as request M-105 amends it).
 use mathlib.Core.Path.{_≡_}
 use Prim.Native.Nat.{ℕ}
 use mathlib.Core.List.{List}

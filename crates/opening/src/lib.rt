@@ -24,7 +24,7 @@ ghost use Rattle.session.specs.Sessions.{slices, Sized, Running};
 ghost use Rattle.opening.specs.Logins.{LoginMeant, SomeState};
 ghost use Rattle.opening.specs.Beginnings.{SomeValid};
 
-// The number of the principal; or mistaken, which does not say whether the name is missing or its password is not the one given.
+// The number of the principal; or mistaken: the name is missing, the password is another, or none is kept.
 pub enum Login {
     Mistaken,
     Right(usize),

@@ -2,12 +2,10 @@
 use mathlib.Core.Path.{_≡_, refl}
 use Prim.Native.Nat.{ℕ}
 use Prim.Native.String.{String}
-use mathlib.Core.Bool.{true}
 use mathlib.Core.List.{List, [], _∷_, _++_, map}
 use lib.ListN.{length, replicate}
-use Rattle.language.specs.Text.{Text, bytes, all, _==_}
+use Rattle.language.specs.Text.{Text, bytes}
 use Rattle.language.specs.State.{Store}
-use Rattle.language.specs.Encode.{stateText}
 use Rattle.worked.specs.Sessions.{page, runs, after-session, admin-sends}
 use Rattle.worked.specs.Functions.{Sent, lined, printed-from, expected-of}
 use Rattle.worked.specs.Counts.{said, sends}
@@ -44,7 +42,8 @@ logins =
     ∷ is-denied "a name that exists, another password" (returns "rosa" "b")
     ∷ is-denied "anyone, who has no password" (returns "anyone" "")
     ∷ is-failed "a missing name, and no last command: it does not parse" (sends "bob" "b" [])
-    ∷ is-failed "a missing name, and a command that does not parse" (sends "bob" "b" ("retrun \"a\"" ∷ "return \"a\"" ∷ []))
+    ∷ is-failed "a missing name, and a command that does not parse" (sends "bob" "b" ("retrun \"a\"" ∷ []))
+    ∷ is-failed "a line behind that" (sends "bob" "b" ("retrun \"a\"" ∷ "return \"a\"" ∷ []))
     ∷ is-failed "a missing name, and a line behind the last command" (sends "bob" "b" ("return \"a\"" ∷ "return \"a\"" ∷ []))
     ∷ is-failed "a missing name, and no line of three asterisks" (writes (bytes "bob") (bytes "return \"a\"" ∷ []))
     ∷ is-failed "a keyword for a name" (returns "set" "b")
@@ -65,10 +64,6 @@ logins =
 pub logins-right : printed-from after-session logins ≡ expected-of logins
 logins-right = refl
 
--- not one of them changes the state
-pub logins-kept : all (λ c. stateText (runs after-session (c .program ∷ []) .state) == stateText after-session) logins ≡ true
-logins-kept = refl
-
 -- once the name was created, the same program is done
 pub created-then :
     runs after-session (returns "bob" "b" ∷ admin-sends ("create principal bob \"b\"" ∷ "return \"\"" ∷ []) ∷ returns "bob" "b" ∷ []) .printed
@@ -79,6 +74,9 @@ created-then = refl
 
 abbrev pub elsewhere : Store
 elsewhere = said ("O" ∷ "P\tadmin\tx\t7" ∷ "P\tanyone\t\t0" ∷ "P\tbob\tc\t3" ∷ "D\tbob" ∷ "V\tnosuch\tS\ta" ∷ [])
+
+pub elsewhere-read : runs elsewhere (returns "bob" "c" ∷ []) .printed ≡ page ("{\"status\":\"RETURNING\",\"output\":\"a\"}" ∷ [])
+elsewhere-read = refl
 
 -- logins that are right on neither
 abbrev pub tries : List Text

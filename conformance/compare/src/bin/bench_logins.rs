@@ -1,8 +1,8 @@
 //! What a refused login costs, of a missing name beside another password, on short and long programs: `cargo run --release --bin bench_logins`. With a
 //! folder as its argument it writes the figures: `cargo run --release --bin bench_logins ../docs` puts them into performance.md.
 //!
-//! A refusal keeps the state, so that nothing is copied between the calls. All are measured in turns, and the one with another password twice: what
-//! these two differ by is the noise of the run.
+//! A refusal keeps the state, so that nothing is copied between the calls. Each text is there twice, in memory of its own, and all are measured in turns:
+//! what a text and its copy differ by is the noise of the run.
 
 use std::env;
 use std::fmt::Write;
@@ -40,15 +40,15 @@ fn places() -> Vec<Place> {
     ]
 }
 
-/// A short body, one of as many commands as fit, and one long string.
-fn bodies() -> [(&'static str, String); 3] {
-    let around = program("rosa", "").len();
-    let commands = "set x=y\n".repeat((LONGEST_PROGRAM - around - "exit".len()) / "set x=y\n".len());
-    let letters = "a".repeat(LONGEST_PROGRAM - around - "return \"\"".len());
+/// A short body, one of as many commands as fit, and one with the longest string that fits.
+fn bodies() -> [(String, String); 3] {
+    let (around, command) = (program("rosa", "").len(), "set x=y\n");
+    let commands = (LONGEST_PROGRAM - around - "exit".len()) / command.len();
+    let letters = LONGEST_PROGRAM - around - "return \"\"".len();
     [
-        ("`return \"a\"`", "return \"a\"".to_string()),
-        ("2,041 commands", format!("{commands}exit")),
-        ("a string of 16,332", format!("return \"{letters}\"")),
+        ("`return \"a\"`".to_string(), "return \"a\"".to_string()),
+        (format!("{} commands", commands + 1), format!("{}exit", command.repeat(commands))),
+        (format!("a string of {letters}"), format!("return \"{}\"", "a".repeat(letters))),
     ]
 }
 
@@ -56,50 +56,52 @@ fn program(sender: &str, body: &str) -> Vec<u8> {
     format!("as principal {sender} password \"r2\" do\n{body}\n***").into_bytes()
 }
 
-/// Nanoseconds of the server for another password, for the same again, and for a missing name; then of the model for the first and the last.
-fn measured(state: &[u8], denied: &[u8], missing: &[u8]) -> ([f64; 3], [f64; 2]) {
+/// How long the calls take of which one side refuses these texts, in nanoseconds: the least of a text and its copy, and by how much the two differ.
+struct Times {
+    least: [f64; 2],
+    noise: f64,
+}
+
+impl Times {
+    fn of(texts: [&[u8]; 2], mut call: impl FnMut(&[u8]) -> usize) -> Times {
+        let copies = texts.map(<[u8]>::to_vec);
+        let all = [texts[0], &copies[0], texts[1], &copies[1]];
+        let times = in_turns(4, |at| call(black_box(all[at])));
+        let pairs = [[times[0], times[1]], [times[2], times[3]]];
+        Times { least: pairs.map(|[one, other]| one.min(other)), noise: pairs.map(|[one, other]| (one - other).abs()).into_iter().fold(0.0, f64::max) }
+    }
+}
+
+/// The server, and then the model.
+fn measured(state: &[u8], texts: [&[u8]; 2]) -> [Times; 2] {
     let (mut lent, mut work, mut output) = (state.to_vec(), vec![0; BUFFER], vec![0; BUFFER]);
-    let texts = [denied, denied, missing];
     for text in texts {
         let answer = server::run(&mut lent, &mut work, &mut output, text);
-        assert!(matches!(answer, Answer::Ended(report) if report.end == End::Denied), "{}", String::from_utf8_lossy(text));
+        let report = calls::run(&mut lent, &mut work, &mut output, text).expect("a right call");
+        assert!(report.end == End::Denied && answer == Answer::Ended(report), "{}", String::from_utf8_lossy(text));
     }
-    let ours = in_turns(3, |at| {
-        black_box(server::run(&mut lent, &mut work, &mut output, black_box(texts[at])));
+    let ours = Times::of(texts, |text| {
+        black_box(server::run(&mut lent, &mut work, &mut output, text));
         output[0] as usize
     });
-    let theirs = in_turns(2, |at| {
-        black_box(calls::run(&mut lent, &mut work, &mut output, black_box(texts[1 + at]))).map_or(0, |report| report.bytes)
-    });
-    ([ours[0], ours[1], ours[2]], [theirs[0], theirs[1]])
+    let theirs = Times::of(texts, |text| black_box(calls::run(&mut lent, &mut work, &mut output, text)).map_or(0, |report| report.bytes));
+    [ours, theirs]
 }
 
 fn main() {
-    let mut text = String::from(
-        "| program | another password | ratio to the model | missing name | ratio to the model | missing less another | another less the same again |\n|---|---|---|---|---|---|---|\n",
-    );
+    let mut table = String::from("| program | another password | ratio to the model | missing name | ratio to the model | missing less another | noise |\n|---|---|---|---|---|---|---|\n");
     for place in places() {
         for (what, body) in bodies() {
-            let (denied, missing) = (program(place.known, &body), program(place.missing, &body));
-            assert_eq!(denied.len(), missing.len());
-            let ([first, again, missing], [model_first, model_missing]) = measured(&place.state, &denied, &missing);
-            let another = first.min(again);
-            writeln!(
-                text,
-                "| {}: {what} | {:.1} µs | {:.2} | {:.1} µs | {:.2} | {:+.0} ns | {:+.0} ns |",
-                place.name,
-                another / 1e3,
-                another / model_first,
-                missing / 1e3,
-                missing / model_missing,
-                missing - another,
-                first - again
-            )
-            .expect("a line");
+            let (another, missing) = (program(place.known, &body), program(place.missing, &body));
+            assert_eq!(another.len(), missing.len());
+            let [ours, theirs] = measured(&place.state, [&another, &missing]);
+            let time = |at: usize| format!("{:.1} µs | {:.2}", ours.least[at] / 1e3, ours.least[at] / theirs.least[at]);
+            let more = ours.least[1] - ours.least[0];
+            writeln!(table, "| {}: {what} | {} | {} | {more:+.0} ns | {:.0} ns |", place.name, time(0), time(1), ours.noise).expect("a line");
         }
     }
-    print!("{text}");
+    print!("{table}");
     if let Some(folder) = env::args().nth(1) {
-        page::write(&Path::new(&folder).join("performance.md"), "login figures", &text);
+        page::write(&Path::new(&folder).join("performance.md"), "login figures", &table);
     }
 }

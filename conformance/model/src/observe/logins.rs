@@ -55,12 +55,18 @@ pub fn logins(state: &[u8], program: &[u8]) -> Vec<&'static str> {
     }
     let first = first_line(program);
     let login = parse(&first).map(|program| stands(&state, &program));
-    login.map(|login| UNPARSED[login as usize]).into_iter().collect()
+    login
+        .map(|login| UNPARSED[login as usize])
+        .into_iter()
+        .collect()
 }
 
 /// How the login of a program stands to a state.
 pub fn stands(state: &State, program: &Program) -> Login {
-    let of_name = state.principals.iter().find(|one| one.name == program.principal);
+    let of_name = state
+        .principals
+        .iter()
+        .find(|one| one.name == program.principal);
     match of_name.map(|one| one.password) {
         None => Login::NameMissing,
         Some(None) => Login::NoPasswordKept,
@@ -71,15 +77,16 @@ pub fn stands(state: &State, program: &Program) -> Login {
 
 /// The first line that is no comment as a program of its own.
 fn first_line(text: &[u8]) -> Vec<u8> {
-    let lines = text.split(|byte| *byte == b'\n');
-    let line = lines.into_iter().find(|line| !line.starts_with(b"//"));
+    let mut lines = text.split(|byte| *byte == b'\n');
+    let line = lines.find(|line| !line.starts_with(b"//"));
     [line.unwrap_or_default(), b"\nexit\n***"].concat()
 }
 
 fn missing(state: &State, program: &Program) -> Vec<&'static str> {
     let name = program.principal;
     let principal = |is: &dyn Fn(&[u8]) -> bool| state.principals.iter().any(|one| is(one.name));
-    let creates = |command: &Command| matches!(command, Command::CreatePrincipal(made, _) if *made == name);
+    let creates =
+        |command: &Command| matches!(command, Command::CreatePrincipal(made, _) if *made == name);
     let is_so = [
         state.variables.find(name).is_some(),
         principal(&|other| other.eq_ignore_ascii_case(name)),
@@ -88,5 +95,8 @@ fn missing(state: &State, program: &Program) -> Vec<&'static str> {
         program.commands.iter().any(creates),
         program.last == Last::Exit,
     ];
-    (0..6).filter(|&at| is_so[at]).map(|at| MISSING[at]).collect()
+    (0..6)
+        .filter(|&at| is_so[at])
+        .map(|at| MISSING[at])
+        .collect()
 }

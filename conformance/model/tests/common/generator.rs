@@ -210,6 +210,10 @@ pub fn any_program(numbers: &mut Numbers) -> String {
         0 => "admin",
         _ => principal(numbers),
     };
+    let password = match numbers.below(24) {
+        0 => "",
+        _ => sender,
+    };
     let count = numbers.below(4);
     let mut lines: Vec<String> = match numbers.below(80) {
         0 => swollen(numbers),
@@ -220,5 +224,5 @@ pub fn any_program(numbers: &mut Numbers) -> String {
         _ => format!("return {}", expression(numbers)),
     });
     let lines: Vec<&str> = lines.iter().map(String::as_str).collect();
-    program(sender, sender, &lines)
+    program(sender, password, &lines)
 }

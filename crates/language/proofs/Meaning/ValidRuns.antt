@@ -16,7 +16,7 @@ use Rattle.language.specs.Valid.{wellFormed, validStore}
 use Rattle.language.specs.Outcomes.{Outcome, gives, fails, fills}
 use Rattle.language.specs.Values.{Session}
 use Rattle.language.specs.Commands.{Effect, effect, denied, heavy, sessionWeight, Step, refused, went, FULL, verdict, step}
-use Rattle.language.specs.Run.{End, refusal, completed, after, next, perform, Login, mistaken, right, loginAs, login, begin, tallied, runAs, run}
+use Rattle.language.specs.Run.{End, refusal, completed, after, next, perform, Login, mistaken, right, login, begin, tallied, runAs, run}
 use Rattle.language.proofs.Parsing.ValidPrograms.{validCommand, endsOnce, validProgram}
 use Rattle.language.proofs.Logic.Tests.{both, and}
 use Rattle.language.proofs.Logic.Outcomes.{Where}
@@ -24,6 +24,7 @@ use Rattle.language.proofs.Logic.Giving.{Giving}
 use Rattle.language.proofs.StateText.Shape.{shape, formed}
 use Rattle.language.proofs.Meaning.ValidValues.{Good}
 use Rattle.language.proofs.Meaning.Counting.{counts-store}
+use Rattle.language.proofs.Meaning.Logins.{right-kept}
 use Rattle.language.proofs.Meaning.ValidCommands.{Keeps, effect-good}
 
 -- a session between two commands
@@ -89,17 +90,12 @@ pub begin-ready : (s : Store) (p : Program) → T (validStore s) → login s p �
 begin-ready s p h e =
     let (w, l) = both (wellFormed s) (leb (storeWeight s) limit) h in
     record {
-      is-good = record { store-shape = shape s w; locals-valid = tt; sender-known = go (named (s .principals) (p .sender)) e };
+      is-good = record { store-shape = shape s w; locals-valid = tt; sender-known = known };
       is-light = leb→le (storeWeight s) limit l;
     }
   where
-    isRight : Login → Type 0
-    isRight mistaken = ⊥
-    isRight right = Unit {0}
-
-    go : (o : Option Principal) → loginAs (p .password) o ≡ right → T (present o)
-    go none e = subst isRight (sym e) tt
-    go (some k) e = tt
+    known : T (present (named (s .principals) (p .sender)))
+    known = subst (λ (o : Option Principal). T (present o)) (sym (right-kept (p .password) (named (s .principals) (p .sender)) e .1)) tt
 
 module _ (p : Program) (h : T (validProgram p)) where
   body-valid : T (all validCommand (p .commands)) × T (endsOnce (p .commands))

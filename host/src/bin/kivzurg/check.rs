@@ -31,7 +31,7 @@ pub fn check(arguments: &Arguments) -> Outcome {
     Ok(true)
 }
 
-/// Two servers just made know admin only, each under another password: on one of them at least the login is not right.
+/// Two servers just made let in admin alone, each under its own password: on one of them at least the login is not right.
 fn parses(program: &[u8]) -> Result<bool, String> {
     for password in ["a", "b"] {
         let mut server = Server::make(password.as_bytes()).map_err(|error| error.to_string())?;
