@@ -4,6 +4,8 @@ use std::collections::BTreeMap;
 use std::env;
 use std::thread;
 
+use crate::random::Random;
+
 /// How often each thing came.
 pub type Seen = BTreeMap<String, u64>;
 
@@ -32,6 +34,17 @@ pub fn side_by_side(run: impl Fn(u64) -> Seen + Sync) -> Seen {
     }
     seen.iter().for_each(|(key, times)| println!("{key}: {times}"));
     seen
+}
+
+/// So many runs, side by side, each with numbers of its own that its place and the seed give: what came in all of them, which is printed.
+pub fn each_seeded(count: u64, seed: u64, run: impl Fn(&mut Seen, &mut Random) + Sync) -> Seen {
+    side_by_side(|worker| {
+        let mut seen = Seen::new();
+        for at in (worker..count).step_by(WORKERS as usize) {
+            run(&mut seen, &mut Random(seed.wrapping_mul(1_000_003).wrapping_add(at)));
+        }
+        seen
+    })
 }
 
 /// A test in which one of these never came has shown nothing of it.

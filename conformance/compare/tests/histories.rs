@@ -10,7 +10,7 @@ use compare::former::{count, former, padded, recounted, text};
 use compare::histories::{next, opening, World, PRINCIPALS, RENAMED, VARIABLES};
 use compare::older::{renamed, OLDER};
 use compare::random::Random;
-use compare::seen::{must_come, note, setting, side_by_side, Seen, WORKERS};
+use compare::seen::{each_seeded, must_come, note, setting, Seen};
 use compare::server::{ask, bring, make, run, sheet, Answer};
 use model::calls;
 use model::engine::End;
@@ -273,13 +273,7 @@ fn histories() {
     let count = setting("HISTORIES", 20_000);
     let seed = setting("SEED", 20_261_115);
     println!("{count} histories, seed {seed}");
-    let seen = side_by_side(|worker| {
-        let mut seen = Seen::new();
-        for at in (worker..count).step_by(WORKERS as usize) {
-            history(&mut seen, &mut Random(seed.wrapping_mul(1_000_003).wrapping_add(at)));
-        }
-        seen
-    });
+    let seen = each_seeded(count, seed, history);
     must_come(&seen, STATUSES.iter().chain(&ENDS).chain(&NUMBERS).chain(&ANSWERS).chain(&STARTS).chain(&COUNTS).chain(&MISHAPS).chain(&SHAPES));
     must_come(&seen, ROUNDINGS.iter().chain(&FAILURES).chain(&OLDER_MET).chain(&OLDER_ANSWERS));
     must_come(&seen, PARSED.iter().chain(&UNPARSED).chain(&MISSING));

@@ -9,7 +9,7 @@ use compare::former::{padded, recounted, text};
 use compare::histories::{next, opening, World, RENAMED};
 use compare::older::renamed;
 use compare::random::Random;
-use compare::seen::{must_come, note, setting, side_by_side, Seen, WORKERS};
+use compare::seen::{each_seeded, must_come, note, setting, Seen};
 use compare::server::{make, run, Answer};
 use model::calls;
 use model::observe::logins::{stands, Login};
@@ -110,13 +110,7 @@ fn two_servers_answer_alike() {
     let count = setting("PAIRS", 20_000);
     let seed = setting("SEED", 20_261_117);
     println!("{count} pairs of servers, seed {seed}");
-    let seen = side_by_side(|worker| {
-        let mut seen = Seen::new();
-        for at in (worker..count).step_by(WORKERS as usize) {
-            pair(&mut seen, &mut Random(seed.wrapping_mul(1_000_003).wrapping_add(at)));
-        }
-        seen
-    });
+    let seen = each_seeded(count, seed, pair);
     must_come(&seen, &MET);
     assert_eq!(seen.len(), MET.len(), "something else came");
 }

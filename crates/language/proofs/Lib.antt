@@ -12,5 +12,5 @@ pub mod Parsing
 pub mod Histories
 -- The three demands together
 pub mod Demanded
--- Names are not found out by trying them
+-- Names are not found out by trying logins
 pub mod Enumeration

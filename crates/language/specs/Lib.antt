@@ -37,5 +37,5 @@ pub mod Events
 pub mod History
 -- The three demands together
 pub mod Demands
--- names are not found out by trying them, request M-105
+-- names are not found out by trying logins, request M-105
 pub mod Enumeration

@@ -3,10 +3,10 @@ use mathlib.Core.Path.{_≡_, refl}
 use Prim.Native.Nat.{ℕ}
 use Prim.Native.String.{String}
 use mathlib.Core.List.{List, [], _∷_, _++_, map}
-use lib.ListN.{length, replicate}
+use lib.ListN.{length}
 use Rattle.language.specs.Text.{Text, bytes}
 use Rattle.language.specs.State.{Store}
-use Rattle.worked.specs.Sessions.{page, runs, after-session, admin-sends}
+use Rattle.worked.specs.Sessions.{page, runs, after-session, admin-sends, letters}
 use Rattle.worked.specs.Functions.{Sent, lined, printed-from, expected-of}
 use Rattle.worked.specs.Counts.{said, sends}
 
@@ -23,7 +23,7 @@ return-a = bytes "return \"a\"" ∷ bytes "***" ∷ []
 
 -- 46 bytes around a string of n
 abbrev pub long : ℕ → Text
-long n = bytes "as principal bob password \"b\" do\nreturn \"" ++ replicate n 97 ++ bytes "\"\n***"
+long n = bytes "as principal bob password \"b\" do\nreturn \"" ++ letters n ++ bytes "\"\n***"
 
 pub long-lengths : map (λ n. length (long n)) (16338 ∷ 16339 ∷ []) ≡ 16384 ∷ 16385 ∷ []
 long-lengths = refl
@@ -47,10 +47,10 @@ logins =
     ∷ is-failed "a missing name, and a line behind the last command" (sends "bob" "b" ("return \"a\"" ∷ "return \"a\"" ∷ []))
     ∷ is-failed "a missing name, and no line of three asterisks" (writes (bytes "bob") (bytes "return \"a\"" ∷ []))
     ∷ is-failed "a keyword for a name" (returns "set" "b")
-    ∷ is-denied "a missing name of 255 letters" (writes (replicate 255 97) return-a)
-    ∷ is-failed "one of 256 does not parse" (writes (replicate 256 97) return-a)
+    ∷ is-denied "a missing name of 255 letters" (writes (letters 255) return-a)
+    ∷ is-failed "one of 256 does not parse" (writes (letters 256) return-a)
     ∷ is-denied "a missing name reads a missing variable: the login decides" (sends "bob" "b" ("return nosuch" ∷ []))
-    ∷ is-denied "a missing name, and what would be too heavy" (writes (bytes "bob") ((bytes "return \"" ++ replicate 8193 97 ++ bytes "\"") ∷ bytes "***" ∷ []))
+    ∷ is-denied "a missing name, and what would be too heavy" (writes (bytes "bob") ((bytes "return \"" ++ letters 8193 ++ bytes "\"") ∷ bytes "***" ∷ []))
     ∷ is-denied "names are told by case" (returns "Rosa" "r1")
     ∷ is-denied "a variable's name is no principal's" (returns "queue" "b")
     ∷ is-denied "a missing name, exit" (sends "bob" "b" ("exit" ∷ []))

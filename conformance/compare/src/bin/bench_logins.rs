@@ -26,17 +26,17 @@ struct Place {
     missing: &'static str,
 }
 
-/// 01's session, and a venue of 300 names by the first and by the last of them: a missing name is looked for among all.
+/// 01's session, and 300 names beside admin's and anyone's, by the first and by the last of them: a missing name is looked for among all.
 fn places() -> Vec<Place> {
     let session = padded(
         b"O\nP\tadmin\tdesk\t1\nN\tanyone\t0\nP\trosa\tr1\t1\nD\tanyone\nV\tqueue\tL\nR\nF\tsong\tBlue Moon\nF\tkey\tF\nA\tqueue\tadmin\ta\trosa\n",
     );
     let people: String = (100..400).map(|number| format!("P\tp{number}\tr1\t0\n")).collect();
-    let venue = padded(format!("O\nP\tadmin\tdesk\t1\nN\tanyone\t0\n{people}D\tanyone\n").as_bytes());
+    let crowd = padded(format!("O\nP\tadmin\tdesk\t1\nN\tanyone\t0\n{people}D\tanyone\n").as_bytes());
     vec![
         Place { name: "session of 01", state: session, known: "rosa", missing: "bosa" },
-        Place { name: "venue of 300, its first name", state: venue.clone(), known: "p100", missing: "q100" },
-        Place { name: "venue of 300, its last name", state: venue, known: "p399", missing: "q399" },
+        Place { name: "300 names, the first", state: crowd.clone(), known: "p100", missing: "q100" },
+        Place { name: "300 names, the last", state: crowd, known: "p399", missing: "q399" },
     ]
 }
 
@@ -56,7 +56,7 @@ fn program(sender: &str, body: &str) -> Vec<u8> {
     format!("as principal {sender} password \"r2\" do\n{body}\n***").into_bytes()
 }
 
-/// How long the calls take of which one side refuses these texts, in nanoseconds: the least of a text and its copy, and by how much the two differ.
+/// How long one side takes to refuse each of two texts, in nanoseconds, the least of a text and its copy; and by how much those two differ at most.
 struct Times {
     least: [f64; 2],
     noise: f64,
@@ -67,8 +67,9 @@ impl Times {
         let copies = texts.map(<[u8]>::to_vec);
         let all = [texts[0], &copies[0], texts[1], &copies[1]];
         let times = in_turns(4, |at| call(black_box(all[at])));
-        let pairs = [[times[0], times[1]], [times[2], times[3]]];
-        Times { least: pairs.map(|[one, other]| one.min(other)), noise: pairs.map(|[one, other]| (one - other).abs()).into_iter().fold(0.0, f64::max) }
+        let least = [times[0].min(times[1]), times[2].min(times[3])];
+        let noise = (times[0] - times[1]).abs().max((times[2] - times[3]).abs());
+        Times { least, noise }
     }
 }
 
