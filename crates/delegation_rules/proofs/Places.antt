@@ -1,6 +1,6 @@
 -- The numbers of those names of a list of distinct names that pass a test.
 -- Assumes nothing.
-use mathlib.Core.Path.{_≡_, refl, sym, ap, _∙_}
+use mathlib.Core.Path.{_≡_, sym, ap, _∙_}
 use mathlib.Core.Bool.{Bool, true, false}
 use mathlib.Core.List.{List, [], _∷_, _++_, map, map-append, append-nil}
 use Prim.Native.Nat.{ℕ, _+_, _<_}
@@ -10,16 +10,9 @@ use lib.ListN.{length, getD, take}
 use lib.Seq.{take-suc}
 use Rattle.language.specs.Text.{if_then_else_, keep, distinct}
 use Rattle.language.specs.Syntax.{Name}
+use Rattle.language.proofs.Logic.Lists.{keep-append}
 use Rattle.store.specs.Rows.{position}
 use Rattle.named_rights.proofs.Places.{position-own}
-
-keep-append : (f : Name → Bool) (l m : List Name) → keep f (l ++ m) ≡ keep f l ++ keep f m
-keep-append f [] m = refl
-keep-append f (x ∷ l) m = go (f x) (keep-append f l m)
-  where
-    go : (b : Bool) → keep f (l ++ m) ≡ keep f l ++ keep f m → (if b then x ∷ keep f (l ++ m) else keep f (l ++ m)) ≡ (if b then x ∷ keep f l else keep f l) ++ keep f m
-    go true e = ap (λ (r : List Name). x ∷ r) e
-    go false e = e
 
 module _ (f : Name → Bool) (l : List Name) where
   -- the numbers of the first k names that pass the test

@@ -19,7 +19,7 @@ use Rattle.language.specs.Bytes.{between}
 use Rattle.language.specs.Decode.{number}
 use Rattle.language.specs.Prices.{greatest, inRange, amountText, priceText, digitsOf, startsMinus, signed, reading, price}
 use Rattle.language.proofs.Logic.Tests.{both, and-false}
-use Rattle.language.proofs.Logic.Integers.{abs-minus}
+use Rattle.language.proofs.Meaning.Rounding.{abs-signed}
 use Rattle.language.proofs.StateText.Digits.{Within}
 use Rattle.value_text.specs.Writing.{Written}
 use Rattle.value_text.proofs.Pieces.{written-take}
@@ -91,10 +91,6 @@ sign-first [] = refl
 sign-first (b ∷ t) = refl
 
 -- ---- what was read, held against the range and the text
-
-abs-signed : (m : Bool) (n : ℕ) → natAbs (signed m n) ≡ n
-abs-signed true n = abs-minus (pos n)
-abs-signed false n = refl
 
 pub signed-small : (m : Bool) (n : ℕ) → n ≤ greatest → natAbs (signed m n) ≤ greatest
 signed-small m n h = omega (arith, abs-signed m n)

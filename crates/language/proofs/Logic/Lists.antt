@@ -6,7 +6,7 @@ use mathlib.Core.Bool.{Bool, true, false, _||_}
 use mathlib.Core.Option.{some}
 use mathlib.Core.List.{List, [], _∷_, _++_, map, append-assoc}
 use lib.ListN.{length, getD}
-use Rattle.language.specs.Text.{Text, any, sum}
+use Rattle.language.specs.Text.{Text, if_then_else_, any, keep, sum}
 use Rattle.language.proofs.Logic.Tests.{or-false}
 
 pub map-append : {A B : Type 0} (f : A → B) (l m : List A) → map f (l ++ m) ≡ map f l ++ map f m
@@ -26,6 +26,14 @@ any-joined f (a ∷ l) m = go (f a) (any-joined f l m)
 
 pub any-last : {A : Type 0} (f : A → Bool) (l : List A) (a : A) → any f (l ++ (a ∷ [])) ≡ (any f l || f a)
 any-last f l a = any-joined f l (a ∷ []) ∙ ap (λ b. any f l || b) (or-false (f a))
+
+pub keep-append : {A : Type 0} (f : A → Bool) (l m : List A) → keep f (l ++ m) ≡ keep f l ++ keep f m
+keep-append f [] m = refl
+keep-append f (a ∷ l) m = go (f a) (keep-append f l m)
+  where
+    go : (b : Bool) → keep f (l ++ m) ≡ keep f l ++ keep f m → (if b then a ∷ keep f (l ++ m) else keep f (l ++ m)) ≡ (if b then a ∷ keep f l else keep f l) ++ keep f m
+    go true e = ap (λ k. a ∷ k) e
+    go false e = e
 
 pub sum-append : {A : Type 0} (f : A → ℕ) (l m : List A) → sum f (l ++ m) ≡ sum f l + sum f m
 sum-append f [] m = omega arith

@@ -17,6 +17,7 @@ use Rattle.language.specs.Decode.{number}
 use Rattle.language.specs.Prices.{greatest, inRange, amountText, priceText, digitsOf, startsMinus, signed, reading, price, rounded, isZero, ranged, reckoned}
 use Rattle.language.specs.Syntax.{Operation, add, sub, times, per}
 use Rattle.language.proofs.Logic.Tests.{both, and, all-map, all-append, true-of, ==→≡, ==-refl}
+use Rattle.language.proofs.Logic.Lists.{keep-append}
 use Rattle.language.proofs.Logic.Outcomes.{Where, if-where}
 use Rattle.language.proofs.StateText.Clean.{number-append, decimal-number}
 use Rattle.language.proofs.StateText.Digits.{Within, digit-byte, decimal-digits, digits-few}
@@ -98,15 +99,6 @@ long-none t h = go (inRange (reading t) && (priceText (reading t) == t)) (λ k. 
     go false f = refl
 
 -- ---- an amount in range has a text that is read as it
-
-keep-append : (f : ℕ → Bool) (s t : Text) → keep f (s ++ t) ≡ keep f s ++ keep f t
-keep-append f [] t = refl
-keep-append f (b ∷ s) t = go (f b) (keep-append f s t)
-  where
-    go : (c : Bool) → keep f (s ++ t) ≡ keep f s ++ keep f t
-        → (if c then b ∷ keep f (s ++ t) else keep f (s ++ t)) ≡ (if c then b ∷ keep f s else keep f s) ++ keep f t
-    go true e = ap (λ (u : Text). b ∷ u) e
-    go false e = e
 
 keep-all : (f : ℕ → Bool) (t : Text) → T (all f t) → keep f t ≡ t
 keep-all f [] h = refl

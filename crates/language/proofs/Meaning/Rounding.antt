@@ -56,7 +56,7 @@ up-only t d m n g h = le-antisymm (up-least t d m n g h) (up-least t d n m h g)
 
 -- ---- signs
 
-abs-signed : (b : Bool) (n : ℕ) → natAbs (signed b n) ≡ n
+pub abs-signed : (b : Bool) (n : ℕ) → natAbs (signed b n) ≡ n
 abs-signed true n = abs-minus (pos n)
 abs-signed false n = refl
 
