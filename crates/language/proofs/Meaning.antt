@@ -13,5 +13,7 @@ pub mod Sent
 pub mod Weights
 pub mod Printed
 pub mod LineCounts
+-- records whose fields are the same
+pub mod SameFields
 -- the rounded quotient
 pub mod Rounding

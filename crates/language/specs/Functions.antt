@@ -1,12 +1,13 @@
--- Requests M-100 and M-104: what the functions make of values, where these are strings, and of prices.
+-- Requests M-100 and M-104: what the functions make of values, where these are strings, and of prices; request M-106: when two elements are equal.
 use Prim.Native.Nat.{ℕ, _+_}
+use mathlib.Core.Bool.{Bool, false, _&&_}
 use mathlib.Core.Option.{Option, some}
-use mathlib.Core.List.{[], _∷_, _++_, map}
+use mathlib.Core.List.{List, [], _∷_, _++_, map}
 use lib.ListN.{length, take, drop}
-use Rattle.language.specs.Text.{Text, bytes, if_then_else_, _>>=_}
+use Rattle.language.specs.Text.{Text, bytes, if_then_else_, _>>=_, _==_, any, all}
 use Rattle.language.specs.Bytes.{between}
 use Rattle.language.specs.Syntax.{Operation, Function, split, concat, arithmetic}
-use Rattle.language.specs.State.{Value, single, string, fields}
+use Rattle.language.specs.State.{Field, Element, Value, single, string, fields}
 use Rattle.language.specs.Values.{asString}
 use Rattle.language.specs.Prices.{price, priceText, reckoned}
 
@@ -39,3 +40,19 @@ apply f v w = do
   t ← asString v
   u ← asString w
   onStrings f t u
+
+-- Request M-106: the labels of a record are distinct, so two records are the same where each holds the other's fields.
+abbrev pub sameField : Field → Field → Bool
+sameField f g = (f .label == g .label) && (f .text == g .text)
+
+abbrev pub holdsAll : List Field → List Field → Bool
+holdsAll fs gs = all (λ g. any (sameField g) fs) gs
+
+abbrev pub sameFields : List Field → List Field → Bool
+sameFields fs gs = holdsAll fs gs && holdsAll gs fs
+
+abbrev pub sameElement : Element → Element → Bool
+sameElement (string t) (string u) = t == u
+sameElement (string t) (fields gs) = false
+sameElement (fields fs) (string u) = false
+sameElement (fields fs) (fields gs) = sameFields fs gs
