@@ -4,7 +4,7 @@ use mathlib.Core.Path.{_≡_, refl, sym, ap, _∙_}
 use Prim.Native.Nat.{ℕ, _+_, _-_, _≤_, _<_}
 use native.Mathlib.Omega.{arith}
 use mathlib.Core.Bool.{true, false, _&&_}
-use mathlib.Core.List.{List, [], _∷_, _++_}
+use mathlib.Core.List.{List, [], _∷_, _++_, append-nil}
 use lib.ListN.{length, take, drop, length-drop}
 use Rattle.language.specs.Text.{Text, any, joined}
 use Rattle.language.specs.State.{Field}
@@ -13,9 +13,10 @@ use Rattle.language.specs.Functions.{sameField, holdsAll}
 use Rattle.values.specs.Places.{FieldAt, FieldsAt, SomeField}
 use Rattle.values.specs.Answers.{EndsOf}
 use Rattle.values.specs.declared.Ends.{Ends}
+use Rattle.values.proofs.Standing.{part-is}
 use Rattle.values.proofs.Lines.{fields-head, fields-tail, nothing-here, field-length}
-use Rattle.comparison.specs.Records.{HoldsRecord}
-use Rattle.comparison.proofs.Sizes.{record-starts}
+use Rattle.comparison.specs.Records.{HoldsRecord, LineOf}
+use Rattle.comparison.proofs.Fields.{record-starts}
 
 -- the fields that are still to be looked for among fs, from place `at` on
 pub record Left (t : Text) (fs gs : List Field) (at : ℕ) : Type 0 where
@@ -58,19 +59,21 @@ module _ (t : Text) (fs gs : List Field) (at : ℕ) (N : Next t fs gs at) where
   some-field = record { field = N .field; rest = rest-of; stands = next-at }
 
   module _ (r : Ends) (E : EndsOf t at (N .field) rest-of r) where
-    -- the field as the code reads it
-    abbrev pub readField : Field
-    readField = record { label = take (r .label - (at + 2)) (drop (at + 2) t); text = take (r .text - (r .label + 1)) (drop (r .label + 1) t) }
+    line-end : r .text + 1 ≡ at + length (fieldText (N .field))
+    line-end = omega (arith, E .label-end, E .text-end, field-length (N .field))
 
-    read-is : readField ≡ N .field
-    read-is = λ i. record { label = E .label-is i; text = E .text-is i }
+    pub next-line : LineOf (N .field) (take (r .text + 1 - at) (drop at t))
+    next-line = record {
+      is-valid = next-at .is-valid;
+      here = record { within = omega arith; left = part-is t at (r .text + 1) (fieldText (N .field)) rest-of (next-at .here) line-end ∙ sym (append-nil (fieldText (N .field))) };
+    }
 
-    pub missed : any (sameField readField) fs ≡ false → false ≡ holdsAll fs gs
-    missed b = sym (N .answer ∙ ap (λ c. c && holdsAll fs (N .more)) (ap (λ g. any (sameField g) fs) (sym read-is) ∙ b))
+    pub missed : any (sameField (N .field)) fs ≡ false → false ≡ holdsAll fs gs
+    missed b = sym (N .answer ∙ ap (λ c. c && holdsAll fs (N .more)) b)
 
-    pub passed : any (sameField readField) fs ≡ true → Left t fs gs (r .text + 1)
+    pub passed : any (sameField (N .field)) fs ≡ true → Left t fs gs (r .text + 1)
     passed b = record {
       left = N .more;
-      stand = fields-tail t at (N .field) (N .more) [] (r .text + 1) (omega (arith, E .label-end, E .text-end, field-length (N .field))) (N .stand);
-      answer = N .answer ∙ ap (λ c. c && holdsAll fs (N .more)) (ap (λ g. any (sameField g) fs) (sym read-is) ∙ b);
+      stand = fields-tail t at (N .field) (N .more) [] (r .text + 1) line-end (N .stand);
+      answer = N .answer ∙ ap (λ c. c && holdsAll fs (N .more)) b;
     }

@@ -1,3 +1,5 @@
 -- Laws of the fields of a record's text.
-pub mod Comparing
+pub mod Fields
 pub mod Sizes
+pub mod Matches
+pub mod Comparing

@@ -1,63 +1,21 @@
--- The fields of a record's text: which they are, that their labels are distinct, and how long they are.
+-- Two records' texts: equal records have texts of one length, and then one way round is enough.
 -- Assumes nothing.
 use mathlib.Core.Path.{_≡_, refl, sym, ap, _∙_, subst}
-use Prim.Native.Nat.{ℕ, _+_, _<_}
+use Prim.Native.Nat.{_<_}
 use native.Mathlib.Omega.{arith}
 use mathlib.Core.Bool.{true, false}
-use mathlib.Core.List.{List, [], _∷_, _++_, append-nil}
-use lib.Dec.{T, ltb}
-use lib.ListN.{length, drop, length-append}
-use Rattle.language.specs.Text.{Text, all, joined, front, sum, _==_, any, distinct}
+use mathlib.Core.List.{List, [], _∷_}
+use lib.Dec.{T}
+use lib.ListN.{length, length-append}
+use Rattle.language.specs.Text.{Text, joined, sum, _==_}
 use Rattle.language.specs.State.{Field}
-use Rattle.language.specs.Values.{textOf}
 use Rattle.language.specs.Encode.{fieldText}
-use Rattle.language.specs.Valid.{validField}
-use Rattle.language.specs.Functions.{sameField, holdsAll, sameFields}
-use Rattle.language.proofs.Logic.Tests.{three, true-of, false-of, ==→≡}
-use Rattle.language.proofs.Meaning.SameFields.{labels, isText, held-text, same-size, one-way, same-fields-self}
-use Rattle.text.specs.Meaning.{isNot}
+use Rattle.language.specs.Functions.{holdsAll, sameFields}
+use Rattle.language.proofs.Logic.Tests.{true-of, false-of, ==→≡}
+use Rattle.language.proofs.Meaning.SameFields.{same-size, one-way, same-fields-self}
 use Rattle.values.specs.Places.{FieldsAt}
-use Rattle.values.specs.Answers.{EndsOf, textAt}
-use Rattle.values.specs.declared.Found.{Found}
-use Rattle.values.proofs.Standing.{fields-valid, field-ends}
-use Rattle.values.proofs.Lines.{fields-head, fields-tail, field-length}
 use Rattle.comparison.specs.Records.{HoldsRecord}
-
-pub record-starts : (t : Text) (fs : List Field) → HoldsRecord fs t → FieldsAt t 2 fs []
-record-starts t fs h = record {
-  are-valid = fields-valid fs (h .is-valid);
-  here = record { within = omega (arith, ap length (h .is-text)); left = ap (drop 2) (h .is-text) ∙ sym (append-nil (joined fieldText fs)) };
-  closed = tt;
-}
-
-pub record-labels : (t : Text) (fs : List Field) → HoldsRecord fs t → T (distinct (labels fs))
-record-labels t fs h = three (ltb 0 (length fs)) (all validField fs) (distinct (labels fs)) (h .is-valid) .2
-
--- a field is held where the text found of its label is its text
-pub held-found : (t : Text) (fs : List Field) → HoldsRecord fs t → (g : Field) (r s : Found) → r ≡ s → textAt t r ≡ textOf fs (g .label)
-    → isText (textAt t s) (g .text) ≡ any (sameField g) fs
-held-found t fs h g r s q e = ap (λ o. isText o (g .text)) (ap (textAt t) (sym q) ∙ e) ∙ sym (held-text g fs (record-labels t fs h))
-
--- ---- a text is that of one record only
-
-fields-only : (t : Text) (at : ℕ) (fs gs : List Field) → FieldsAt t at fs [] → FieldsAt t at gs [] → fs ≡ gs
-fields-only t at [] [] F G = refl
-fields-only t at [] (g ∷ gs) F G = absurd (let e : length (drop at t) ≡ 0 = ap length (F .here .left) in let k : length (drop at t) ≡ length (fieldText g ++ joined fieldText gs ++ []) = ap length (G .here .left) in omega arith)
-fields-only t at (f ∷ fs) [] F G = absurd (let e : length (drop at t) ≡ 0 = ap length (G .here .left) in let k : length (drop at t) ≡ length (fieldText f ++ joined fieldText fs ++ []) = ap length (F .here .left) in omega arith)
-fields-only t at (f ∷ fs) (g ∷ gs) F G =
-    let n : ℕ = at + 2 + length (front (isNot 9) (drop (at + 2) t)) in
-    let m : ℕ = n + 1 + length (front (isNot 10) (drop (n + 1) t)) in
-    let E : EndsOf t at f (joined fieldText fs ++ []) (record { label = n; text = m }) = field-ends t at f _ (fields-head t at f fs [] F) n m refl refl in
-    let D : EndsOf t at g (joined fieldText gs ++ []) (record { label = n; text = m }) = field-ends t at g _ (fields-head t at g gs [] G) n m refl refl in
-    let l : f .label ≡ g .label = sym (E .label-is) ∙ D .label-is in
-    let k : f .text ≡ g .text = sym (E .text-is) ∙ D .text-is in
-    let rest : fs ≡ gs =
-    fields-only t (m + 1) fs gs
-    (fields-tail t at f fs [] (m + 1) (omega (arith, E .label-end, E .text-end, field-length f)) F)
-    (fields-tail t at g gs [] (m + 1) (omega (arith, D .label-end, D .text-end, field-length g)) G) in
-    λ i. record { label = l i; text = k i } ∷ rest i
-
--- ---- lengths
+use Rattle.comparison.proofs.Fields.{record-starts, record-labels, fields-only}
 
 joined-size : (fs : List Field) → length (joined fieldText fs) ≡ sum (λ f. length (fieldText f)) fs
 joined-size [] = refl

@@ -6,14 +6,15 @@ use Rattle.text.specs.Meaning.{Within}
 use Rattle.values.specs.Answers.{Placed}
 use Rattle.values.specs.declared.Found.{Found}
 use Rattle.values.specs.declared.Found.the-variants.{At, Missing}
-use Rattle.comparison.proofs.Sizes.{held-found}
+use Rattle.comparison.proofs.Fields.{held-found}
 use borrow.Author.Needs.{needs}
 use Rattle.comparison.proofs.holds_field.Statement.{statement}
 use Rattle.comparison.proofs.holds_field.Tie as tie
 
 within : (c : tie.After-found) → Within (c .before .before .before .before .before .before .args .first .now) (c .found .given .0 .0)
 within c =
-    let start = c .before .before .before .before .before .before in
+    let back-6 = c .before .before .before .before .before .before in
+    let start = back-6 in
     subst (λ (f : Found). Placed (start .args .first .now) f) (c .found .given .1) (c .before .before .field-in .ensures .1)
 
 field-in-requires : tie.Need-field-in-requires
@@ -39,14 +40,16 @@ enum-told c = search needs
 
 returns : tie.Need-returns
 returns c fs h =
-    let start = c .before .before .before .before .before .before .before .before .before in
+    let back-9 = c .before .before .before .before .before .before .before .before .before in
+    let start = back-9 in
     let t = start .args .first .now in
     c .same-bytes .ensures
     ∙ held-found t fs h (record { label = start .args .label .now; text = start .args .text .now }) _ (At (c .before .before .before .found .given .0 .0)) (c .before .before .before .found .given .1) (c .before .before .before .before .before .field-in .ensures .0 _ h)
 
 returns-2 : tie.Need-returns-2
 returns-2 c fs h =
-    let start = c .before .before .before .before .before .before in
+    let back-6 = c .before .before .before .before .before .before in
+    let start = back-6 in
     let t = start .args .first .now in
     held-found t fs h (record { label = start .args .label .now; text = start .args .text .now }) _ Missing (c .enum-told .given .1) (c .before .before .field-in .ensures .0 _ h)
 

@@ -22,7 +22,8 @@ holds-all-requires c κs = search needs
 
 returns-3 : tie.Need-returns-3
 returns-3 c fs gs h k =
-    let start = c .before .before .before .before .before .before in
+    let back-6 = c .before .before .before .before .before .before in
+    let start = back-6 in
     c .holds-all .ensures fs gs h k ∙ one-way-round (start .args .first .now) (start .args .second .now) fs gs h k (c .before .before .before .if1 .left)
 
 pub same-record-spec : {M : Type 1} → statement M
