@@ -16,7 +16,7 @@ use Rattle.language.specs.State.{Value, Principal, Variable}
 use Rattle.language.specs.Identifiers.{isName}
 use Rattle.language.specs.Encode.{tab, variablesText}
 use Rattle.language.proofs.Logic.Tests.{both, and, all-append}
-use Rattle.store.specs.Held.{Principals, Variables, slot, slotsFrom}
+use Rattle.store.specs.Held.{Principals, Variables, slot, slotsFrom, places}
 use Rattle.store.specs.Rows.{Row, Rows, rowText, principalRow, variableRow}
 use Rattle.splice.specs.Splices.{over}
 use Rattle.edits.specs.Changes.{Outside}
@@ -51,7 +51,7 @@ slots-last name f at (b ∷ l) a =
     (let q : at + length (f b) + length (joined f l) ≡ at + length (f b ++ joined f l) = omega (arith, length-append (f b) (joined f l)) in q))
 
 pub added : (rows : List Row) (row : Row) (d new-d : Text) (len count r : ℕ) (slots new-slots : List ℕ) → Rows rows (take len d) count slots → T (isName (row .name))
-    → length d ≤ 65536 → len ≤ length d → count < length slots → r ≡ len + length (rowText row) → r ≤ length d → new-d ≡ over d len (rowText row)
+    → length d ≤ places → len ≤ length d → count < length slots → r ≡ len + length (rowText row) → r ≤ length d → new-d ≡ over d len (rowText row)
     → new-slots ≡ set slots count (slot (row .name) len) → Rows (rows ++ (row ∷ [])) (take r new-d) (count + 1) new-slots
 added rows row d new-d len count r slots new-slots H v small l c q fits left noted =
     let n : length (joined rowText rows) ≡ len = ap length (sym (H .is-text)) ∙ length-take-le len d l in

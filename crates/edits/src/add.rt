@@ -8,7 +8,7 @@ ghost use lib.ListN.{length, set, take};
 ghost use Rattle.language.specs.State.{Value, Principal, Variable};
 ghost use Rattle.language.specs.Identifiers.{isName};
 ghost use Rattle.language.specs.Encode.{valueText};
-ghost use Rattle.store.specs.Held.{Principals, Variables, slot};
+ghost use Rattle.store.specs.Held.{Principals, Variables, slot, places};
 ghost use Rattle.splice.specs.Splices.{over};
 ghost use Rattle.edits.specs.Changes.{Outside};
 use splice::copy;
@@ -32,12 +32,12 @@ fn head(buf: &mut [u8], at: usize, letter: u8, name: &[u8]) -> usize
 
 // The slot of a record that starts at `at`.
 fn note(slots: &mut [u32], count: usize, name: &[u8], at: usize)
-    requires { ⌜ (count < length (now slots)) × (at < 65536) ⌝ }
+    requires { ⌜ (count < length (now slots)) × (at < places) ⌝ }
     ensures { λ _. ⌜ now (slots .exit) ≡ set (now (slots .entry)) count (slot (now (name .entry)) at) ⌝ }
 {
     let p = hash(name);
     let place = at as u32;
-    slots[count] = p * 65536 + place;
+    slots[count] = p * 131072 + place;
 }
 
 // A new variable, last.
@@ -49,7 +49,7 @@ pub fn add_variable(
     name: &[u8],
     value: &[u8],
 ) -> usize
-    requires { ⌜ (length (now buf) ≤ 65536) × (len + 3 + length (now name) + length (now value) ≤ length (now buf)) × (count < length (now slots)) ⌝ }
+    requires { ⌜ (length (now buf) ≤ places) × (len + 3 + length (now name) + length (now value) ≤ length (now buf)) × (count < length (now slots)) ⌝ }
     ensures size { λ r. ⌜ r ≡ len + 3 + length (now (name .entry)) + length (now (value .entry)) ⌝ }
     ensures outside { λ r. ⌜ Outside (now (buf .entry)) (now (buf .exit)) r (now (slots .entry)) (now (slots .exit)) (count + 1) ⌝ }
     ensures held { λ r. ⌜ ((vs : List Variable) (v : Value) → Variables vs (take len (now (buf .entry))) count (now (slots .entry)) → T (isName (now (name .entry)))

@@ -16,6 +16,7 @@ use Rattle.language.specs.Values.{Session, asString, operandValue, lookup}
 use Rattle.language.specs.Functions.{lowercase, apply}
 use Rattle.language.specs.Expressions.{weighed, value}
 use Rattle.language.proofs.Parsing.ValidPrograms.{validOperand}
+use Rattle.store.specs.Held.{places}
 use Rattle.text.specs.Meaning.{part}
 use Rattle.syntax.specs.declared.Operand as Read
 use Rattle.syntax.specs.declared.Operand.the-variants.{Name, Field, Quoted}
@@ -63,9 +64,9 @@ source-string s t u (Name x) h k = string-read (lookup s (part t x)) u h
 source-string s t u (Field x y) h k = subst MaybeString (dot-string s (part t x) (part t y)) (field-read (lookup s (part t x)) (part t y) u h)
 source-string s t u (Quoted q) h k = k
 
--- no source is longer than 65,536 bytes
+-- no source is longer than 131,072 bytes
 pub source-short : {s : Session} {shared : Text} {slots : List ℕ} {count : ℕ} {locals : Text} {lslots : List ℕ} {lcount : ℕ} → Scope s shared slots count locals lslots lcount
-    → (t u : Text) (v : Read.Operand) → SourceOf s t v u → length t ≤ longest → length u ≤ 65536
+    → (t u : Text) (v : Read.Operand) → SourceOf s t v u → length t ≤ longest → length u ≤ places
 source-short S t u (Name x) h k = read-short S (part t x) u h
 source-short S t u (Field x y) h k = read-short S (part t x) u h
 source-short S t u (Quoted q) h k = omega (arith, ap length h, k)

@@ -17,7 +17,7 @@ use Rattle.language.specs.Encode.{fieldText}
 use Rattle.language.specs.Valid.{validField}
 use Rattle.language.proofs.Logic.Tests.{both, and, all-append, distinct-last}
 use Rattle.language.proofs.StateText.Clean.{name-length}
-use Rattle.store.specs.Held.{slot}
+use Rattle.store.specs.Held.{slot, places}
 use Rattle.text.specs.Parts.{part}
 use Rattle.store.specs.Rows.{Row, Rows, rowText, rowNames}
 use Rattle.splice.proofs.Splicing.{part-take}
@@ -68,7 +68,7 @@ module _ (fs : List Field) (out : Text) (slots : List ℕ) (d : Draft) (D : Draf
       (fits : spelling fs + length (f .label) + 3 ≤ 16384)
       (long : n ≤ w + 2 + (spelling fs + (length (f .label) + 3)))
       (full : n ≤ 8192 + 2 + (spelling fs + (length (f .label) + 3)))
-      (text : length (f .text) ≤ 65536)
+      (text : length (f .text) ≤ places)
       (as-field : w ≤ 8192 → rowText r ≡ fieldText f)
       (room : d .count < length slots)
       (m : ℕ)
@@ -90,7 +90,7 @@ module _ (fs : List Field) (out : Text) (slots : List ℕ) (d : Draft) (D : Draf
     rows-held : Rows (D .rows ++ (r ∷ [])) (part after 2 n) (d .count + 1) (set slots (d .count) m)
     rows-held =
         let named : T (isName (r .name)) = subst (λ (x : Name). T (isName x)) (sym name-is) (both (isName (f .label)) (isString (f .text)) valid .0) in
-        let small : length (part out 2 (d .end)) + length (rowText r) ≤ 65536 = omega (arith, rows-length, full, W .ends) in
+        let small : length (part out 2 (d .end)) + length (rowText r) ≤ places = omega (arith, rows-length, full, W .ends) in
         let H = row-added (D .rows) (part out 2 (d .end)) (d .count) slots (D .held) r named room small in
         subst (λ (t : Text). Rows (D .rows ++ (r ∷ [])) t (d .count + 1) (set slots (d .count) m)) (sym rows-part)
         (subst (λ (k : ℕ). Rows (D .rows ++ (r ∷ [])) (part out 2 (d .end) ++ rowText r) (d .count + 1) (set slots (d .count) k))
@@ -119,7 +119,7 @@ module _ (fs : List Field) (out : Text) (slots : List ℕ) (d : Draft) (D : Draf
   module _ (x t : Text) (n w m : ℕ) (after : Text)
       (is-name : T (isName x))
       (is-string : T (isString t))
-      (size : length t ≤ 65536)
+      (size : length t ≤ places)
       (new : T (member x (labels fs)) → ⊥)
       (weight : w ≡ d .weight + 1 + length x + length t)
       (fits : spelling fs + length x + 3 ≤ 16384)
@@ -189,7 +189,7 @@ first-line out after slots n W =
 
 -- ---- a text that was found
 
-pub part-short : (t : Text) (n k : ℕ) → length t ≤ 65536 → length (take n (drop k t)) ≤ 65536
+pub part-short : (t : Text) (n k : ℕ) → length t ≤ places → length (take n (drop k t)) ≤ places
 part-short t n k h = omega (arith, length-take n (drop k t), length-drop k t)
 
 pub extends-as : (fs : List Field) (x : Name) (t : Text) (r : Added) (out : Text) (slots : List ℕ) {f g : Found} → f ≡ g

@@ -9,6 +9,7 @@ use lib.Dec.{T}
 use lib.ListN.{length, length-append}
 use Rattle.language.specs.Text.{Text, if_then_else_, _==_, all, joined, _>>=_, _orElse_}
 use Rattle.language.specs.Encode.{variableText, valueText}
+use Rattle.store.specs.Held.{places}
 use Rattle.store.proofs.Holders.{variable-text}
 use mathlib.Core.Bool.{Bool, true, false}
 use Rattle.language.specs.Syntax.{Name, dot}
@@ -69,14 +70,14 @@ read-bytes none r R = R
 read-bytes (some v) r R = R .is-text
 
 pub read-short : {s : Session} {shared : Text} {slots : List ℕ} {count : ℕ} {locals : Text} {lslots : List ℕ} {lcount : ℕ}
-    → Scope s shared slots count locals lslots lcount → (x : Name) (r : Text) → ReadAs (lookup s x) r → length r ≤ 65536
+    → Scope s shared slots count locals lslots lcount → (x : Name) (r : Text) → ReadAs (lookup s x) r → length r ≤ places
 read-short {s} S x r R =
-    let l : length (valueBytes (valueIn (s .locals) x)) ≤ 65536 = omega (arith, bytes-in (s .locals) x, S .locals-held .small, ap length (S .locals-held .is-text)) in
-    let h : length (valueBytes (valueIn (s .store .variables) x)) ≤ 65536 = omega (arith, bytes-in (s .store .variables) x, S .shared-held .small, ap length (S .shared-held .is-text)) in
+    let l : length (valueBytes (valueIn (s .locals) x)) ≤ places = omega (arith, bytes-in (s .locals) x, S .locals-held .small, ap length (S .locals-held .is-text)) in
+    let h : length (valueBytes (valueIn (s .store .variables) x)) ≤ places = omega (arith, bytes-in (s .store .variables) x, S .shared-held .small, ap length (S .shared-held .is-text)) in
     omega (arith, ap length (read-bytes (lookup s x) r R), go (valueIn (s .locals) x) l h)
   where
-    go : (o : Option Value) → length (valueBytes o) ≤ 65536 → length (valueBytes (valueIn (s .store .variables) x)) ≤ 65536
-        → length (valueBytes (o orElse valueIn (s .store .variables) x)) ≤ 65536
+    go : (o : Option Value) → length (valueBytes o) ≤ places → length (valueBytes (valueIn (s .store .variables) x)) ≤ places
+        → length (valueBytes (o orElse valueIn (s .store .variables) x)) ≤ places
     go none l h = h
     go (some v) l h = l
 

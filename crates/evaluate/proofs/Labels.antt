@@ -14,7 +14,7 @@ use Rattle.language.specs.Text.{Text, if_then_else_, _==_, member, joined}
 use Rattle.language.specs.Syntax.{Name}
 use Rattle.language.specs.Identifiers.{isName}
 use Rattle.language.proofs.Logic.Tests.{and, all-append, ==-sym, same-test}
-use Rattle.store.specs.Held.{slot, slotsFrom}
+use Rattle.store.specs.Held.{slot, slotsFrom, places}
 use Rattle.store.specs.Rows.{Row, Rows, rowText, rowNames, position, place}
 use Rattle.store.specs.declared.index.Found.the-variants.{At, Missing}
 use Rattle.store.proofs.Records.{joined-append}
@@ -61,7 +61,7 @@ slots-last at (a ∷ l) r =
     ∙ ap (λ (n : ℕ). slotsFrom (λ r. r .name) rowText (at + length (rowText a)) l ++ (slot (r .name) n ∷ [])) (omega (arith, length-append (rowText a) (joined rowText l))))
 
 module _ (rows : List Row) (t : Text) (count : ℕ) (slots : List ℕ) (H : Rows rows t count slots) where
-  pub row-added : (r : Row) → T (isName (r .name)) → count < length slots → length t + length (rowText r) ≤ 65536
+  pub row-added : (r : Row) → T (isName (r .name)) → count < length slots → length t + length (rowText r) ≤ places
       → Rows (rows ++ (r ∷ [])) (t ++ rowText r) (count + 1) (set slots count (slot (r .name) (length t)))
   row-added r n c l = record {
     is-text =

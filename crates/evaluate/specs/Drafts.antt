@@ -13,6 +13,7 @@ use Rattle.language.specs.State.{Field, fields}
 use Rattle.language.specs.Weight.{limit, elementWeight}
 use Rattle.language.specs.Encode.{elementText}
 use Rattle.language.specs.Valid.{validField}
+use Rattle.store.specs.Held.{places}
 use Rattle.text.specs.Parts.{part}
 use Rattle.store.specs.Rows.{Row, Rows, rowNames}
 use Rattle.evaluate.specs.declared.draft.Draft.{Draft}
@@ -40,7 +41,7 @@ pub record Drafted (fs : List Field) (out : Text) (slots : List ℕ) (d : Draft)
   -- how far it has come
   pub long : d .end ≤ d .weight + 2 + spelling fs
   pub full : d .end ≤ limit + 2 + spelling fs
-  pub heavy : d .weight ≤ 65536 * spelling fs
+  pub heavy : d .weight ≤ places * spelling fs
 
 -- some fields are written, and the program has room for one of that label more
 pub record SomeDraft (out : Text) (slots : List ℕ) (d : Draft) (label : Name) : Type 0 where

@@ -12,7 +12,7 @@ ghost use Rattle.language.specs.Text.{member};
 ghost use Rattle.language.specs.Programs.{longest};
 ghost use Rattle.language.specs.State.{Field};
 ghost use Rattle.language.specs.Identifiers.{isString};
-ghost use Rattle.store.specs.Held.{slot};
+ghost use Rattle.store.specs.Held.{slot, places};
 ghost use Rattle.store.specs.Rows.{Row, Rows, SomeRows, rowNames};
 ghost use Rattle.value_text.specs.Writing.{Written};
 ghost use Rattle.values.specs.Answers.{textAt, Placed};
@@ -72,16 +72,16 @@ fn is_new(rows: &[u8], slots: &[u32], count: usize, label: &[u8]) -> bool
 
 // The slot of a row that starts at a place.
 fn slot_of(label: &[u8], at: usize) -> u32
-    requires { ⌜ at < 65536 ⌝ }
+    requires { ⌜ at < places ⌝ }
     ensures { λ r. ⌜ r ≡ slot (now (label .entry)) at ⌝ }
 {
-    store::index::hash(label) * 65536 + at as u32
+    store::index::hash(label) * 131072 + at as u32
 }
 
 // Adds a field, unless its label is there already.
 fn add(out: &mut [u8], slots: &mut [u32], d: Draft, label: &[u8], text: &[u8]) -> Added
     requires { ⌜ Lent (now out) (now slots) × SomeDraft (now out) (now slots) d (now label) ⌝ }
-    requires { ⌜ T (isString (now text)) × (length (now text) ≤ 65536) ⌝ }
+    requires { ⌜ T (isString (now text)) × (length (now text) ≤ places) ⌝ }
     ensures { λ r. ⌜ ((fs : List Field) → Drafted fs (now (out .entry)) (now (slots .entry)) d → spelling fs + length (now (label .entry)) + 3 ≤ longest
         → Extends fs (now (label .entry)) (some (now (text .entry))) r (now (out .exit)) (now (slots .exit))) ⌝ }
 {
@@ -118,7 +118,7 @@ pub fn add_found(
     found: Found,
 ) -> Added
     requires { ⌜ Lent (now out) (now slots) × SomeDraft (now out) (now slots) d (now label) ⌝ }
-    requires { ⌜ Placed (now value) found × MaybeString (textAt (now value) found) × (length (now value) ≤ 65536) ⌝ }
+    requires { ⌜ Placed (now value) found × MaybeString (textAt (now value) found) × (length (now value) ≤ places) ⌝ }
     ensures { λ r. ⌜ ((fs : List Field) → Drafted fs (now (out .entry)) (now (slots .entry)) d → spelling fs + length (now (label .entry)) + 3 ≤ longest
         → Extends fs (now (label .entry)) (textAt (now (value .entry)) found) r (now (out .exit)) (now (slots .exit))) ⌝ }
 {

@@ -13,6 +13,7 @@ use Rattle.language.specs.Weight.{limit, storeWeight}
 use Rattle.language.specs.Valid.{wellFormed, validStore}
 use Rattle.language.specs.Run.{login, right, begin}
 use Rattle.language.proofs.Logic.Tests.{both}
+use Rattle.language.proofs.StateText.Bound.{variables-bound}
 use Rattle.language.proofs.Meaning.ValidRuns.{begin-ready}
 use Rattle.store.specs.Held.{Principals, Variables}
 use Rattle.text.specs.Parts.{part}
@@ -54,6 +55,10 @@ module _ (t : Text) (slots-p slots-v assertions : List ℕ) (q : Parts) (s : Sto
   principals-fit =
       let G = store-shape s v in
       omega (arith, light, R .weighed, ap length (R .principals .is-text), principals-text (s .principals) (G .order) (G .principals-valid) (G .principals-distinct))
+
+  -- and so does the variables'
+  pub variables-fit : length (part t (q .«vars_from») (q .«vars_to»)) ≤ 32768
+  variables-fit = omega (arith, light, R .weighed, ap length (R .variables .is-text), variables-bound (s .variables) (store-shape s v .variables-valid))
 
   module _ (principals-before principals-after vars-before vars-after locals : Text) (local-slots : List ℕ) (m n : ℕ)
       (sizes : Sized (slices principals-before slots-p vars-before slots-v locals local-slots assertions))

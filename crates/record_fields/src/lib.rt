@@ -79,7 +79,7 @@ pub fn enter(text: &[u8], at: usize, i: usize, m: usize, slots: &mut [u32], n: u
     let Found::Missing = seen else {
         return false;
     };
-    slots[n] = store::index::hash(&text[from..m]) * 65536 + (i - at) as u32;
+    slots[n] = store::index::hash(&text[from..m]) * 131072 + (i - at) as u32;
     true
 }
 

@@ -41,7 +41,7 @@ fn unkept(number: usize) -> u64
 
 // A principal by name, with its password.
 pub fn principal(text: &[u8], slots: &[u32], count: usize, name: &[u8], out: &mut [u8]) -> u64
-    requires { ⌜ SomePrincipals (now text) count (now slots) × (count ≤ 4096) × (65536 ≤ length (now out)) ⌝ }
+    requires { ⌜ SomePrincipals (now text) count (now slots) × (count ≤ 4096) × (length (now text) ≤ 65536) × (65536 ≤ length (now out)) ⌝ }
     ensures { λ r. ⌜ ((ks : List Principal) → Principals ks (now (text .entry)) count (now (slots .entry)) → Says (principalOf ks (now (name .entry))) (now (out .entry)) (now (out .exit)) r) ⌝ }
 {
     let place = find(text, slots, count, name);
@@ -80,7 +80,7 @@ pub fn count(text: &[u8], slots: &[u32], count: usize, name: &[u8]) -> u64
 
 // A variable by name, with its value's text.
 pub fn variable(text: &[u8], slots: &[u32], count: usize, name: &[u8], out: &mut [u8]) -> u64
-    requires { ⌜ SomeVariables (now text) count (now slots) × (count ≤ 4096) × (65536 ≤ length (now out)) ⌝ }
+    requires { ⌜ SomeVariables (now text) count (now slots) × (count ≤ 4096) × (length (now text) ≤ 65536) × (65536 ≤ length (now out)) ⌝ }
     ensures { λ r. ⌜ ((vs : List Variable) → Variables vs (now (text .entry)) count (now (slots .entry)) → Says (variableOf vs (now (name .entry))) (now (out .entry)) (now (out .exit)) r) ⌝ }
 {
     let place = find(text, slots, count, name);
@@ -100,7 +100,7 @@ pub fn variable(text: &[u8], slots: &[u32], count: usize, name: &[u8], out: &mut
 
 // The name of the record of a number.
 pub fn nth_name(text: &[u8], slots: &[u32], count: usize, number: usize, out: &mut [u8]) -> u64
-    requires { ⌜ SomeRows (now text) count (now slots) × (count ≤ 4096) × (65536 ≤ length (now out)) ⌝ }
+    requires { ⌜ SomeRows (now text) count (now slots) × (count ≤ 4096) × (length (now text) ≤ 65536) × (65536 ≤ length (now out)) ⌝ }
     ensures { λ r. ⌜ ((rows : List Row) → Rows rows (now (text .entry)) count (now (slots .entry)) → Says (nameOf (rowNames rows) number) (now (out .entry)) (now (out .exit)) r) ⌝ }
 {
     if count <= number {

@@ -13,7 +13,7 @@ use Rattle.language.specs.Text.{Text, _==_, front}
 use Rattle.language.specs.Syntax.{Name}
 use Rattle.language.specs.Bytes.{wordByte}
 use Rattle.language.proofs.Logic.Tests.{==→≡, false-of}
-use Rattle.store.specs.Held.{hash}
+use Rattle.store.specs.Held.{hash, places}
 use Rattle.store.specs.Rows.{Row, Rows, rowAt, noRow, startOf, rowNames, position, place}
 use Rattle.store.specs.Scans.{FirstHit}
 use Rattle.store.specs.declared.index.Found.the-variants.{At, Missing}
@@ -23,20 +23,20 @@ use Rattle.store.proofs.Records.{text-size, place-there, hash-there, na
 -- ---- by number
 
 module _ (rows : List Row) (t : Text) (count : ℕ) (slots : List ℕ) (H : Rows rows t count slots) (k : ℕ) (h : k < count) where
-  pub name-starts : (s : ℕ) → s ≡ getD slots k 0 % 65536 → s + 2 ≤ length t
+  pub name-starts : (s : ℕ) → s ≡ getD slots k 0 % places → s + 2 ≤ length t
   name-starts s e =
       omega (arith, e, place-there rows t count slots H k h, start-before rows t count slots H k h, start-in rows t count slots H (suc k))
 
-  pub starts-at : (s : ℕ) → s ≡ getD slots k 0 % 65536 → s ≡ startOf rows k
+  pub starts-at : (s : ℕ) → s ≡ getD slots k 0 % places → s ≡ startOf rows k
   starts-at s e = e ∙ place-there rows t count slots H k h
 
-  pub name-ends-at : (s m : ℕ) → s ≡ getD slots k 0 % 65536 → m ≡ s + 2 + length (front wordByte (drop (s + 2) t))
+  pub name-ends-at : (s m : ℕ) → s ≡ getD slots k 0 % places → m ≡ s + 2 + length (front wordByte (drop (s + 2) t))
       → m ≡ startOf rows k + 2 + length (rowAt rows k .name)
   name-ends-at s m e q =
       q ∙ ap (λ (n : ℕ). n + 2 + length (front wordByte (drop (n + 2) t))) (starts-at s e)
       ∙ ap (λ (x : Text). startOf rows k + 2 + length x) (name-front rows t count slots H k h)
 
-  pub ends-before : (e : ℕ) → k + 1 < count → e ≡ getD slots (k + 1) 0 % 65536 → e ≡ startOf rows (suc k)
+  pub ends-before : (e : ℕ) → k + 1 < count → e ≡ getD slots (k + 1) 0 % places → e ≡ startOf rows (suc k)
   ends-before e l q = q ∙ place-there rows t count slots H (k + 1) l ∙ ap (startOf rows) (add-one k)
 
   pub ends-last : count ≤ k + 1 → length t ≡ startOf rows (suc k)

@@ -16,7 +16,7 @@ use Rattle.language.specs.Bytes.{wordByte}
 use Rattle.language.specs.Identifiers.{isName}
 use Rattle.language.proofs.Logic.Tests.{both, true-of}
 use Rattle.language.proofs.StateText.Clean.{name-word}
-use Rattle.store.specs.Held.{hash, slot, slotsFrom}
+use Rattle.store.specs.Held.{hash, slot, slotsFrom, places}
 use Rattle.text.specs.Parts.{part}
 use Rattle.store.specs.Rows.{Row, rowText, bodyText, Rows, rowAt, noRow, startOf}
 
@@ -50,10 +50,10 @@ module _ {A : Type 0} (name : A → Name) (f : A → Text) where
       ∙ ap (slot (name (getD l k d))) (omega (arith, length-append (f a) (joined f (take k l))))
 
 -- a slot's two parts
-pub slot-hash : (p at : ℕ) → at < 65536 → (p * 65536 + at) / 65536 ≡ p
+pub slot-hash : (p at : ℕ) → at < places → (p * places + at) / places ≡ p
 slot-hash p at h = omega arith
 
-pub slot-place : (p at : ℕ) → at < 65536 → (p * 65536 + at) % 65536 ≡ at
+pub slot-place : (p at : ℕ) → at < places → (p * places + at) % places ≡ at
 slot-place p at h = omega arith
 
 -- ---- names
@@ -120,14 +120,14 @@ module _ (rows : List Row) (t : Text) (count : ℕ) (slots : List ℕ) (H : Rows
         sym (getD-take count slots k 0 h) ∙ ap (λ (l : List ℕ). getD l k 0) (H .indexed)
         ∙ slot-at (λ r. r .name) rowText 0 rows k noRow row-there ∙ ap (slot (rowAt rows k .name)) (omega arith)
 
-    start-small : startOf rows k < 65536
+    start-small : startOf rows k < places
     start-small = omega (arith, start-before, start-in (suc k), H .small)
 
-    pub place-there : getD slots k 0 % 65536 ≡ startOf rows k
-    place-there = ap (λ (n : ℕ). n % 65536) slot-there ∙ slot-place (hash (rowAt rows k .name)) (startOf rows k) start-small
+    pub place-there : getD slots k 0 % places ≡ startOf rows k
+    place-there = ap (λ (n : ℕ). n % places) slot-there ∙ slot-place (hash (rowAt rows k .name)) (startOf rows k) start-small
 
-    pub hash-there : getD slots k 0 / 65536 ≡ hash (rowAt rows k .name)
-    hash-there = ap (λ (n : ℕ). n / 65536) slot-there ∙ slot-hash (hash (rowAt rows k .name)) (startOf rows k) start-small
+    pub hash-there : getD slots k 0 / places ≡ hash (rowAt rows k .name)
+    hash-there = ap (λ (n : ℕ). n / places) slot-there ∙ slot-hash (hash (rowAt rows k .name)) (startOf rows k) start-small
 
     -- the row's text, and what follows it
     pub row-here : drop (startOf rows k) t ≡ rowText (rowAt rows k) ++ joined rowText (drop (suc k) rows)

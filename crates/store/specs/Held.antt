@@ -11,17 +11,24 @@ use Rattle.language.specs.State.{Principal, Variable}
 use Rattle.language.specs.Encode.{variableText}
 use Rattle.language.specs.Former.{Form, current, principalIn}
 
+-- a slot has 32 bits: 15 of a hash, 17 of a place
+abbrev pub hashes : ℕ
+hashes = 32768
+
+abbrev pub places : ℕ
+places = 131072
+
 -- a number computed from the bytes of a name: equal names have equal hashes
 abbrev pub hashFrom : ℕ → Text → ℕ
 hashFrom h [] = h
-hashFrom h (b ∷ t) = hashFrom ((h * 31 + b) % 65536) t
+hashFrom h (b ∷ t) = hashFrom ((h * 31 + b) % hashes) t
 
 abbrev pub hash : Name → ℕ
 hash x = hashFrom 0 x
 
 -- a record's slot: the hash of its name, and the place where its text starts
 abbrev pub slot : Name → ℕ → ℕ
-slot x at = hash x * 65536 + at
+slot x at = hash x * places + at
 
 abbrev pub slotsFrom : {A : Type 0} → (A → Name) → (A → Text) → ℕ → List A → List ℕ
 slotsFrom name text at [] = []
@@ -34,7 +41,7 @@ pub record Held {A : Type 0} (name : A → Name) (text : A → Text) (rows : Lis
   pub indexed : take count slots ≡ slotsFrom name text 0 rows
   pub named : T (all (λ a. isName (name a)) rows)
   -- a place in the text fits a slot
-  pub small : length t ≤ 65536
+  pub small : length t ≤ places
 
 -- in the lines of now or in the former ones; a run has the former ones only where it brings a state over
 abbrev pub PrincipalsIn : Form → List Principal → Text → ℕ → List ℕ → Type 0

@@ -1,11 +1,11 @@
-// Records by name and by number. A slot is the hash of the record's name times 65,536 plus the place where the record starts, so that a
-// name is looked for among numbers, and bytes are compared only where the hashes are equal.
+// Records by name and by number. A slot is the hash of the record's name (15 bits) times 131,072 plus the place where the record starts
+// (17 bits), so that a name is looked for among numbers, and bytes are compared only where the hashes are equal.
 ghost use mathlib.Core.Path.{_≡_};
 ghost use mathlib.Core.List.{List};
 ghost use Prim.Native.Nat.{ℕ, _+_, _-_, _/_, _%_, _≤_, _<_};
 ghost use lib.ListN.{length, getD};
 ghost use Rattle.language.specs.Text.{_==_};
-ghost use Rattle.store.specs.Held.{hash};
+ghost use Rattle.store.specs.Held.{hash, places};
 ghost use Rattle.text.specs.Parts.{part};
 ghost use Rattle.store.specs.Rows.{Row, Rows, SomeRows, place, Placed};
 ghost use Rattle.store.specs.Scans.{FirstHit, HitMeant};
@@ -41,7 +41,7 @@ pub fn hash(name: &[u8]) -> u32
     let mut h = 0;
     let mut i = 0;
     while i < name.len() {
-        h = (h * 31 + wide(name[i])) % 65536;
+        h = (h * 31 + wide(name[i])) % 32768;
         i += 1;
     }
     h
@@ -55,7 +55,7 @@ fn hits(slots: &[u32], from: usize, to: usize, p: u32) -> bool
     let mut hit = false;
     let mut i = from;
     while i < to {
-        if slots[i] / 65536 == p {
+        if slots[i] / 131072 == p {
             hit = true;
         }
         i += 1;
@@ -70,7 +70,7 @@ fn first_of(slots: &[u32], from: usize, to: usize, p: u32) -> usize
 {
     let mut i = from;
     while i < to {
-        if slots[i] / 65536 == p {
+        if slots[i] / 131072 == p {
             return i;
         }
         i += 1;
@@ -108,9 +108,9 @@ fn scan(slots: &[u32], from: usize, to: usize, p: u32) -> usize
 // Where the record of a slot starts.
 fn start_of(slots: &[u32], number: usize) -> usize
     requires { ⌜ number < length (now slots) ⌝ }
-    ensures { λ r. ⌜ r ≡ getD (now (slots .entry)) number 0 % 65536 ⌝ }
+    ensures { λ r. ⌜ r ≡ getD (now (slots .entry)) number 0 % places ⌝ }
 {
-    (slots[number] % 65536) as usize
+    (slots[number] % 131072) as usize
 }
 
 // The record of a number.

@@ -4,10 +4,10 @@ use mathlib.Core.Path.{_≡_, refl, sym, ap, subst, _∙_}
 use mathlib.Core.Logic.{⊎-elim}
 use mathlib.Core.Option.{Option, none, some}
 use mathlib.Core.List.{List, _∷_, _++_, map}
-use Prim.Native.Nat.{ℕ, _≤_, _<_}
+use Prim.Native.Nat.{ℕ, _-_, _≤_, _<_}
 use native.Mathlib.Omega.{arith}
 use lib.Dec.{T, leb}
-use lib.ListN.{length, take, length-map}
+use lib.ListN.{length, take, drop, length-map, length-take, length-drop}
 use lib.Seq.{length-take-le}
 use Rattle.language.specs.Text.{Text, all}
 use Rattle.language.specs.Syntax.{Name}
@@ -85,3 +85,11 @@ module _ (t : Text) (slots-p slots-v assertions : List ℕ) (p : Parts) (s : Sto
 
   pub few-variables : length slots-v ≡ 4096 → p .vars ≤ 4096
   few-variables e = omega (arith, slots-long (map variableRow (s .variables)) (part t (p .«vars_from») (p .«vars_to»)) (p .vars) slots-v variable-rows)
+
+  -- their texts are no longer than the buffer
+  pub short-principals : length t ≡ 65536 → length (part t (p .«principals_from») (p .«principals_to»)) ≤ 65536
+  short-principals e =
+      omega (arith, length-take (p .«principals_to» - p .«principals_from») (drop (p .«principals_from») t), length-drop (p .«principals_from») t)
+
+  pub short-variables : length t ≡ 65536 → length (part t (p .«vars_from») (p .«vars_to»)) ≤ 65536
+  short-variables e = omega (arith, length-take (p .«vars_to» - p .«vars_from») (drop (p .«vars_from») t), length-drop (p .«vars_from») t)

@@ -21,7 +21,7 @@ use Rattle.language.proofs.StateText.Names.{variable-name}
 use Rattle.language.proofs.Meaning.Adding.{put-all}
 use Rattle.language.proofs.Logic.Lists.{sum-append, sum-at}
 use Rattle.language.proofs.Meaning.Weights.{put-old, put-new}
-use Rattle.store.specs.Held.{Variables}
+use Rattle.store.specs.Held.{Variables, places}
 use Rattle.text.specs.Parts.{part}
 use Rattle.store.specs.Rows.{position}
 use Rattle.store.specs.Contents.{variableAt}
@@ -133,7 +133,7 @@ module _ {vs : List Variable} {buf : Text} {len count : ℕ} {slots : List ℕ} 
   few = omega (arith, variables-weigh vs (L .are-valid), L .held .counted, L .weight-within)
 
   module _ (x : Name) (v : Value) (src : Text) (weight : ℕ) (N : T (isName x)) (W : Weighs v src weight) where
-    pub added-room : total + 1 + length x + weight ≤ limit → (length buf ≤ 65536) × (len + 3 + length x + length src ≤ length buf) × (count < length slots)
+    pub added-room : total + 1 + length x + weight ≤ limit → (length buf ≤ places) × (len + 3 + length x + length src ≤ length buf) × (count < length slots)
     added-room f =
         let ws : List Variable = vs ++ (record { name = x; value = v } ∷ []) in
         let valid : T (all validVariable ws) = all-append validVariable vs (record { name = x; value = v } ∷ []) (L .are-valid) (and (validVariable (record { name = x; value = v })) (all validVariable []) (and (isName x) (validValue v) N (W .held .is-valid)) tt) in
@@ -144,7 +144,7 @@ module _ {vs : List Variable} {buf : Text} {len count : ℕ} {slots : List ℕ} 
         ∙ length-append (variablesText vs) _ ∙ omega (arith, length-append (variableText x v) []) in
         let u : length (variableText x v) ≡ 3 + length x + length src =
         ap length (variable-text x v) ∙ omega (arith, length-append x (9 ∷ valueText v), ap length (W .held .is-text)) in
-        (L .small, omega (arith, L .room, len-is), omega (arith, L .slots-size, few))
+        (omega (arith, L .small), omega (arith, L .room, len-is), omega (arith, L .slots-size, few))
 
     module _ (new : valueIn vs x ≡ none) where
       more : sum variableWeight (put x v vs) ≡ sum variableWeight vs + (1 + length x + weight)

@@ -1,7 +1,7 @@
 -- `opening::begin` meets its contract. Two copies; all else is as the check of the state's buffer left it.
 -- Assumes nothing.
 use native.Mathlib.Omega.{arith}
-use Rattle.opening.proofs.Copies.{principals-fit, begun}
+use Rattle.opening.proofs.Copies.{principals-fit, variables-fit, begun}
 use borrow.Author.Needs.{needs}
 use Rattle.opening.proofs.begin.Statement.{statement}
 use Rattle.opening.proofs.begin.Tie as tie
@@ -32,7 +32,11 @@ part-copy-in-end-2 : tie.Need-part-copy-in-end-2
 part-copy-in-end-2 c = search needs
 
 copy-in-requires-2 : tie.Need-copy-in-requires-2
-copy-in-requires-2 c κs = search needs
+copy-in-requires-2 c κs =
+    let start = c .before .before .before .before .before .before .before .before .before .before .before .before .before .before .before in
+    let a = start .args in
+    let P = start .pre .0 in
+    omega (arith, start .pre .1 .vars-size, variables-fit (a .state .now) (a .principal-slots .now) (a .variable-slots .now) (a .assertions .now) (a .parts) (P .state) (P .represents) (P .is-valid))
 
 same-length : tie.Need-same-length
 same-length c = search needs

@@ -3,6 +3,7 @@ use Prim.Native.Nat.{ℕ, _+_, _*_, _-_}
 use native.Mathlib.Omega.{arith}
 use denote.Ref.{now}
 use lib.ListN.{set}
+use Rattle.store.specs.Held.{places}
 use Rattle.text.specs.Parts.{part}
 use Rattle.store.proofs.Hashes.{hash-small}
 use Rattle.record_fields.proofs.Indexing.{is-there, is-new}
@@ -100,7 +101,7 @@ returns-2 c =
     λ rows H.
     let a = start .args in (
       λ k. is-new rows _ (sym (c .before .before .enum-told .given .1) ∙ c .before .before .before .before .find .ensures rows H) k,
-      ap (λ (p : ℕ). set (now (a .slots)) (a .n) (p * 65536 + (a .i - a .at))) (c .hash .ensures),
+      ap (λ (p : ℕ). set (now (a .slots)) (a .n) (p * places + (a .i - a .at))) (c .hash .ensures),
     )
 
 pub enter-spec : {M : Type 1} → statement M

@@ -47,7 +47,7 @@ write-requires c κs =
     let l = safe (c .before .before) in
     let g = c .before .before .nth .result in
     let n = length-part (c .before .before .before .before .before .before .before .args .text .now) (g .start + 2) (g .mid) (l .first) (omega (arith, l .middle, l .last)) in
-    (omega (arith, c .before .before .before .if1 .left, p .1), omega (arith, n, l .middle, l .last, p .0 .held .small), omega (arith, n, l .middle, l .last, p .0 .held .small, p .2))
+    (omega (arith, c .before .before .before .if1 .left, p .1), omega (arith, n, l .middle, l .last, p .2), omega (arith, n, l .middle, l .last, p .2, p .3))
 
 same-length : tie.Need-same-length
 same-length c = search needs

@@ -99,7 +99,7 @@ write-requires c κs =
     let g = c .before .before .before .password .given .0 in
     let w = kept (c .before .before .before) (p .0 .principals) (p .0 .held) .within in
     let n = length-part (start .args .text .now) (g .0) (g .1 .0) (w .0) (w .1) in
-    (omega (arith, below back-7, p .1), omega (arith, n, w .1, p .0 .held .small), omega (arith, n, w .1, p .0 .held .small, p .2))
+    (omega (arith, below back-7, p .1), omega (arith, n, w .1, p .2), omega (arith, n, w .1, p .2, p .3))
 
 enum-told-2 : tie.Need-enum-told-2
 enum-told-2 c = search needs

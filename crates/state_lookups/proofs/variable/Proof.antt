@@ -83,7 +83,7 @@ write-requires c κs =
     let g = c .before .before .value-of .result in
     let w = c .before .before .value-of .ensures (p .0 .rows) (p .0 .held) in
     let n = length-part (c .before .before .before .before .before .before .before .before .before .before .before .args .text .now) (g .start) (g .end) (w .order) (w .within) in
-    (omega (arith, below (c .before .before .before .before), p .1), omega (arith, n, w .within, p .0 .held .small), omega (arith, n, w .within, p .0 .held .small, p .2))
+    (omega (arith, below (c .before .before .before .before), p .1), omega (arith, n, w .within, p .2), omega (arith, n, w .within, p .2, p .3))
 
 same-length : tie.Need-same-length
 same-length c = search needs

@@ -4,7 +4,7 @@ use lib.ListN.{length}
 use Rattle.language.specs.State.{Store}
 use Rattle.validate.specs.Checked.{Understood, CheckedMeant}
 use Rattle.state_lookups.specs.Looks.{Look, principalOf}
-use Rattle.validate_c.proofs.Reporting.{no-size, no-room, formed, not-formed, few-principals}
+use Rattle.validate_c.proofs.Reporting.{no-size, no-room, formed, not-formed, few-principals, short-principals}
 use borrow.Author.Needs.{needs}
 use Rattle.validate_c.proofs.state_principal.Statement.{statement}
 use Rattle.validate_c.proofs.state_principal.Tie as tie
@@ -62,7 +62,7 @@ principal-requires c κs =
     let back-13 = back-9 .before .before .before .before in
     let U = understood (c .before .before .before .before) in
     let k : length (back-9 .check .last .1 .0) ≡ 1024 = back-9 .check .kept .1 .0 in
-    (record { principals = U .state .principals; held = U .represents .principals }, few-principals _ _ _ _ _ _ (U .represents) k, back-13 .if2 .left)
+    (record { principals = U .state .principals; held = U .represents .principals }, few-principals _ _ _ _ _ _ (U .represents) k, short-principals _ _ _ _ _ _ (U .represents) (back-13 .before .if1 .left), back-13 .if2 .left)
 
 enum-told : tie.Need-enum-told
 enum-told c = search needs

@@ -9,7 +9,7 @@ use Rattle.store.specs.Rows.{principalRow}
 use Rattle.store.proofs.Answers.{principal-names}
 use Rattle.named_rights.specs.Numbers.{principalsOf}
 use Rattle.state_lookups.specs.Looks.{Look, Says, nameOf}
-use Rattle.validate_c.proofs.Reporting.{no-size, no-room, formed, not-formed, few-principals, principal-rows}
+use Rattle.validate_c.proofs.Reporting.{no-size, no-room, formed, not-formed, few-principals, principal-rows, short-principals}
 use borrow.Author.Needs.{needs}
 use Rattle.validate_c.proofs.state_principal_name.Statement.{statement}
 use Rattle.validate_c.proofs.state_principal_name.Tie as tie
@@ -65,7 +65,7 @@ nth-name-requires c κs =
     let back-13 = back-9 .before .before .before .before in
     let U = understood (c .before .before .before .before) in
     let k : length (back-9 .check .last .1 .0) ≡ 1024 = back-9 .check .kept .1 .0 in
-    (record { rows = map principalRow (U .state .principals); held = principal-rows _ _ _ _ _ _ (U .represents) }, few-principals _ _ _ _ _ _ (U .represents) k, back-13 .if2 .left)
+    (record { rows = map principalRow (U .state .principals); held = principal-rows _ _ _ _ _ _ (U .represents) }, few-principals _ _ _ _ _ _ (U .represents) k, short-principals _ _ _ _ _ _ (U .represents) (back-13 .before .if1 .left), back-13 .if2 .left)
 
 enum-told : tie.Need-enum-told
 enum-told c = search needs

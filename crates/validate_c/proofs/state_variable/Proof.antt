@@ -4,7 +4,7 @@ use lib.ListN.{length}
 use Rattle.language.specs.State.{Store}
 use Rattle.validate.specs.Checked.{Understood, CheckedMeant}
 use Rattle.state_lookups.specs.Looks.{Look, variableOf}
-use Rattle.validate_c.proofs.Reporting.{no-size, no-room, formed, not-formed, few-variables}
+use Rattle.validate_c.proofs.Reporting.{no-size, no-room, formed, not-formed, few-variables, short-variables}
 use borrow.Author.Needs.{needs}
 use Rattle.validate_c.proofs.state_variable.Statement.{statement}
 use Rattle.validate_c.proofs.state_variable.Tie as tie
@@ -62,7 +62,7 @@ variable-requires c κs =
     let back-13 = back-9 .before .before .before .before in
     let U = understood (c .before .before .before .before) in
     let k : length (back-9 .check .last .1 .1 .0) ≡ 4096 = back-9 .check .kept .1 .1 .0 in
-    (record { rows = U .state .variables; held = U .represents .variables }, few-variables _ _ _ _ _ _ (U .represents) k, back-13 .if2 .left)
+    (record { rows = U .state .variables; held = U .represents .variables }, few-variables _ _ _ _ _ _ (U .represents) k, short-variables _ _ _ _ _ _ (U .represents) (back-13 .before .if1 .left), back-13 .if2 .left)
 
 enum-told : tie.Need-enum-told
 enum-told c = search needs

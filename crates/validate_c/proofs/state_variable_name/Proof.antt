@@ -9,7 +9,7 @@ use Rattle.store.specs.Rows.{variableRow}
 use Rattle.store.proofs.Answers.{variable-names}
 use Rattle.named_rights.specs.Numbers.{variables}
 use Rattle.state_lookups.specs.Looks.{Look, Says, nameOf}
-use Rattle.validate_c.proofs.Reporting.{no-size, no-room, formed, not-formed, few-variables, variable-rows}
+use Rattle.validate_c.proofs.Reporting.{no-size, no-room, formed, not-formed, few-variables, variable-rows, short-variables}
 use borrow.Author.Needs.{needs}
 use Rattle.validate_c.proofs.state_variable_name.Statement.{statement}
 use Rattle.validate_c.proofs.state_variable_name.Tie as tie
@@ -65,7 +65,7 @@ nth-name-requires c κs =
     let back-13 = back-9 .before .before .before .before in
     let U = understood (c .before .before .before .before) in
     let k : length (back-9 .check .last .1 .1 .0) ≡ 4096 = back-9 .check .kept .1 .1 .0 in
-    (record { rows = map variableRow (U .state .variables); held = variable-rows _ _ _ _ _ _ (U .represents) }, few-variables _ _ _ _ _ _ (U .represents) k, back-13 .if2 .left)
+    (record { rows = map variableRow (U .state .variables); held = variable-rows _ _ _ _ _ _ (U .represents) }, few-variables _ _ _ _ _ _ (U .represents) k, short-variables _ _ _ _ _ _ (U .represents) (back-13 .before .if1 .left), back-13 .if2 .left)
 
 enum-told : tie.Need-enum-told
 enum-told c = search needs

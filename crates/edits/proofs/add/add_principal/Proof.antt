@@ -88,7 +88,7 @@ returns c =
         λ ks K h.
             principal-added ks x w (take r b) (a .count + 1) (N .last .0)
             (added (map principalRow ks) (principalRow (record { name = x; password = some w; count = 0 })) (a .buf .now) b (a .len) (a .count) r (a .slots .now) (N .last .0)
-            (principals-rows ks (take (a .len) (a .buf .now)) (a .count) (a .slots .now) K) h (p .0) (omega arith) (p .2)
+            (principals-rows ks (take (a .len) (a .buf .now)) (a .count) (a .slots .now) K) h (omega (arith, p .0)) (omega arith) (p .2)
             (size back-15) fits (written back-6) (N .ensures)),
       ),
     )

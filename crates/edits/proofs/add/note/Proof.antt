@@ -2,6 +2,7 @@ use mathlib.Core.Path.{ap}
 use Prim.Native.Nat.{ℕ, _+_, _*_}
 use native.Mathlib.Omega.{arith}
 use lib.ListN.{set}
+use Rattle.store.specs.Held.{places}
 use Rattle.store.proofs.Hashes.{hash-small}
 use borrow.Author.Needs.{needs}
 use Rattle.edits.proofs.add.note.Statement.{statement}
@@ -29,7 +30,7 @@ same-length : tie.Need-same-length
 same-length c = search needs
 
 returns : tie.Need-returns
-returns c = let a = c .before .before .before .args in ap (λ (p : ℕ). set (a .slots .now) (a .count) (p * 65536 + a .at)) (c .hash .ensures)
+returns c = let a = c .before .before .before .args in ap (λ (p : ℕ). set (a .slots .now) (a .count) (p * places + a .at)) (c .hash .ensures)
 
 pub note-spec : {M : Type 1} → statement M
 note-spec =

@@ -4,12 +4,13 @@ use native.Mathlib.Omega.{arith}
 use borrow.Author.Needs.{needs}
 use lib.ListN.{getD}
 use borrow.Author.Count.{below-more}
+use Rattle.store.specs.Held.{places}
 use Rattle.store.proofs.index.first_of.Statement.{statement}
 use Rattle.store.proofs.index.first_of.Tie as tie
 
 abbrev Inv-loop : tie.InvT-loop
 Inv-loop slots from to p i₀ i =
-    (from ≤ i) × (i ≤ to) × ((j : ℕ) → j < i → from ≤ j → getD slots j 0 / 65536 ≡ p → ⊥)
+    (from ≤ i) × (i ≤ to) × ((j : ℕ) → j < i → from ≤ j → getD slots j 0 / places ≡ p → ⊥)
 
 abbrev μ-loop : tie.MeasureT-loop
 μ-loop slots from to p i₀ i =

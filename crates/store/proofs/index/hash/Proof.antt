@@ -6,13 +6,13 @@ use borrow.Author.Needs.{needs}
 use lib.ListN.{length, getD, drop, drop-of-length-le}
 use lib.Seq.{drop-cons}
 use mathlib.Core.List.{List, _∷_}
-use Rattle.store.specs.Held.{hashFrom, hash}
+use Rattle.store.specs.Held.{hashFrom, hash, hashes}
 use Rattle.store.proofs.index.hash.Statement.{statement}
 use Rattle.store.proofs.index.hash.Tie as tie
 
 abbrev Inv-loop : tie.InvT-loop
 Inv-loop name h₀ i₀ h i =
-    (i ≤ length name) × (h < 65536) × (hashFrom h (drop i name) ≡ hash name)
+    (i ≤ length name) × (h < hashes) × (hashFrom h (drop i name) ≡ hash name)
 
 abbrev μ-loop : tie.MeasureT-loop
 μ-loop name h₀ i₀ h i =
@@ -47,7 +47,7 @@ loop-again c =
     let d : drop (l .i) n ≡ getD n (l .i) 0 ∷ drop (l .i + 1) n = rw add-one (drop-cons n (l .i) 0 (omega arith)) in (
       omega arith,
       omega arith,
-      ap (λ (b : ℕ). hashFrom ((l .h * 31 + b) % 65536) (drop (l .i + 1) n)) w ∙ ap (hashFrom (l .h)) (sym d) ∙ l .inv .2,
+      ap (λ (b : ℕ). hashFrom ((l .h * 31 + b) % hashes) (drop (l .i + 1) n)) w ∙ ap (hashFrom (l .h)) (sym d) ∙ l .inv .2,
     )
 
 returns : tie.Need-returns Inv-loop μ-loop

@@ -3,6 +3,7 @@ use mathlib.Core.Bool.{Bool}
 use Prim.Native.Nat.{ℕ, _-_, _/_, _≤_, _<_}
 use native.Mathlib.Omega.{arith}
 use lib.ListN.{getD}
+use Rattle.store.specs.Held.{places}
 use Rattle.store.specs.Scans.{HitMeant}
 use Rattle.store.proofs.Scanning.{block-passed, block-first}
 use Rattle.store.proofs.index.scan.Statement.{statement}
@@ -10,7 +11,7 @@ use Rattle.store.proofs.index.scan.Tie as tie
 
 abbrev Inv-loop : tie.InvT-loop
 Inv-loop slots from to p i₀ i =
-    (from ≤ i) × (i ≤ to) × ((j : ℕ) → j < i → from ≤ j → getD slots j 0 / 65536 ≡ p → ⊥)
+    (from ≤ i) × (i ≤ to) × ((j : ℕ) → j < i → from ≤ j → getD slots j 0 / places ≡ p → ⊥)
 
 abbrev μ-loop : tie.MeasureT-loop
 μ-loop slots from to p i₀ i =
