@@ -44,7 +44,7 @@ fn late_assertions(count: usize, principals: usize) -> Vec<u8> {
 fn one_hash(weight: usize, own: usize) -> Vec<Vec<u8>> {
     const HASH: u16 = 0x5eed;
     let letters: Vec<u8> = (b'0'..=b'z').filter(|byte| byte.is_ascii_alphanumeric() || *byte == b'_').collect();
-    let hash = |name: &[u8]| name.iter().fold(0u16, |so_far, byte| so_far.wrapping_mul(31).wrapping_add(u16::from(*byte)));
+    let hash = |name: &[u8]| name.iter().fold(0u16, |so_far, byte| so_far.wrapping_mul(31).wrapping_add(u16::from(*byte)) % 32_768);
     let (mut found, mut left) = (Vec::new(), weight);
     let mut longer: Vec<Vec<u8>> = letters.iter().filter(|byte| byte.is_ascii_alphabetic()).map(|byte| vec![*byte]).collect();
     loop {
