@@ -1,4 +1,4 @@
--- Document 01, "Commands".
+-- Document 01, "Commands", and request M-106 (filtereach, and which names are evaluated).
 --
 -- Three definitions judge a command, each by itself, so that no order of evaluation enters:
 -- `reserved` and `needs` say who may send it (DENIED); `effect` what it does, where it can be done (else FAILED) and no value on the way
@@ -10,13 +10,13 @@ use mathlib.Core.Option.{Option, none, some}
 use mathlib.Core.List.{List, [], _∷_, _++_, map}
 use lib.Dec.{ltb}
 use Rattle.language.specs.Text.{Text, if_then_else_, _==_, any, all, keep, sum}
-use Rattle.language.specs.Syntax.{Name, Right, read, write, append, delegate, rights, Expr, Target, every, only, Command, create-principal, change-password, set, append-to, local, foreach, set-delegation, delete-delegation, default-delegator, exit, return}
+use Rattle.language.specs.Syntax.{Name, Right, read, write, append, delegate, rights, Expr, Target, every, only, Command, create-principal, change-password, set, append-to, local, foreach, filtereach, set-delegation, delete-delegation, default-delegator, exit, return}
 use Rattle.language.specs.State as S
 use Rattle.language.specs.State.{Element, Value, list, Principal, Variable, Assertion, Store, admin, put, enter, withdraw}
 use Rattle.language.specs.Weight.{limit, variableWeight, storeWeight}
 use Rattle.language.specs.Chains.{has}
 use Rattle.language.specs.Outcomes.{Outcome, gives, fails, fills, _>>=_, _>>_, from, provided, eachOf}
-use Rattle.language.specs.Values.{Session, isShared, isLocal, isDefined, isPrincipal, asElement, listOf}
+use Rattle.language.specs.Values.{Session, isShared, isLocal, isDefined, isPrincipal, withName, asElement, listOf}
 use Rattle.language.specs.Expressions.{value, names}
 use Rattle.language.specs.Output.{status, returning}
 
@@ -32,29 +32,37 @@ pub record Need : Type 0 where
 abbrev pub need : Session → List Right → Name → List Need
 need s rs x = if isShared s x then record { holder = s .sender; oneOf = rs; variable = x } ∷ [] else []
 
--- the elements that foreach goes through: x is a list, and y is undefined
+-- the elements that foreach and filtereach go through: x is a list, and y is undefined
 abbrev pub elements : Session → Name → Name → Option (List Element)
 elements s y x = if isDefined s y then none else listOf s x
 
--- it evaluates its expression where there is one
-abbrev pub isFilled : Option (List Element) → Bool
-isFilled none = false
-isFilled (some []) = false
-isFilled (some (e ∷ rest)) = true
+-- y stands for an element, last among the locals
+abbrev pub withElement : Session → Name → Element → Session
+withElement s y a = withName s y (S.single a)
+
+-- the names that foreach and filtereach evaluate: those of the expression, for each element
+abbrev pub namesForEach : Session → Name → Expr → List Element → List Name
+namesForEach s y e [] = []
+namesForEach s y e (a ∷ rest) = names (withElement s y a) e ++ namesForEach s y e rest
+
+abbrev pub namesOver : Session → Name → Expr → Option (List Element) → List Name
+namesOver s y e none = []
+namesOver s y e (some es) = namesForEach s y e es
 
 -- the names that a command evaluates
 abbrev pub evaluated : Session → Command → List Name
 evaluated s (create-principal p t) = []
 evaluated s (change-password p t) = []
-evaluated s (set x e) = names e
-evaluated s (append-to x e) = names e
-evaluated s (local x e) = names e
-evaluated s (foreach y x e) = if isFilled (elements s y x) then names e else []
+evaluated s (set x e) = names s e
+evaluated s (append-to x e) = names s e
+evaluated s (local x e) = names s e
+evaluated s (foreach y x e) = namesOver s y e (elements s y x)
+evaluated s (filtereach y x e) = namesOver s y e (elements s y x)
 evaluated s (set-delegation t q r p) = []
 evaluated s (delete-delegation t q r p) = []
 evaluated s (default-delegator p) = []
 evaluated s exit = []
-evaluated s (return e) = names e
+evaluated s (return e) = names s e
 
 -- what the rule of a command asks
 abbrev pub ruled : Session → Command → List Need
@@ -64,6 +72,7 @@ ruled s (set x e) = need s (write ∷ []) x
 ruled s (append-to x e) = need s (write ∷ append ∷ []) x
 ruled s (local x e) = []
 ruled s (foreach y x e) = need s (read ∷ []) x ++ need s (write ∷ []) x
+ruled s (filtereach y x e) = need s (read ∷ []) x ++ need s (write ∷ []) x
 ruled s (set-delegation every q r p) = []
 ruled s (set-delegation (only x) q r p) =
     if isPrincipal s q && isShared s x then record { holder = q; oneOf = delegate ∷ []; variable = x } ∷ [] else []
@@ -97,6 +106,7 @@ reserved s (set x e) = false
 reserved s (append-to x e) = false
 reserved s (local x e) = false
 reserved s (foreach y x e) = false
+reserved s (filtereach y x e) = false
 reserved s (set-delegation t q r p) = isNone s (admin ∷ q ∷ [])
 reserved s (delete-delegation every q r p) = isNone s (admin ∷ q ∷ [])
 reserved s (delete-delegation (only x) q r p) = isNone s (admin ∷ q ∷ p ∷ [])
@@ -188,15 +198,27 @@ abbrev pub extend : List Element → Value → List Element
 extend es (S.single e) = es ++ (e ∷ [])
 extend es (list fs) = es ++ fs
 
--- y stands for an element, last among the locals
-abbrev pub withElement : Session → Name → Element → Session
-withElement s y a = withLocals s (s .locals ++ (record { name = y; value = S.single a } ∷ []))
-
 -- what foreach puts in an element's place: no list
 abbrev pub replaced : Session → Name → Expr → Element → Outcome Element
 replaced s y e a = do
   v ← value (withElement s y a) e
   from (asElement v)
+
+-- what filtereach leaves of an element: all of it where the result is the empty string, else nothing
+abbrev pub leftOf : Element → Value → List Element
+leftOf a (S.single (S.string [])) = a ∷ []
+leftOf a (S.single (S.string (b ∷ t))) = []
+leftOf a (S.single (S.fields fs)) = []
+leftOf a (list es) = []
+
+abbrev pub filtered : Session → Name → Expr → Element → Outcome (List Element)
+filtered s y e a = do
+  v ← value (withElement s y a) e
+  gives (leftOf a v)
+
+abbrev pub flat : List (List Element) → List Element
+flat [] = []
+flat (es ∷ rest) = es ++ flat rest
 
 -- the session after, and the line printed
 pub record Effect : Type 0 where
@@ -229,6 +251,10 @@ effect s (foreach y x e) = do
   es ← from (elements s y x)
   fs ← eachOf (replaced s y e) es
   done "FOREACH" (assign s x (list fs))
+effect s (filtereach y x e) = do
+  es ← from (elements s y x)
+  kept ← eachOf (filtered s y e) es
+  done "FILTEREACH" (assign s x (list (flat kept)))
 effect s (set-delegation t q r p) = do
   provided (isPrincipal s p && isPrincipal s q && all (isShared s) (targets (s .store) t q))
   done "SET_DELEGATION" (withStore s (enterAll (s .store) (assertionsOn (targets (s .store) t q) q r p)))

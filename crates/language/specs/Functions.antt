@@ -1,14 +1,14 @@
--- Requests M-100 and M-104: what the functions make of values, where these are strings, and of prices; request M-106: when two elements are equal.
+-- Requests M-100, M-104 and M-106: what the functions make of values, where these are strings, and of prices; and when two values are the same.
 use Prim.Native.Nat.{ℕ, _+_}
-use mathlib.Core.Bool.{Bool, false, _&&_}
+use mathlib.Core.Bool.{Bool, true, false, _&&_, not}
 use mathlib.Core.Option.{Option, some}
 use mathlib.Core.List.{List, [], _∷_, _++_, map}
 use lib.ListN.{length, take, drop}
 use Rattle.language.specs.Text.{Text, bytes, if_then_else_, _>>=_, _==_, any, all}
 use Rattle.language.specs.Bytes.{between}
-use Rattle.language.specs.Syntax.{Operation, Function, split, concat, arithmetic}
-use Rattle.language.specs.State.{Field, Element, Value, single, string, fields}
-use Rattle.language.specs.Values.{asString}
+use Rattle.language.specs.Syntax.{Operation, Function, split, concat, arithmetic, Comparison, equal, notequal}
+use Rattle.language.specs.State.{Field, Element, string, fields, Value, single}
+use Rattle.language.specs.Values.{asString, asElement}
 use Rattle.language.specs.Prices.{price, priceText, reckoned}
 
 abbrev pub lowerByte : ℕ → ℕ
@@ -41,7 +41,9 @@ apply f v w = do
   u ← asString w
   onStrings f t u
 
--- Request M-106: the labels of a record are distinct, so two records are the same where each holds the other's fields.
+-- ---- request M-106
+
+-- the labels of a record are distinct, so two records are the same where each holds the other's fields
 abbrev pub sameField : Field → Field → Bool
 sameField f g = (f .label == g .label) && (f .text == g .text)
 
@@ -56,3 +58,19 @@ sameElement (string t) (string u) = t == u
 sameElement (string t) (fields gs) = false
 sameElement (fields fs) (string u) = false
 sameElement (fields fs) (fields gs) = sameFields fs gs
+
+-- the empty string says that it is so, "0" that it is not
+abbrev pub answer : Bool → Value
+answer true = single (string [])
+answer false = single (string (bytes "0"))
+
+abbrev pub holds : Comparison → Element → Element → Bool
+holds equal e d = sameElement e d
+holds notequal e d = not (sameElement e d)
+
+-- a list is not compared
+abbrev pub compared : Comparison → Value → Value → Option Value
+compared c v w = do
+  e ← asElement v
+  d ← asElement w
+  some (answer (holds c e d))

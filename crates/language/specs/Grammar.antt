@@ -1,4 +1,4 @@
--- Document 01, "Program text", and requests M-100 and M-104 for functions: the grammar of one line, as readers of its tokens.
+-- Document 01, "Program text", and requests M-100, M-104 and M-106: the grammar of one line, as readers of its tokens.
 use Prim.Native.Nat.{ℕ, zero, suc}
 use Prim.Native.String.{String}
 use mathlib.Core.Option.{Option, none, some}
@@ -6,8 +6,8 @@ use mathlib.Core.List.{List, [], _∷_}
 use lib.ListN.{length}
 use Rattle.language.specs.Text.{Text, bytes, if_then_else_, _==_, _orElse_}
 use Rattle.language.specs.Tokens.{Token, sign, ident, text, wrong}
-use Rattle.language.specs.Syntax.{Name, Right, read, write, append, delegate, Operand, name, dot, quoted, Binding, Operation, add, sub, times, per, Function, split, concat, arithmetic, Expr, single, nothing, fields, tolower, call}
-use Rattle.language.specs.Syntax.{Target, every, only, Command, create-principal, change-password, set, append-to, local, foreach, set-delegation, delete-delegation, default-delegator, exit, return}
+use Rattle.language.specs.Syntax.{Name, Right, read, write, append, delegate, Operand, name, dot, quoted, Binding, Operation, add, sub, times, per, Function, split, concat, arithmetic, Comparison, equal, notequal, Term, single, nothing, fields, tolower, call, compare, Expr, term, letIn}
+use Rattle.language.specs.Syntax.{Target, every, only, Command, create-principal, change-password, set, append-to, local, foreach, filtereach, set-delegation, delete-delegation, default-delegator, exit, return}
 
 -- A reader takes what it reads from the front of the tokens.
 abbrev pub Reader : Type 0 → Type 0
@@ -87,7 +87,7 @@ abbrev pub functionFor : Option Operation → Option Function
 functionFor none = none
 functionFor (some o) = some (arithmetic o)
 
--- the function of two values that a keyword names
+-- the function of two strings that a keyword names
 abbrev pub functionOf : Text → Option Function
 functionOf w =
     if w == bytes "split" then some split
@@ -105,18 +105,43 @@ anyFunction (ident w ∷ ts) = none
 anyFunction (text w ∷ ts) = none
 anyFunction (wrong ∷ ts) = none
 
--- a function, and as many values as it takes
-abbrev pub anyCall : Reader Expr
+-- the comparison that a keyword names
+abbrev pub comparisonOf : Text → Option Comparison
+comparisonOf w =
+    if w == bytes "equal" then some equal
+    else if w == bytes "notequal" then some notequal
+    else none
+
+abbrev pub anyComparison : Reader Comparison
+anyComparison [] = none
+anyComparison (sign w ∷ ts) = ahead (comparisonOf w) ts
+anyComparison (ident w ∷ ts) = none
+anyComparison (text w ∷ ts) = none
+anyComparison (wrong ∷ ts) = none
+
+-- a function or a comparison, and as many values as it takes
+abbrev pub anyCall : Reader Term
 anyCall =
     (do the "tolower"; the "("; v ← anyOperand; the ")"; give (tolower v))
     ∣ (do f ← anyFunction; the "("; v ← anyOperand; the ","; w ← anyOperand; the ")"; give (call f v w))
+    ∣ (do c ← anyComparison; the "("; v ← anyOperand; the ","; w ← anyOperand; the ")"; give (compare c v w))
 
-abbrev pub anyExpression : Reader Expr
-anyExpression =
+abbrev pub anyTerm : Reader Term
+anyTerm =
     (do the "[]"; give nothing)
     ∣ (do the "{"; fs ← (λ ts. anyFields (length ts) ts); give (fields fs))
     ∣ anyCall
     ∣ (do v ← anyOperand; give (single v))
+
+-- an expression with less than n lets inside each other
+abbrev pub anyLets : ℕ → Reader Expr
+anyLets zero = λ ts. none
+anyLets (suc n) =
+    (do the "let"; x ← anyName; the "="; e ← anyLets n; the "in"; f ← anyLets n; give (letIn x e f))
+    ∣ (do t ← anyTerm; give (term t))
+
+abbrev pub anyExpression : Reader Expr
+anyExpression = λ ts. anyLets (length ts) ts
 
 abbrev pub anyRight : Reader Right
 anyRight =
@@ -148,6 +173,9 @@ localForm = do the "local"; x ← anyName; the "="; e ← anyExpression; give (l
 abbrev pub foreachForm : Reader Command
 foreachForm = do the "foreach"; y ← anyName; the "in"; x ← anyName; the "replacewith"; e ← anyExpression; give (foreach y x e)
 
+abbrev pub filtereachForm : Reader Command
+filtereachForm = do the "filtereach"; y ← anyName; the "in"; x ← anyName; the "with"; e ← anyExpression; give (filtereach y x e)
+
 abbrev pub setDelegationForm : Reader Command
 setDelegationForm = do the "set"; the "delegation"; t ← anyTarget; q ← anyName; r ← anyRight; the "->"; p ← anyName; give (set-delegation t q r p)
 
@@ -159,7 +187,7 @@ delegatorForm = do the "default"; the "delegator"; the "="; p ← anyName; give 
 
 abbrev pub anyCommand : Reader Command
 anyCommand =
-    createForm ∣ changeForm ∣ setForm ∣ appendForm ∣ localForm ∣ foreachForm ∣ setDelegationForm ∣ deleteDelegationForm ∣ delegatorForm
+    createForm ∣ changeForm ∣ setForm ∣ appendForm ∣ localForm ∣ foreachForm ∣ filtereachForm ∣ setDelegationForm ∣ deleteDelegationForm ∣ delegatorForm
 
 abbrev pub anyEnding : Reader Command
 anyEnding =

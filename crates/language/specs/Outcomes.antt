@@ -40,7 +40,7 @@ withOthers fills (gives bs) = fills
 withOthers fills fails = fails
 withOthers fills fills = fills
 
--- each is tried, also after one that would weigh too much
+-- each is tried, also after one that fails or would weigh too much
 abbrev pub eachOf : {A B : Type 0} → (A → Outcome B) → List A → Outcome (List B)
 eachOf f [] = gives []
 eachOf f (a ∷ rest) = withOthers (f a) (eachOf f rest)

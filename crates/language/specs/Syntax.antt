@@ -1,4 +1,4 @@
--- Document 01, "Program text", and requests M-100 and M-104: the abstract syntax of expressions, commands and programs.
+-- Document 01, "Program text", and requests M-100, M-104 and M-106: the abstract syntax of expressions, commands and programs.
 use mathlib.Core.Bool.{Bool, true, false}
 use mathlib.Core.List.{List, [], _∷_}
 use Rattle.language.specs.Text.{Text}
@@ -45,17 +45,28 @@ pub record Binding : Type 0 where
 pub data Operation : Type 0 where
   add sub times per : Operation
 
--- the functions of two values (request M-100)
+-- the functions of two strings (requests M-100 and M-104)
 pub data Function : Type 0 where
   split concat : Function
   arithmetic : Operation → Function
 
+-- whether two values are the same (request M-106)
+pub data Comparison : Type 0 where
+  equal notequal : Comparison
+
+-- an expression without `let`
+pub data Term : Type 0 where
+  single : Operand → Term
+  nothing : Term
+  fields : List Binding → Term
+  tolower : Operand → Term
+  call : Function → Operand → Operand → Term
+  compare : Comparison → Operand → Operand → Term
+
+-- a term, or `let x = e in f` (request M-106)
 pub data Expr : Type 0 where
-  single : Operand → Expr
-  nothing : Expr
-  fields : List Binding → Expr
-  tolower : Operand → Expr
-  call : Function → Operand → Operand → Expr
+  term : Term → Expr
+  letIn : Name → Expr → Expr → Expr
 
 pub data Target : Type 0 where
   every : Target
@@ -68,6 +79,7 @@ pub data Command : Type 0 where
   append-to : Name → Expr → Command
   local : Name → Expr → Command
   foreach : Name → Name → Expr → Command
+  filtereach : Name → Name → Expr → Command
   set-delegation : Target → Name → Right → Name → Command
   delete-delegation : Target → Name → Right → Name → Command
   default-delegator : Name → Command

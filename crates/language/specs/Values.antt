@@ -1,7 +1,7 @@
 -- Document 01, "Values": a running program, the values of its names, and what operands and records come to, whatever the rights.
 use mathlib.Core.Bool.{Bool, _||_}
 use mathlib.Core.Option.{Option, none, some}
-use mathlib.Core.List.{List, [], _∷_, map}
+use mathlib.Core.List.{List, [], _∷_, _++_}
 use Rattle.language.specs.Text.{Text, if_then_else_, _==_, _>>=_, _orElse_, present, each, distinct}
 use Rattle.language.specs.Syntax.{Name, Operand, name, dot, quoted, Binding}
 use Rattle.language.specs.State as S
@@ -29,6 +29,10 @@ isPrincipal s p = present (named (s .store .principals) p)
 
 abbrev pub lookup : Session → Name → Option Value
 lookup s x = valueIn (s .locals) x orElse valueIn (s .store .variables) x
+
+-- x stands for v, last among the locals
+abbrev pub withName : Session → Name → Value → Session
+withName s x v = record { store = s .store; sender = s .sender; locals = s .locals ++ (record { name = x; value = v } ∷ []) }
 
 -- ---- operands and records: the value, where there is one
 
@@ -73,7 +77,7 @@ fieldValue s b = do
 abbrev pub recordValue : Session → List Binding → Option Value
 recordValue s bs = do
   fs ← each (fieldValue s) bs
-  if distinct (map (λ f. f .label) fs) then some (S.single (S.fields fs)) else none
+  if distinct (S.labels fs) then some (S.single (S.fields fs)) else none
 
 -- the elements of x, where that is a list
 abbrev pub listOf : Session → Name → Option (List Element)

@@ -38,6 +38,22 @@ printed-from s cs = map (λ c. runs s (c .program ∷ []) .printed) cs
 abbrev pub expected-of : List Sent → List Text
 expected-of cs = map (λ c. c .prints) cs
 
+-- rows by how the program ends: refused, or completed with a line for each command and the value of the last
+abbrev pub is-denied : String → Text → Sent
+is-denied what program = record { what = what; program = program; prints = page ("{\"status\":\"DENIED\"}" ∷ []) }
+
+abbrev pub is-failed : String → Text → Sent
+is-failed what program = record { what = what; program = program; prints = page ("{\"status\":\"FAILED\"}" ∷ []) }
+
+abbrev pub is-full : String → Text → Sent
+is-full what program = record { what = what; program = program; prints = page ("{\"status\":\"FULL\"}" ∷ []) }
+
+abbrev pub ended : List String → String → Text
+ended statuses value = joined (λ w. bytes "{\"status\":\"" ++ bytes w ++ bytes "\"}\n") statuses ++ bytes "{\"status\":\"RETURNING\",\"output\":" ++ bytes value ++ bytes "}\n"
+
+abbrev pub completes : String → Text → List String → String → Sent
+completes what program statuses value = record { what = what; program = program; prints = ended statuses value }
+
 -- ---- the states that the programs start from: a new server's, that of document 01's session, and the one after this program
 
 -- songs, a card and a word that anyone may read, and a secret that admin alone may

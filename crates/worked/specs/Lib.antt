@@ -10,3 +10,6 @@ pub mod Sheets
 pub mod Searches
 pub mod Prices
 pub mod Logins
+pub mod Comparisons
+pub mod Filters
+pub mod Lets

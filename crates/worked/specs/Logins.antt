@@ -7,7 +7,7 @@ use lib.ListN.{length}
 use Rattle.language.specs.Text.{Text, bytes}
 use Rattle.language.specs.State.{Store}
 use Rattle.worked.specs.Sessions.{page, runs, after-session, admin-sends, letters}
-use Rattle.worked.specs.Functions.{Sent, lined, printed-from, expected-of}
+use Rattle.worked.specs.Functions.{Sent, lined, printed-from, expected-of, is-denied, is-failed}
 use Rattle.worked.specs.Counts.{said, sends}
 
 -- a program that would return a string
@@ -27,12 +27,6 @@ long n = bytes "as principal bob password \"b\" do\nreturn \"" ++ letters n ++ b
 
 pub long-lengths : map (λ n. length (long n)) (16338 ∷ 16339 ∷ []) ≡ 16384 ∷ 16385 ∷ []
 long-lengths = refl
-
-abbrev pub is-denied : String → Text → Sent
-is-denied what program = record { what = what; program = program; prints = page ("{\"status\":\"DENIED\"}" ∷ []) }
-
-abbrev pub is-failed : String → Text → Sent
-is-failed what program = record { what = what; program = program; prints = page ("{\"status\":\"FAILED\"}" ∷ []) }
 
 -- ---- on the state of document 01's session: admin, anyone without a password, rosa with `r1`, and the variable queue
 

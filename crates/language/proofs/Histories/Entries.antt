@@ -5,12 +5,12 @@ use mathlib.Core.Option.{Option, none, some}
 use mathlib.Core.List.{List, [], _∷_, _++_, map}
 use lib.Dec.{T}
 use Rattle.language.specs.Text.{Text, if_then_else_, _orElse_, all, present}
-use Rattle.language.specs.Syntax.{Name, rights, Command, create-principal, change-password, set, append-to, local, foreach, set-delegation, delete-delegation, default-delegator, exit, return, Program}
+use Rattle.language.specs.Syntax.{Name, rights, Command, create-principal, change-password, set, append-to, local, foreach, filtereach, set-delegation, delete-delegation, default-delegator, exit, return, Program}
 use Rattle.language.specs.State.{Value, list, Assertion, valueIn, put}
 use Rattle.language.specs.Outcomes.{eachOf}
 use Rattle.language.specs.Values.{Session, isShared, isLocal, isDefined, isPrincipal, lookup, asList, listOf}
 use Rattle.language.specs.Expressions.{value}
-use Rattle.language.specs.Commands.{withStore, withLocals, withVariables, enterAll, withPrincipal, entering, withdrawing, assertionsOn, targets, delegations, granted, assign, elements, replaced, extend, Effect, effect, denied, Step, refused, went, step}
+use Rattle.language.specs.Commands.{withStore, withLocals, withVariables, enterAll, withPrincipal, entering, withdrawing, assertionsOn, targets, delegations, granted, assign, elements, replaced, filtered, flat, extend, Effect, effect, denied, Step, refused, went, step}
 use Rattle.language.specs.Run.{End, refusal, completed, after, next, perform, Login, mistaken, right, login, begin, tallied, runAs, run, left}
 use Rattle.language.specs.Programs.{parse}
 use Rattle.language.specs.Events.{Event, enters, withdraws, events, eventsThen, eventsOf, afterEvent, afterEvents}
@@ -89,6 +89,10 @@ effect-enters s (foreach y x e) =
     bind-from (λ es. T (isDefined s x)) (Enters s []) (elements s y x) _
     (if-where (λ es. T (isDefined s x)) (isDefined s y) none (listOf s x) (λ n. tt) (λ n. listed s x)) (λ es d.
     bind-giving (λ fs. Unit {0}) (Enters s []) (eachOf (replaced s y e) es) _ (giving-any (eachOf (replaced s y e) es)) (λ fs h. assign-defined s x (list fs) d))
+effect-enters s (filtereach y x e) =
+    bind-from (λ es. T (isDefined s x)) (Enters s []) (elements s y x) _
+    (if-where (λ es. T (isDefined s x)) (isDefined s y) none (listOf s x) (λ n. tt) (λ n. listed s x)) (λ es d.
+    bind-giving (λ l. Unit {0}) (Enters s []) (eachOf (filtered s y e) es) _ (giving-any (eachOf (filtered s y e) es)) (λ l h. assign-defined s x (list (flat l)) d))
 effect-enters s (set-delegation t q r p) =
     provided-giving (Enters s (events s (set-delegation t q r p))) (isPrincipal s p && isPrincipal s q && all (isShared s) (targets (s .store) t q)) _
     (λ h. after-entering (s .store .assertions) (assertionsOn (targets (s .store) t q) q r p))

@@ -8,7 +8,7 @@ use mathlib.Core.List.{List, [], _∷_}
 use lib.ListN.{length}
 use lib.Dec.{T}
 use Rattle.language.specs.Text.{Text, all}
-use Rattle.language.specs.Syntax.{Command, create-principal, change-password, set, append-to, local, foreach, set-delegation, delete-delegation, default-delegator, exit, return, Program}
+use Rattle.language.specs.Syntax.{Command, create-principal, change-password, set, append-to, local, foreach, filtereach, set-delegation, delete-delegation, default-delegator, exit, return, Program}
 use Rattle.language.specs.State.{Store}
 use Rattle.language.specs.Output.{returning}
 use Rattle.language.specs.Valid.{validStore}
@@ -38,6 +38,7 @@ one-line s g (set x e) h = said s (set x e) tt
 one-line s g (append-to x e) h = said s (append-to x e) tt
 one-line s g (local x e) h = said s (local x e) tt
 one-line s g (foreach y x e) h = said s (foreach y x e) tt
+one-line s g (filtereach y x e) h = said s (filtereach y x e) tt
 one-line s g (set-delegation t q r p) h = said s (set-delegation t q r p) tt
 one-line s g (delete-delegation t q r p) h = said s (delete-delegation t q r p) tt
 one-line s g (default-delegator p) h = said s (default-delegator p) tt

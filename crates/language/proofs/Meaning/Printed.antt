@@ -9,7 +9,7 @@ use mathlib.Core.List.{List, [], _∷_, _++_, map}
 use lib.ListN.{length}
 use lib.Dec.{T, ltb, eqb}
 use Rattle.language.specs.Text.{Text, bytes, if_then_else_, all, distinct}
-use Rattle.language.specs.Syntax.{Command, create-principal, change-password, set, append-to, local, foreach, set-delegation, delete-delegation, default-delegator, exit, return}
+use Rattle.language.specs.Syntax.{Command, create-principal, change-password, set, append-to, local, foreach, filtereach, set-delegation, delete-delegation, default-delegator, exit, return}
 use Rattle.language.specs.Identifiers.{isName, isString}
 use Rattle.language.specs.State.{Field, Element, string, fields, Value, single, list}
 use Rattle.language.specs.Output.{quote, commas, fieldJson, elementJson, valueJson, status, returning}
@@ -17,7 +17,7 @@ use Rattle.language.specs.Valid.{validField, validElement, validValue}
 use Rattle.language.specs.Outcomes.{eachOf}
 use Rattle.language.specs.Values.{Session, isPrincipal, isDefined, isShared, listOf}
 use Rattle.language.specs.Expressions.{value}
-use Rattle.language.specs.Commands.{elements, replaced, targets, Effect, effect, denied, went, step}
+use Rattle.language.specs.Commands.{elements, replaced, filtered, targets, Effect, effect, denied, went, step}
 use Rattle.language.specs.Run.{lineCount}
 use Rattle.language.proofs.Logic.Tests.{both, three}
 use Rattle.language.proofs.Logic.Outcomes.{anything}
@@ -96,6 +96,7 @@ isReturn (set x e) = false
 isReturn (append-to x e) = false
 isReturn (local x e) = false
 isReturn (foreach y x e) = false
+isReturn (filtereach y x e) = false
 isReturn (set-delegation t q r p) = false
 isReturn (delete-delegation t q r p) = false
 isReturn (default-delegator p) = false
@@ -109,6 +110,7 @@ word (set x e) = "SET"
 word (append-to x e) = "APPEND"
 word (local x e) = "LOCAL"
 word (foreach y x e) = "FOREACH"
+word (filtereach y x e) = "FILTEREACH"
 word (set-delegation t q r p) = "SET_DELEGATION"
 word (delete-delegation t q r p) = "DELETE_DELEGATION"
 word (default-delegator p) = "DEFAULT_DELEGATOR"
@@ -130,6 +132,9 @@ says s (local x e) h =
 says s (foreach y x e) h =
     bind-from (λ es. Unit {0}) (Says (foreach y x e)) (elements s y x) _ (anything (elements s y x)) (λ es k.
     bind-giving (λ fs. Unit {0}) (Says (foreach y x e)) (eachOf (replaced s y e) es) _ (giving-any (eachOf (replaced s y e) es)) (λ fs k. refl))
+says s (filtereach y x e) h =
+    bind-from (λ es. Unit {0}) (Says (filtereach y x e)) (elements s y x) _ (anything (elements s y x)) (λ es k.
+    bind-giving (λ l. Unit {0}) (Says (filtereach y x e)) (eachOf (filtered s y e) es) _ (giving-any (eachOf (filtered s y e) es)) (λ l k. refl))
 says s (set-delegation t q r p) h =
     provided-giving (Says (set-delegation t q r p)) (isPrincipal s p && isPrincipal s q && all (isShared s) (targets (s .store) t q)) _ (λ k. refl)
 says s (delete-delegation t q r p) h =
@@ -149,6 +154,7 @@ status-one (set x e) = refl
 status-one (append-to x e) = refl
 status-one (local x e) = refl
 status-one (foreach y x e) = refl
+status-one (filtereach y x e) = refl
 status-one (set-delegation t q r p) = refl
 status-one (delete-delegation t q r p) = refl
 status-one (default-delegator p) = refl

@@ -5,17 +5,13 @@ use Prim.Native.Nat.{ℕ, _+_, _≤_, _<_}
 use native.Mathlib.Omega.{arith}
 use mathlib.Core.Bool.{Bool, true, false, _&&_, _||_, not}
 use mathlib.Core.Option.{Option, none, some}
-use mathlib.Core.List.{List, [], _∷_, map}
+use mathlib.Core.List.{List, [], _∷_}
 use lib.Dec.{T, T-not}
 use Rattle.language.specs.Text.{Text, if_then_else_, _==_, any, sum, member, distinct}
-use Rattle.language.specs.Syntax.{Name}
-use Rattle.language.specs.State.{Field}
+use Rattle.language.specs.State.{Field, labels}
 use Rattle.language.specs.Values.{textOf}
 use Rattle.language.specs.Functions.{sameField, holdsAll, sameFields}
 use Rattle.language.proofs.Logic.Tests.{both, and, one-of, left-of, right-of, false-of, same-test, or-false, ==→≡, ==-refl, ==-sym, all-map}
-
-abbrev pub labels : List Field → List Name
-labels fs = map (λ f. f .label) fs
 
 -- ---- one field
 

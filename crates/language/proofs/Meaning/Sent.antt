@@ -5,12 +5,12 @@ use mathlib.Core.Option.{none, some}
 use mathlib.Core.List.{List, [], _∷_, _++_, map}
 use lib.Dec.{T}
 use Rattle.language.specs.Text.{Text, if_then_else_, _==_, all, present}
-use Rattle.language.specs.Syntax.{Name, Command, create-principal, change-password, set, append-to, local, foreach, set-delegation, delete-delegation, default-delegator, exit, return}
+use Rattle.language.specs.Syntax.{Name, Command, create-principal, change-password, set, append-to, local, foreach, filtereach, set-delegation, delete-delegation, default-delegator, exit, return}
 use Rattle.language.specs.State.{Value, list, Principal, named, put}
 use Rattle.language.specs.Outcomes.{eachOf}
 use Rattle.language.specs.Values.{Session, isPrincipal, isShared, isLocal, isDefined, listOf}
 use Rattle.language.specs.Expressions.{value}
-use Rattle.language.specs.Commands.{withStore, withLocals, withVariables, enterAll, targets, changed, granted, assign, extend, elements, replaced, Effect, effect, denied, Step, refused, went, step}
+use Rattle.language.specs.Commands.{withStore, withLocals, withVariables, enterAll, targets, changed, granted, assign, extend, elements, replaced, filtered, flat, Effect, effect, denied, Step, refused, went, step}
 use Rattle.language.specs.Run.{End, refusal, completed, after, next, perform}
 use Rattle.language.specs.History.{countIn, countOf}
 use Rattle.language.proofs.Parsing.ValidPrograms.{validCommand}
@@ -80,6 +80,9 @@ module _ (s : Session) where
   effect-same (foreach y x e) =
       bind-from _ Kept (elements s y x) _ (anything (elements s y x)) (λ es u.
       bind-giving _ Kept (eachOf (replaced s y e) es) _ (giving-any (eachOf (replaced s y e) es)) (λ fs w. assign-same x (list fs)))
+  effect-same (filtereach y x e) =
+      bind-from _ Kept (elements s y x) _ (anything (elements s y x)) (λ es u.
+      bind-giving _ Kept (eachOf (filtered s y e) es) _ (giving-any (eachOf (filtered s y e) es)) (λ l w. assign-same x (list (flat l))))
   effect-same (set-delegation t q r p) =
       provided-giving Kept (isPrincipal s p && isPrincipal s q && all (isShared s) (targets (s .store) t q)) _ (λ n. record { sender = refl; counts = λ p. refl })
   effect-same (delete-delegation t q r p) =

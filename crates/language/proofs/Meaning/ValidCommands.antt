@@ -4,21 +4,21 @@ use mathlib.Core.Option.{none, some}
 use mathlib.Core.List.{List, [], _∷_, map}
 use lib.Dec.{T, T-not}
 use Rattle.language.specs.Text.{if_then_else_, _==_, all, present}
-use Rattle.language.specs.Syntax.{Name, Right, rights, Command, create-principal, change-password, set, append-to, local, foreach, set-delegation, delete-delegation, default-delegator, exit, return}
+use Rattle.language.specs.Syntax.{Name, Right, rights, Command, create-principal, change-password, set, append-to, local, foreach, filtereach, set-delegation, delete-delegation, default-delegator, exit, return}
 use Rattle.language.specs.State.{Element, Value, single, list, Principal, Variable, Assertion, Store, admin, anyone, named, valueIn, put}
 use Rattle.language.specs.Identifiers.{isIdentifier, isName, isString}
 use Rattle.language.specs.Valid.{hasPassword, validOrder, validElement, validAssertion}
 use Rattle.language.specs.Outcomes.{eachOf}
 use Rattle.language.specs.Values.{Session, isShared, isLocal, isDefined, isPrincipal, lookup, asList, listOf}
 use Rattle.language.specs.Expressions.{value}
-use Rattle.language.specs.Commands.{withStore, withLocals, withPrincipals, withVariables, withDelegator, closed, enterAll, withdrawAll, assertionsOn, targets, created, changed, granted, assign, extend, elements, replaced, Effect, effect}
+use Rattle.language.specs.Commands.{withStore, withLocals, withPrincipals, withVariables, withDelegator, closed, enterAll, withdrawAll, assertionsOn, targets, created, changed, granted, assign, extend, elements, replaced, filtered, flat, Effect, effect}
 use Rattle.language.proofs.Parsing.ValidPrograms.{validExpr, validCommand}
 use Rattle.language.proofs.Logic.Tests.{both, and, three, and-three, all-append}
 use Rattle.language.proofs.Logic.Outcomes.{Where, bind-where, if-where}
 use Rattle.language.proofs.Logic.Giving.{Giving, bind-giving, bind-from, provided-giving, eachOf-giving}
 use Rattle.language.proofs.StateText.Shape.{Shape}
 use Rattle.language.proofs.StateText.Clean.{identifier-name}
-use Rattle.language.proofs.Meaning.ValidValues.{holding, Good, IsValid, list-valid, lookup-valid, value-valid, replaced-valid}
+use Rattle.language.proofs.Meaning.ValidValues.{holding, Good, IsValid, list-valid, lookup-valid, value-valid, replaced-valid, filtered-valid, flat-valid}
 use Rattle.language.proofs.Meaning.Adding.{put-all, put-there, changed-keeps, added-keeps}
 use Rattle.language.proofs.Meaning.Stores.{enter-shape, withdraw-shape, closed-shape, delegator-shape, put-shape, changed-shape, on-valid, created-shape}
 
@@ -106,6 +106,13 @@ module _ (s : Session) (g : Good s) where
       (if-where (λ es. T (all validElement es)) (isDefined s y) none (listOf s x) (λ n. tt) (λ n. list-good x)) (λ es m.
       bind-giving (λ fs. T (all validElement fs)) Keeps (eachOf (replaced s y e) es) _
       (eachOf-giving (replaced s y e) validElement validElement (replaced-valid s g y e k) es m) (λ fs r. assign-good x (list fs) (identifier-name x i) r))
+  effect-good (filtereach y x e) h =
+      let (j, i, k) = three (isIdentifier y) (isIdentifier x) (validExpr e) h in
+      bind-from (λ es. T (all validElement es)) Keeps (elements s y x) _
+      (if-where (λ es. T (all validElement es)) (isDefined s y) none (listOf s x) (λ n. tt) (λ n. list-good x)) (λ es m.
+      bind-giving (λ l. T (all (all validElement) l)) Keeps (eachOf (filtered s y e) es) _
+      (eachOf-giving (filtered s y e) validElement (all validElement) (filtered-valid s y e) es m)
+      (λ l r. assign-good x (list (flat l)) (identifier-name x i) (flat-valid l r)))
   effect-good (set-delegation t q r p) h =
       provided-giving Keeps (isPrincipal s p && isPrincipal s q && all (isShared s) (targets (s .store) t q)) _ (λ n.
       let (kp, kq, kx) = three (isPrincipal s p) (isPrincipal s q) (all (isShared s) (targets (s .store) t q)) n in

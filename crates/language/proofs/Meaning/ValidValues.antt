@@ -10,21 +10,21 @@ use lib.Dec.{T, leb, leb→le, le→leb, ltb, nltb→le, lit≤}
 use Rattle.language.specs.Syntax as E
 use Rattle.language.specs.Text.{Text, if_then_else_, _==_, any, all, each, distinct, present}
 use Rattle.language.specs.Bytes.{_is_, _∈_, between, letter, digit, space, newline, foreign, mark, marks, inString, stringByte}
-use Rattle.language.specs.Syntax.{Name, Operand, name, dot, quoted, Binding, Operation, Function, split, concat, arithmetic, Expr, nothing}
+use Rattle.language.specs.Syntax.{Name, Operand, name, dot, quoted, Binding, Operation, Function, split, concat, arithmetic, Comparison, Term, nothing, Expr, term, letIn}
 use Rattle.language.specs.State.{Field, Element, string, fields, Value, single, list, Variable, named, valueIn}
 use Rattle.language.specs.Identifiers.{isIdentifier, isName, isString}
 use Rattle.language.specs.Weight.{limit, valueWeight}
 use Rattle.language.specs.Valid.{validField, validFields, validElement, validValue, validVariable}
-use Rattle.language.specs.Outcomes.{gives, fills, from}
-use Rattle.language.specs.Values.{Session, lookup, asFields, asString, asList, asElement, textOf, operandValue, fieldValue, recordValue}
-use Rattle.language.specs.Functions.{lowerByte, lowercase, cut, onPrices, onStrings, apply}
+use Rattle.language.specs.Outcomes.{Outcome, gives, fills, _>>=_, from}
+use Rattle.language.specs.Values.{Session, isDefined, withName, lookup, asFields, asString, asList, asElement, textOf, operandValue, fieldValue, recordValue}
+use Rattle.language.specs.Functions.{lowerByte, lowercase, cut, onPrices, onStrings, apply, answer, holds, compared}
 use Rattle.language.specs.Prices.{inRange, price, reckoned}
-use Rattle.language.specs.Expressions.{isHeavy, weighed, value}
-use Rattle.language.specs.Commands.{withElement, replaced}
-use Rattle.language.proofs.Parsing.ValidPrograms.{validOperand, validBinding, validExpr}
+use Rattle.language.specs.Expressions.{isHeavy, weighed, termValue, Environment, unbound, boundWith, bind, inside, valueWithin, value}
+use Rattle.language.specs.Commands.{withElement, replaced, leftOf, filtered, flat}
+use Rattle.language.proofs.Parsing.ValidPrograms.{validOperand, validBinding, validTerm, validExpr}
 use Rattle.language.proofs.Logic.Tests.{both, and, and-three, three, all-map, map-all, all-append, all-take, all-drop}
 use Rattle.language.proofs.Logic.Outcomes.{Where, anything, bind-where, if-where, orElse-where, each-where}
-use Rattle.language.proofs.Logic.Giving.{Giving, giving-map, bind-giving, from-giving, bind-from}
+use Rattle.language.proofs.Logic.Giving.{Giving, giving-any, giving-map, bind-giving, from-giving, bind-from, provided-giving}
 use Rattle.language.proofs.StateText.Shape.{Shape}
 use Rattle.language.proofs.Meaning.Prices.{reckoned-in-range, price-string}
 use Rattle.language.proofs.StateText.Clean.{identifier-name}
@@ -125,6 +125,16 @@ apply-valid f v w h k =
     go concat t u i j = all-append stringByte t u i j
     go (arithmetic o) t u i j = prices-valid o t u
 
+-- what a comparison answers
+compared-valid : (c : Comparison) (v w : Value) → Where IsValid (compared c v w)
+compared-valid c v w =
+    bind-where (λ e. Unit {0}) IsValid (asElement v) _ (anything (asElement v)) (λ e h.
+    bind-where (λ d. Unit {0}) IsValid (asElement w) _ (anything (asElement w)) (λ d k. go (holds c e d)))
+  where
+    go : (b : Bool) → IsValid (answer b)
+    go true = tt
+    go false = tt
+
 -- ---- weight
 
 -- a value that may stand: valid, and not too heavy
@@ -161,7 +171,7 @@ module _ (s : Session) (g : Good s) where
       bind-where (λ t. T (isString t)) (λ f. T (validField f)) (asString v) _ (string-valid v k) (λ t l.
       and (isName (b .label)) (isString t) (identifier-name (b .label) x) l))
 
-  record-valid : (bs : List Binding) → T (validExpr (E.fields bs)) → Where IsValid (recordValue s bs)
+  record-valid : (bs : List Binding) → T (validTerm (E.fields bs)) → Where IsValid (recordValue s bs)
   record-valid bs h =
       let (n, all-valid) = both (ltb 0 (length bs)) (all validBinding bs) h in
       bind-where (λ fs. T (all validField fs) × (length fs ≡ length bs)) IsValid (each (fieldValue s) bs) _
@@ -170,32 +180,87 @@ module _ (s : Session) (g : Good s) where
       (λ d. and-three (ltb 0 (length fs)) (all validField fs) (distinct (map (λ f. f .label) fs)) (subst (λ m. T (ltb 0 m)) (sym (r .1)) n) (r .0) d)
       (λ d. tt))
 
-  pub value-fits : (e : Expr) → T (validExpr e) → Giving Fits (value s e)
-  value-fits (E.single o) h = bind-from IsValid Fits (operandValue s o) _ (operand-valid o h) (λ v k. weighed-fits [] v k)
-  value-fits nothing h = (tt, lit≤ tt)
-  value-fits (E.fields bs) h = bind-from IsValid Fits (recordValue s bs) _ (record-valid bs h) (λ v k. weighed-fits [] v k)
-  value-fits (E.tolower o) h =
+  pub term-fits : (t : Term) → T (validTerm t) → Giving Fits (termValue s t)
+  term-fits (E.single o) h = bind-from IsValid Fits (operandValue s o) _ (operand-valid o h) (λ v k. weighed-fits [] v k)
+  term-fits nothing h = (tt, lit≤ tt)
+  term-fits (E.fields bs) h = bind-from IsValid Fits (recordValue s bs) _ (record-valid bs h) (λ v k. weighed-fits [] v k)
+  term-fits (E.tolower o) h =
       bind-from IsValid Fits (operandValue s o) _ (operand-valid o h) (λ v k.
       bind-from IsValid Fits (lowercase v) _ (lowercase-valid v k) (λ r l. weighed-fits (v ∷ []) r l))
-  value-fits (E.call f o p) h =
+  term-fits (E.call f o p) h =
       let (i, j) = both (validOperand o) (validOperand p) h in
       bind-from IsValid Fits (operandValue s o) _ (operand-valid o i) (λ v k.
       bind-from IsValid Fits (operandValue s p) _ (operand-valid p j) (λ w m.
       bind-from IsValid Fits (apply f v w) _ (apply-valid f v w k m) (λ r l. weighed-fits (v ∷ w ∷ []) r l)))
+  term-fits (E.compare c o p) h =
+      let (i, j) = both (validOperand o) (validOperand p) h in
+      bind-from IsValid Fits (operandValue s o) _ (operand-valid o i) (λ v k.
+      bind-from IsValid Fits (operandValue s p) _ (operand-valid p j) (λ w m.
+      bind-from IsValid Fits (compared c v w) _ (compared-valid c v w) (λ r l. weighed-fits (v ∷ w ∷ []) r l)))
+
+-- ---- let: what is bound keeps a session good
+
+pub with-name-good : (s : Session) → Good s → (x : Name) (v : Value) → IsValid v → Good (withName s x v)
+with-name-good s g x v h = record {
+  store-shape = g .store-shape;
+  locals-valid = all-append holding (s .locals) (record { name = x; value = v } ∷ []) (g .locals-valid) (and (validValue v) true h tt);
+  sender-known = g .sender-known;
+}
+
+abbrev pub GoodIn : Environment → Type 0
+GoodIn env = Good (env .session)
+
+bind-good : (env : Environment) → GoodIn env → (x : Name) (v : Value) → IsValid v → Giving GoodIn (bind env x v)
+bind-good env g x v h = go (ltb limit (boundWith env x v))
+  where
+    go : (b : Bool) → Giving GoodIn (if b then fills else gives (record { session = withName (env .session) x v; bound = boundWith env x v }))
+    go true = tt
+    go false = with-name-good (env .session) g x v h
+
+pub inside-good : (env : Environment) → GoodIn env → (x : Name) (o : Outcome Value) → Giving IsValid o
+    → Giving GoodIn (inside env x o)
+inside-good env g x o h =
+    provided-giving GoodIn (not (isDefined (env .session) x)) (o >>= bind env x) (λ n.
+    bind-giving IsValid GoodIn o (bind env x) h (λ v k. bind-good env g x v k))
+
+pub within-fits : (env : Environment) → GoodIn env → (e : Expr) → T (validExpr e) → Giving Fits (valueWithin env e)
+within-fits env g (term t) h = term-fits (env .session) g t h
+within-fits env g (letIn x e f) h =
+    let (i, j, k) = three (isIdentifier x) (validExpr e) (validExpr f) h in
+    bind-giving GoodIn Fits (inside env x (valueWithin env e)) _
+    (inside-good env g x (valueWithin env e) (giving-map Fits IsValid (valueWithin env e) (λ v m. m .0) (within-fits env g e j)))
+    (λ inner m. within-fits inner m f k)
+
+module _ (s : Session) (g : Good s) where
+  pub value-fits : (e : Expr) → T (validExpr e) → Giving Fits (value s e)
+  value-fits e h = within-fits (unbound s) g e h
 
   pub value-valid : (e : Expr) → T (validExpr e) → Giving IsValid (value s e)
   value-valid e h = giving-map Fits IsValid (value s e) (λ v k. k .0) (value-fits e h)
 
--- foreach's y is the last of the locals
+  -- the y of foreach and of filtereach is the last of the locals
+  pub element-good : (y : Name) (a : Element) → T (validElement a) → Good (withElement s y a)
+  element-good y a k = with-name-good s g y (single a) k
+
 pub replaced-valid : (s : Session) → Good s → (y : Name) (e : Expr) → T (validExpr e) → (a : Element) → T (validElement a)
     → Giving (λ b. T (validElement b)) (replaced s y e a)
 replaced-valid s g y e h a k =
-    bind-giving IsValid (λ b. T (validElement b)) (value (withElement s y a) e) (λ v. from (asElement v)) (value-valid (withElement s y a) inner-good e h)
+    bind-giving IsValid (λ b. T (validElement b)) (value (withElement s y a) e) (λ v. from (asElement v)) (value-valid (withElement s y a) (element-good s g y a k) e h)
     (λ v i. from-giving (λ b. T (validElement b)) (asElement v) (element-valid v i))
+
+-- what filtereach leaves of a valid element
+pub filtered-valid : (s : Session) (y : Name) (e : Expr) (a : Element) → T (validElement a) → Giving (λ l. T (all validElement l)) (filtered s y e a)
+filtered-valid s y e a k =
+    bind-giving (λ v. Unit {0}) (λ l. T (all validElement l)) (value (withElement s y a) e) (λ v. gives (leftOf a v)) (giving-any (value (withElement s y a) e)) (λ v i. go v)
   where
-    inner-good : Good (withElement s y a)
-    inner-good = record {
-      store-shape = g .store-shape;
-      locals-valid = all-append holding (s .locals) (record { name = y; value = single a } ∷ []) (g .locals-valid) (and (validElement a) true k tt);
-      sender-known = g .sender-known;
-    }
+    go : (v : Value) → T (all validElement (leftOf a v))
+    go (single (string [])) = and (validElement a) true k tt
+    go (single (string (b ∷ t))) = tt
+    go (single (fields fs)) = tt
+    go (list es) = tt
+
+pub flat-valid : (l : List (List Element)) → T (all (all validElement) l) → T (all validElement (flat l))
+flat-valid [] h = tt
+flat-valid (es ∷ rest) h =
+    let (i, j) = both (all validElement es) (all (all validElement) rest) h in
+    all-append validElement es (flat rest) i (flat-valid rest j)

@@ -9,14 +9,14 @@ use mathlib.Core.List.{List, [], _∷_, _++_, map}
 use lib.ListN.{length, length-append}
 use lib.Dec.{T, ltb, lit≤}
 use Rattle.language.specs.Text.{Text, bytes, all, sum, distinct}
-use Rattle.language.specs.Syntax.{Command, create-principal, change-password, set, append-to, local, foreach, set-delegation, delete-delegation, default-delegator, exit, return, Program}
+use Rattle.language.specs.Syntax.{Command, create-principal, change-password, set, append-to, local, foreach, filtereach, set-delegation, delete-delegation, default-delegator, exit, return, Program}
 use Rattle.language.specs.State.{Field, Element, string, fields, Value, single, list, Store}
 use Rattle.language.specs.Weight.{elementWeight, valueWeight}
 use Rattle.language.specs.Output.{quote, commas, fieldJson, elementJson, valueJson, returning}
 use Rattle.language.specs.Encode.{bufferSize}
 use Rattle.language.specs.Identifiers.{isName, isString}
 use Rattle.language.specs.Valid.{validField, validElement, validStore}
-use Rattle.language.specs.Commands.{Refusal, elements, replaced, targets, Effect, effect, denied, Step, refused, went, FULL, DENIED, FAILED, step}
+use Rattle.language.specs.Commands.{Refusal, elements, replaced, filtered, targets, Effect, effect, denied, Step, refused, went, FULL, DENIED, FAILED, step}
 use Rattle.language.specs.Outcomes.{eachOf}
 use Rattle.language.specs.Values.{Session, isPrincipal, isDefined, isShared, listOf}
 use Rattle.language.specs.Expressions.{value}
@@ -93,6 +93,9 @@ inner-line s (local x e) h =
 inner-line s (foreach y x e) h =
     bind-from (λ es. Unit {0}) (Short (foreach y x e)) (elements s y x) _ (anything (elements s y x)) (λ es k.
     bind-giving (λ fs. Unit {0}) (Short (foreach y x e)) (eachOf (replaced s y e) es) _ (giving-any (eachOf (replaced s y e) es)) (λ fs k. lit≤ tt))
+inner-line s (filtereach y x e) h =
+    bind-from (λ es. Unit {0}) (Short (filtereach y x e)) (elements s y x) _ (anything (elements s y x)) (λ es k.
+    bind-giving (λ l. Unit {0}) (Short (filtereach y x e)) (eachOf (filtered s y e) es) _ (giving-any (eachOf (filtered s y e) es)) (λ l k. lit≤ tt))
 inner-line s (set-delegation t q r p) h =
     provided-giving (Short (set-delegation t q r p)) (isPrincipal s p && isPrincipal s q && all (isShared s) (targets (s .store) t q)) _ (λ k. lit≤ tt)
 inner-line s (delete-delegation t q r p) h =
@@ -113,6 +116,7 @@ ending-line s g (set x e) h k = absurd k
 ending-line s g (append-to x e) h k = absurd k
 ending-line s g (local x e) h k = absurd k
 ending-line s g (foreach y x e) h k = absurd k
+ending-line s g (filtereach y x e) h k = absurd k
 ending-line s g (set-delegation t q r p) h k = absurd k
 ending-line s g (delete-delegation t q r p) h k = absurd k
 ending-line s g (default-delegator p) h k = absurd k

@@ -8,11 +8,11 @@ use lib.ListN.{length}
 use lib.Dec.{T, ltb, lt→ltb, lit≤}
 use Rattle.language.specs.Text.{bytes, all}
 use Rattle.language.specs.Tokens.{Token, sign, ident, text, wrong}
-use Rattle.language.specs.Syntax.{Name, Right, read, write, append, delegate, Operand, name, dot, quoted, Binding, Function, Expr, single, nothing, fields, tolower, call}
-use Rattle.language.specs.Syntax.{Target, every, only, Command, create-principal, change-password, set, append-to, local, foreach, set-delegation, delete-delegation, default-delegator, exit, return}
+use Rattle.language.specs.Syntax.{Name, Right, read, write, append, delegate, Operand, name, dot, quoted, Binding, Function, Comparison, Term, single, nothing, fields, tolower, call, compare, Expr, term, letIn}
+use Rattle.language.specs.Syntax.{Target, every, only, Command, create-principal, change-password, set, append-to, local, foreach, filtereach, set-delegation, delete-delegation, default-delegator, exit, return}
 use Rattle.language.specs.Identifiers.{isIdentifier, isString}
-use Rattle.language.specs.Grammar.{Reader, _>>=_, _>>_, anyOperand, anyFields, functionOf, ahead, anyFunction, anyCall, anyExpression, anyRight, anyTarget, setForm, anyCommand, anyEnding, anyLogin, spent, whole}
-use Rattle.language.proofs.Parsing.ValidPrograms.{validOperand, validBinding, validExpr, validTarget, validCommand, isEnding}
+use Rattle.language.specs.Grammar.{Reader, _>>=_, _>>_, anyOperand, anyFields, functionOf, ahead, anyFunction, comparisonOf, anyComparison, anyCall, anyTerm, anyLets, anyExpression, anyRight, anyTarget, setForm, anyCommand, anyEnding, anyLogin, spent, whole}
+use Rattle.language.proofs.Parsing.ValidPrograms.{validOperand, validBinding, validTerm, validExpr, validTarget, validCommand, isEnding}
 use Rattle.language.proofs.Logic.Tests.{both, and, and-three}
 use Rattle.language.proofs.Logic.Outcomes.{Where}
 use Rattle.language.proofs.Parsing.Lexing.{validToken, isWordToken, room, room-after}
@@ -33,7 +33,7 @@ then-operand : {B : Type 0} {Q : B → Type 0} {least : B → ℕ} {credit : ℕ
 then-operand h = bind-reads operand-reads h
 
 abbrev ValidFields : List Binding → Type 0
-ValidFields bs = T (validExpr (fields bs))
+ValidFields bs = T (validTerm (fields bs))
 
 fields-reads : (n : ℕ) → Reads ValidFields (λ bs. 0) false false 0 (anyFields n)
 fields-reads zero = record { reads = λ ts v. tt }
@@ -50,6 +50,9 @@ fields-reads (suc n) = go (fields-reads n)
         (then-the (bytes "}") (give-reads (record { label = x; operand = o } ∷ []) (one x o i j [] tt) zero-le))
         (then-the (bytes ",") (bind-reads ih (λ bs h. give-reads (record { label = x; operand = o } ∷ bs)
         (one x o i j bs (both (ltb 0 (length bs)) (all validBinding bs) h .1)) zero-le))))))
+
+abbrev ValidTerm : Term → Type 0
+ValidTerm t = T (validTerm t)
 
 abbrev ValidExpr : Expr → Type 0
 ValidExpr e = T (validExpr e)
@@ -71,14 +74,33 @@ function-reads = record { reads = go }
     go (text u ∷ ts) v = tt
     go (wrong ∷ ts) v = tt
 
-call-reads : Reads ValidExpr (λ e. 1) false false 0 anyCall
+comparison-reads : Reads Any (λ c. 0) false false 0 anyComparison
+comparison-reads = record { reads = go }
+  where
+    Read : List Token → Comparison × List Token → Type 0
+    Read ts r = Any (r .0) × T (all validToken (r .1)) × (0 + room false (r .1) ≤ room false ts + 0)
+
+    go : (ts : List Token) → T (all validToken ts) → Where (Read ts) (anyComparison ts)
+    go [] v = tt
+    go (sign u ∷ ts) v = found (comparisonOf u)
+      where
+        found : (o : Option Comparison) → Where (Read (sign u ∷ ts)) (ahead o ts)
+        found none = tt
+        found (some c) = (tt, v, omega (arith, room-after (isWordToken (sign u)) ts .0))
+    go (ident u ∷ ts) v = tt
+    go (text u ∷ ts) v = tt
+    go (wrong ∷ ts) v = tt
+
+call-reads : Reads ValidTerm (λ e. 1) false false 0 anyCall
 call-reads =
     choice-reads (then-the (bytes "tolower") (then-the (bytes "(") (then-operand (λ o h. then-the (bytes ")") (give-reads (tolower o) h (lit≤ tt))))))
-    (bind-reads function-reads (λ f u. then-the (bytes "(") (then-operand (λ o h. then-the (bytes ",") (then-operand (λ p k. then-the (bytes ")")
+    (choice-reads (bind-reads function-reads (λ f u. then-the (bytes "(") (then-operand (λ o h. then-the (bytes ",") (then-operand (λ p k. then-the (bytes ")")
     (give-reads (call f o p) (and (validOperand o) (validOperand p) h k) (lit≤ tt))))))))
+    (bind-reads comparison-reads (λ c u. then-the (bytes "(") (then-operand (λ o h. then-the (bytes ",") (then-operand (λ p k. then-the (bytes ")")
+    (give-reads (compare c o p) (and (validOperand o) (validOperand p) h k) (lit≤ tt)))))))))
 
-expression-reads : Reads ValidExpr (λ e. 1) false false 0 anyExpression
-expression-reads =
+term-reads : Reads ValidTerm (λ e. 1) false false 0 anyTerm
+term-reads =
     choice-reads (then-the (bytes "[]") (give-reads nothing tt (lit≤ tt)))
     (choice-reads (then-the (bytes "{") (bind-reads all-fields (λ bs h. give-reads (fields bs) h (lit≤ tt))))
     (choice-reads call-reads
@@ -86,6 +108,19 @@ expression-reads =
   where
     all-fields : Reads ValidFields (λ bs. 0) false false 0 (λ ts. anyFields (length ts) ts)
     all-fields = record { reads = λ ts v. fields-reads (length ts) .reads ts v }
+
+lets-reads : (n : ℕ) → Reads ValidExpr (λ e. 1) false false 0 (anyLets n)
+lets-reads zero = record { reads = λ ts v. tt }
+lets-reads (suc n) = go (lets-reads n)
+  where
+    go : Reads ValidExpr (λ e. 1) false false 0 (anyLets n) → Reads ValidExpr (λ e. 1) false false 0 (anyLets (suc n))
+    go ih =
+        choice-reads (then-the (bytes "let") (then-name (λ x i. then-the (bytes "=") (bind-reads ih (λ e h. then-the (bytes "in") (bind-reads ih (λ f k.
+        give-reads (letIn x e f) (and-three (isIdentifier x) (validExpr e) (validExpr f) i h k) (lit≤ tt))))))))
+        (bind-reads term-reads (λ t h. give-reads (term t) h (lit≤ tt)))
+
+expression-reads : Reads ValidExpr (λ e. 1) false false 0 anyExpression
+expression-reads = record { reads = λ ts v. lets-reads (length ts) .reads ts v }
 
 -- ---- commands
 
@@ -97,6 +132,7 @@ leastRoom (set x e) = 7
 leastRoom (append-to x e) = 14
 leastRoom (local x e) = 8
 leastRoom (foreach y x e) = 23
+leastRoom (filtereach y x e) = 19
 leastRoom (set-delegation t q r p) = 22
 leastRoom (delete-delegation t q r p) = 25
 leastRoom (default-delegator p) = 18
@@ -148,12 +184,14 @@ command-reads =
     give-reads (local x e) (and (isIdentifier x) (validExpr e) i h, tt) (lit≤ tt))))))
     (choice-reads (then-the (bytes "foreach") (then-name (λ y j. then-the (bytes "in") (then-name (λ x i. then-the (bytes "replacewith") (then-expression (λ e h.
     give-reads (foreach y x e) (and-three (isIdentifier y) (isIdentifier x) (validExpr e) j i h, tt) (lit≤ tt))))))))
+    (choice-reads (then-the (bytes "filtereach") (then-name (λ y j. then-the (bytes "in") (then-name (λ x i. then-the (bytes "with") (then-expression (λ e h.
+    give-reads (filtereach y x e) (and-three (isIdentifier y) (isIdentifier x) (validExpr e) j i h, tt) (lit≤ tt))))))))
     (choice-reads (then-the (bytes "set") (then-the (bytes "delegation") (then-target (λ t k. then-name (λ q j. then-right (λ r. then-the (bytes "->") (then-name (λ p i.
     give-reads (set-delegation t q r p) (and-three (validTarget t) (isIdentifier q) (isIdentifier p) k j i, tt) (lit≤ tt)))))))))
     (choice-reads (then-the (bytes "delete") (then-the (bytes "delegation") (then-target (λ t k. then-name (λ q j. then-right (λ r. then-the (bytes "->") (then-name (λ p i.
     give-reads (delete-delegation t q r p) (and-three (validTarget t) (isIdentifier q) (isIdentifier p) k j i, tt) (lit≤ tt)))))))))
     (then-the (bytes "default") (then-the (bytes "delegator") (then-the (bytes "=") (then-name (λ p i.
-    give-reads (default-delegator p) (i, tt) (lit≤ tt)))))))))))))
+    give-reads (default-delegator p) (i, tt) (lit≤ tt))))))))))))))
 
 pub ending-reads : Reads Ending leastRoom false false 0 anyEnding
 ending-reads =

@@ -6,7 +6,7 @@ use lib.Dec.{ltb}
 use Rattle.language.specs.Text.{all}
 use Rattle.language.specs.Identifiers.{isString, isIdentifier}
 use Rattle.language.specs.Syntax as E
-use Rattle.language.specs.Syntax.{Binding, Operand, name, dot, quoted, Expr, nothing, Target, every, only, Command, create-principal, change-password, set, append-to, local, foreach, set-delegation, delete-delegation, default-delegator, exit, return, Program}
+use Rattle.language.specs.Syntax.{Binding, Operand, name, dot, quoted, Term, nothing, Expr, term, letIn, Target, every, only, Command, create-principal, change-password, set, append-to, local, foreach, filtereach, set-delegation, delete-delegation, default-delegator, exit, return, Program}
 
 abbrev pub validOperand : Operand → Bool
 validOperand (name x) = isIdentifier x
@@ -16,12 +16,17 @@ validOperand (quoted t) = isString t
 abbrev pub validBinding : Binding → Bool
 validBinding b = isIdentifier (b .label) && validOperand (b .operand)
 
+abbrev pub validTerm : Term → Bool
+validTerm (E.single o) = validOperand o
+validTerm nothing = true
+validTerm (E.fields bs) = ltb 0 (length bs) && all validBinding bs
+validTerm (E.tolower o) = validOperand o
+validTerm (E.call f o p) = validOperand o && validOperand p
+validTerm (E.compare c o p) = validOperand o && validOperand p
+
 abbrev pub validExpr : Expr → Bool
-validExpr (E.single o) = validOperand o
-validExpr nothing = true
-validExpr (E.fields bs) = ltb 0 (length bs) && all validBinding bs
-validExpr (E.tolower o) = validOperand o
-validExpr (E.call f o p) = validOperand o && validOperand p
+validExpr (term t) = validTerm t
+validExpr (letIn x e f) = isIdentifier x && validExpr e && validExpr f
 
 abbrev pub validTarget : Target → Bool
 validTarget every = true
@@ -34,6 +39,7 @@ validCommand (set x e) = isIdentifier x && validExpr e
 validCommand (append-to x e) = isIdentifier x && validExpr e
 validCommand (local x e) = isIdentifier x && validExpr e
 validCommand (foreach y x e) = isIdentifier y && isIdentifier x && validExpr e
+validCommand (filtereach y x e) = isIdentifier y && isIdentifier x && validExpr e
 validCommand (set-delegation t q r p) = validTarget t && isIdentifier q && isIdentifier p
 validCommand (delete-delegation t q r p) = validTarget t && isIdentifier q && isIdentifier p
 validCommand (default-delegator p) = isIdentifier p
@@ -47,6 +53,7 @@ isEnding (set x e) = false
 isEnding (append-to x e) = false
 isEnding (local x e) = false
 isEnding (foreach y x e) = false
+isEnding (filtereach y x e) = false
 isEnding (set-delegation t q r p) = false
 isEnding (delete-delegation t q r p) = false
 isEnding (default-delegator p) = false
