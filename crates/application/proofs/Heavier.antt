@@ -3,39 +3,26 @@
 use mathlib.Core.Path.{_≡_, refl, ap, subst, _∙_}
 use Prim.Native.Nat.{_+_, _-_, _≤_, _<_}
 use native.Mathlib.Omega.{arith}
-use mathlib.Core.Bool.{Bool, true, false, _||_}
+use mathlib.Core.Bool.{Bool, false, _||_}
 use mathlib.Core.Option.{Option, none, some}
-use mathlib.Core.List.{List, [], _∷_, _++_, map}
+use mathlib.Core.List.{[], _∷_, _++_, map}
 use lib.IntN.{ℤ}
 use lib.Dec.{T}
 use lib.ListN.{length, length-append, length-map, take, drop, take-append-drop}
-use borrow.Author.Tests.{lt-ltb, le-ltb}
-use Rattle.language.specs.Text.{Text, if_then_else_, any}
+use borrow.Author.Tests.{le-ltb}
+use Rattle.language.specs.Text.{Text, any}
 use Rattle.language.specs.Syntax.{Operation, Function, split, concat, arithmetic}
 use Rattle.language.specs.State.{Value, single, string}
 use Rattle.language.specs.Weight.{limit, valueWeight}
-use Rattle.language.specs.Outcomes.{Outcome, gives, fails, fills}
+use Rattle.language.specs.Outcomes.{gives, fails, fills}
 use Rattle.language.specs.Prices.{inRange, priceText, price, reckoned}
 use Rattle.language.specs.Functions.{lowerByte, cut}
 use Rattle.language.specs.Expressions.{isHeavy, weighed}
-use Rattle.language.proofs.Logic.Tests.{or-true}
 use Rattle.language.proofs.Logic.Outcomes.{Where}
 use Rattle.language.proofs.Meaning.Prices.{price-length, price-in-range, price-is-text, reckoned-in-range}
+use Rattle.evaluated.proofs.Weighing as Weighing
+use Rattle.evaluated.proofs.Weighing.{result-heavy, argument-heavy, all-light, both-light}
 use Rattle.application.specs.Applied.{loweredTo, appliedTo}
-
-module _ (vs : List Value) (v : Value) where
-  -- too heavy by the result, or by an argument
-  result-heavy : limit < valueWeight v → weighed vs v ≡ fills
-  result-heavy h = ap (λ (b : Bool). if_then_else_ {A = Outcome Value} (b || any isHeavy vs) fills (gives v)) (lt-ltb limit (valueWeight v) h)
-
-  argument-heavy : any isHeavy vs ≡ true → weighed vs v ≡ fills
-  argument-heavy h = ap (λ (b : Bool). if_then_else_ {A = Outcome Value} b fills (gives v)) (ap (λ (b : Bool). isHeavy v || b) h ∙ or-true (isHeavy v))
-
-  all-light : valueWeight v ≤ limit → any isHeavy vs ≡ false → weighed vs v ≡ gives v
-  all-light h k = λ i. if_then_else_ {A = Outcome Value} (le-ltb limit (valueWeight v) h i || k i) fills (gives v)
-
-light-string : (t : Text) → length t ≤ limit → isHeavy (single (string t)) ≡ false
-light-string t h = le-ltb limit (length t) h
 
 -- ---- tolower
 
@@ -46,7 +33,7 @@ module _ (t : Text) where
   pub lower-light : length t ≤ limit → loweredTo (some t) ≡ gives (single (string (map lowerByte t)))
   lower-light h =
       all-light (single (string t) ∷ []) (single (string (map lowerByte t))) (omega (arith, h, length-map t lowerByte))
-      (ap (λ (b : Bool). b || false) (light-string t h))
+      (ap (λ (b : Bool). b || false) (le-ltb limit (length t) h))
 
 -- ---- two arguments
 
@@ -56,12 +43,10 @@ no-second f (some t) = refl
 
 module _ (t u : Text) where
   pub second-heavy : (v : Value) → limit < length u → weighed (single (string t) ∷ single (string u) ∷ []) v ≡ fills
-  second-heavy v h =
-      argument-heavy (single (string t) ∷ single (string u) ∷ []) v
-      (ap (λ (b : Bool). isHeavy (single (string t)) || (b || false)) (lt-ltb limit (length u) h) ∙ or-true (isHeavy (single (string t))))
+  second-heavy v h = argument-heavy (single (string t) ∷ single (string u) ∷ []) v (Weighing.second-heavy (single (string t)) (single (string u)) h)
 
   light-arguments : length t ≤ limit → length u ≤ limit → any isHeavy (single (string t) ∷ single (string u) ∷ []) ≡ false
-  light-arguments h k = λ i. light-string t h i || (light-string u k i || false)
+  light-arguments h k = both-light (single (string t)) (single (string u)) h k
 
   -- split: the parts are as long as the text
   pub cut-weighs : valueWeight (cut t (length u)) ≡ length t + 8

@@ -9,7 +9,7 @@ use native.Mathlib.Omega.{arith}
 use Rattle.language.specs.Text.{Text, bytes, _==_, _>>=_}
 use Rattle.language.specs.Tokens.{Token, sign, ident}
 use Rattle.language.specs.Syntax.{Name, Expr, Command, set, set-delegation, exit, return}
-use Rattle.language.specs.Grammar.{the, anyExpression, createForm, changeForm, appendForm, localForm, foreachForm, deleteDelegationForm, anyCommand, anyEnding}
+use Rattle.language.specs.Grammar.{the, anyExpression, createForm, changeForm, appendForm, localForm, foreachForm, filtereachForm, deleteDelegationForm, anyCommand, anyEnding}
 use Rattle.tokens.specs.Readers.{anySign}
 use Rattle.forms.specs.Forms.{ofExpr, assignForm, delegationForm}
 use Rattle.command_readers.specs.Commands.{CommandPlaced, aboutPrincipals}
@@ -44,6 +44,9 @@ module _ (us : List Token) where
   pub foreach-is : anyCommand (sign (bytes "foreach") ∷ us) ≡ foreachForm (sign (bytes "foreach") ∷ us)
   foreach-is = orElse-none (foreachForm (sign (bytes "foreach") ∷ us))
 
+  pub filtereach-is : anyCommand (sign (bytes "filtereach") ∷ us) ≡ filtereachForm (sign (bytes "filtereach") ∷ us)
+  filtereach-is = orElse-none (filtereachForm (sign (bytes "filtereach") ∷ us))
+
   -- the two commands that start with `set`
   pub set-is : (x : Name) → anyCommand (sign (bytes "set") ∷ ident x ∷ us) ≡ assignForm (bytes "=") set (ident x ∷ us)
   set-is x = orElse-none (assignForm (bytes "=") set (ident x ∷ us))
@@ -65,6 +68,7 @@ no-sign-command ts e =
       sign-none (bytes "append") ts e,
       sign-none (bytes "local") ts e,
       sign-none (bytes "foreach") ts e,
+      sign-none (bytes "filtereach") ts e,
       sign-none (bytes "delete") ts e,
       sign-none (bytes "default") ts e,
     )
@@ -83,8 +87,9 @@ module _ (w : Text) (us : List Token) where
       → (w == bytes "append") ≡ false
       → (w == bytes "local") ≡ false
       → (w == bytes "foreach") ≡ false
+      → (w == bytes "filtereach") ≡ false
       → anyCommand (sign w ∷ us) ≡ aboutPrincipals (sign w ∷ us)
-  principals-only s a l f = rw (s, a, l, f)
+  principals-only s a l f h = rw (s, a, l, f, h)
 
 -- ---- endings
 module _ (ts : List Token) where

@@ -16,7 +16,7 @@ use Rattle.command_readers.specs.declared.Command.the-variants.{Administ
 use Rattle.command_readers.specs.declared.Administration.{Administration}
 use Rattle.command_readers.specs.declared.Administration.the-variants.{CreatePrincipal, ChangePassword, SetDelegation, DeleteDelegation, DefaultDelegator, Exit}
 use Rattle.command_readers.specs.declared.VariableCommand.{VariableCommand}
-use Rattle.command_readers.specs.declared.VariableCommand.the-variants.{Set, Append, Local, Foreach, Return}
+use Rattle.command_readers.specs.declared.VariableCommand.the-variants.{Set, Append, Local, Foreach, Filtereach, Return}
 use Rattle.command_readers.specs.declared.CommandRead.{CommandRead}
 use Rattle.command_readers.specs.declared.CommandRead.the-variants as CommandIs
 use Rattle.syntax.specs.Values.{exprMeant, ExprWithin}
@@ -35,6 +35,7 @@ variableMeant t (Set x e) = exprMeant t e >>= λ v. some (Syntax.set (part t x) 
 variableMeant t (Append x e) = exprMeant t e >>= λ v. some (Syntax.append-to (part t x) v)
 variableMeant t (Local x e) = exprMeant t e >>= λ v. some (Syntax.local (part t x) v)
 variableMeant t (Foreach y x e) = exprMeant t e >>= λ v. some (Syntax.foreach (part t y) (part t x) v)
+variableMeant t (Filtereach y x e) = exprMeant t e >>= λ v. some (Syntax.filtereach (part t y) (part t x) v)
 variableMeant t (Return e) = exprMeant t e >>= λ v. some (Syntax.return v)
 
 abbrev pub commandMeant : Text → Command → Option Syntax.Command
@@ -55,6 +56,7 @@ VariableWithin t (Set x e) = Within t x × ExprWithin t e
 VariableWithin t (Append x e) = Within t x × ExprWithin t e
 VariableWithin t (Local x e) = Within t x × ExprWithin t e
 VariableWithin t (Foreach y x e) = Within t y × Within t x × ExprWithin t e
+VariableWithin t (Filtereach y x e) = Within t y × Within t x × ExprWithin t e
 VariableWithin t (Return e) = ExprWithin t e
 
 abbrev pub CommandWithin : Text → Command → Type 0

@@ -2,6 +2,7 @@
 use forms::AccountRead;
 use forms::AssignRead;
 use forms::DelegationRead;
+use forms::EachRead;
 use forms::Right;
 use forms::Target;
 use syntax::Expr;
@@ -16,7 +17,7 @@ ghost use mathlib.Core.List.{_∷_};
 ghost use lib.ListN.{length, drop};
 ghost use Rattle.language.specs.Text.{bytes};
 ghost use Rattle.language.specs.Tokens.{lex, sign};
-ghost use Rattle.language.specs.Grammar.{createForm, changeForm, appendForm, localForm, foreachForm, deleteDelegationForm, delegatorForm, anyCommand, anyEnding};
+ghost use Rattle.language.specs.Grammar.{createForm, changeForm, appendForm, localForm, foreachForm, filtereachForm, deleteDelegationForm, delegatorForm, anyCommand, anyEnding};
 ghost use Rattle.text.specs.Meaning.{part, Within};
 ghost use Rattle.command_readers.specs.Commands.{commandReadMeant, CommandPlaced, aboutPrincipals};
 
@@ -36,6 +37,7 @@ pub enum VariableCommand {
     Append(Span, Expr),
     Local(Span, Expr),
     Foreach(Span, Span, Expr),
+    Filtereach(Span, Span, Expr),
     Return(Expr),
 }
 
@@ -157,19 +159,24 @@ fn foreach_at(text: &[u8], at: usize) -> CommandRead
     ensures meant { λ r. ⌜ commandReadMeant (now (text .entry)) r ≡ foreachForm (sign (bytes "foreach") ∷ lex (drop at (now (text .entry)))) ⌝ }
     ensures placed { λ r. ⌜ CommandPlaced (now (text .entry)) at r ⌝ }
 {
-    let name = tokens::reader::name_at(text, at);
-    let Found::At(y, a) = name else {
-        return CommandRead::No;
-    };
-    let key = tokens::reader::expect(text, a, b"in");
-    let Next::At(b) = key else {
-        return CommandRead::No;
-    };
-    let assign = forms::assign_at(text, b, b"replacewith");
-    let AssignRead::Found(x, e, n) = assign else {
+    let each = forms::each_at(text, at, b"replacewith");
+    let EachRead::Found(y, x, e, n) = each else {
         return CommandRead::No;
     };
     CommandRead::Found(Command::Variable(VariableCommand::Foreach(y, x, e)), n)
+}
+
+// filtereach y in x with e
+fn filtereach_at(text: &[u8], at: usize) -> CommandRead
+    requires { ⌜ at ≤ length (now text) ⌝ }
+    ensures meant { λ r. ⌜ commandReadMeant (now (text .entry)) r ≡ filtereachForm (sign (bytes "filtereach") ∷ lex (drop at (now (text .entry)))) ⌝ }
+    ensures placed { λ r. ⌜ CommandPlaced (now (text .entry)) at r ⌝ }
+{
+    let each = forms::each_at(text, at, b"with");
+    let EachRead::Found(y, x, e, n) = each else {
+        return CommandRead::No;
+    };
+    CommandRead::Found(Command::Variable(VariableCommand::Filtereach(y, x, e)), n)
 }
 
 // delete delegation t q right -> p
@@ -256,6 +263,9 @@ pub fn command_at(text: &[u8], at: usize) -> CommandRead
     }
     if tokens::reader::is_sign(text, s, b"foreach") {
         return foreach_at(text, n);
+    }
+    if tokens::reader::is_sign(text, s, b"filtereach") {
+        return filtereach_at(text, n);
     }
     principal_command(text, s, n)
 }

@@ -7,13 +7,13 @@ use mathlib.Core.List.{List, [], _∷_, append-nil}
 use lib.Dec.{T, ltb}
 use lib.ListN.{length, drop, length-drop}
 use Rattle.language.specs.Text.{Text, all, joined, front, any, distinct}
-use Rattle.language.specs.State.{Field}
+use Rattle.language.specs.State.{labels, Field}
 use Rattle.language.specs.Values.{textOf}
 use Rattle.language.specs.Encode.{fieldText}
 use Rattle.language.specs.Valid.{validField}
 use Rattle.language.specs.Functions.{sameField}
 use Rattle.language.proofs.Logic.Tests.{three}
-use Rattle.language.proofs.Meaning.SameFields.{labels, isText, held-text}
+use Rattle.language.proofs.Meaning.SameFields.{isText, held-text}
 use Rattle.text.specs.Meaning.{isNot}
 use Rattle.values.specs.Places.{FieldAt, FieldsAt}
 use Rattle.values.specs.Answers.{EndsOf, textAt}

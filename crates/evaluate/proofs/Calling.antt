@@ -14,7 +14,7 @@ use Rattle.language.specs.State.{string, fields, Value, single, list}
 use Rattle.language.specs.Outcomes.{_>>=_, from}
 use Rattle.language.specs.Values.{Session, asString, operandValue, lookup}
 use Rattle.language.specs.Functions.{lowercase, apply}
-use Rattle.language.specs.Expressions.{weighed, value}
+use Rattle.language.specs.Expressions.{weighed, termValue}
 use Rattle.language.proofs.Parsing.ValidPrograms.{validOperand}
 use Rattle.store.specs.Held.{places}
 use Rattle.text.specs.Meaning.{part}
@@ -24,7 +24,7 @@ use Rattle.syntax.specs.Values.{operandMeant}
 use Rattle.evaluated.specs.Results.{stringIn, MaybeString}
 use Rattle.application.specs.Applied.{loweredTo, appliedTo}
 use Rattle.application.proofs.Heavier.{no-second}
-use Rattle.evaluate.specs.Scopes.{Scope, SourceOf}
+use Rattle.scopes.specs.Scopes.{Scope, SourceOf}
 use Rattle.evaluate.proofs.Found.{string-read, field-read, dot-string, read-short}
 
 -- ---- by the strings
@@ -34,7 +34,7 @@ lower-value (single (string t)) = refl
 lower-value (single (fields fs)) = refl
 lower-value (list es) = refl
 
-pub lower-is : (s : Session) (o : Operand) → value s (tolower o) ≡ loweredTo (stringIn (operandValue s o))
+pub lower-is : (s : Session) (o : Operand) → termValue s (tolower o) ≡ loweredTo (stringIn (operandValue s o))
 lower-is s o = go (operandValue s o)
   where
     go : (p : Option Value) → (from p >>= λ v. from (lowercase v) >>= weighed (v ∷ [])) ≡ loweredTo (stringIn p)
@@ -48,7 +48,7 @@ call-value f (single (string t)) (list ds) = refl
 call-value f (single (fields fs)) w = refl
 call-value f (list es) w = refl
 
-pub call-is : (s : Session) (f : Function) (o p : Operand) → value s (call f o p) ≡ appliedTo f (stringIn (operandValue s o)) (stringIn (operandValue s p))
+pub call-is : (s : Session) (f : Function) (o p : Operand) → termValue s (call f o p) ≡ appliedTo f (stringIn (operandValue s o)) (stringIn (operandValue s p))
 call-is s f o p = go (operandValue s o) (operandValue s p)
   where
     go : (a b : Option Value) → (from a >>= λ v. from b >>= λ w. from (apply f v w) >>= weighed (v ∷ w ∷ [])) ≡ appliedTo f (stringIn a) (stringIn b)

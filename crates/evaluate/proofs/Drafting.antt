@@ -12,7 +12,7 @@ use lib.Seq.{length-take-le, drop-append-le}
 use Rattle.language.specs.Text.{Text, all, sum, member, distinct}
 use Rattle.language.specs.Syntax.{Name}
 use Rattle.language.specs.Identifiers.{isName, isString}
-use Rattle.language.specs.State.{Field}
+use Rattle.language.specs.State.{labels, Field}
 use Rattle.language.specs.Encode.{fieldText}
 use Rattle.language.specs.Valid.{validField}
 use Rattle.language.proofs.Logic.Tests.{both, and, all-append, distinct-last}
@@ -27,7 +27,7 @@ use Rattle.values.specs.declared.Found.{Found}
 use Rattle.value_text.proofs.Pieces.{written-take, written-length}
 use Rattle.values.proofs.Texts.{record-field}
 use Rattle.values.proofs.Lines.{field-length}
-use Rattle.evaluate.specs.Drafts.{labels, spelling, Drafted, Extends}
+use Rattle.evaluate.specs.Drafts.{spelling, Drafted, Extends}
 use Rattle.evaluate.specs.declared.draft.Added.{Added}
 use Rattle.evaluate.specs.declared.draft.Draft.{Draft}
 use Rattle.evaluate.proofs.Labels.{row-added}

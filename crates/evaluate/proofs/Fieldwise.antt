@@ -6,14 +6,14 @@ use Prim.Native.Nat.{ℕ, _+_, _≤_, _<_}
 use native.Mathlib.Omega.{arith}
 use mathlib.Core.Bool.{Bool, false, not}
 use mathlib.Core.Option.{Option, none, some}
-use mathlib.Core.List.{List, [], _∷_, _++_, map, append-assoc, append-nil}
+use mathlib.Core.List.{List, [], _∷_, _++_, append-assoc, append-nil}
 use lib.Dec.{T, T-not, ltb, lt→ltb}
 use lib.ListN.{length}
 use Rattle.language.specs.Text.{Text, if_then_else_, _==_, _>>=_, all, each, member, distinct}
 use Rattle.language.specs.Tokens.{Token}
 use Rattle.language.specs.Syntax as Syntax
 use Rattle.language.specs.Syntax.{Name, Binding}
-use Rattle.language.specs.State.{Field, fields, Value, single}
+use Rattle.language.specs.State.{labels, Field, fields, Value, single}
 use Rattle.language.specs.Values.{Session, asString, operandValue, fieldValue, recordValue}
 use Rattle.language.specs.Valid.{validField}
 use Rattle.language.proofs.Logic.Tests.{both, and-three, one-of, any-right, left-of, ==-sym, true-of, false-of}
@@ -22,7 +22,7 @@ use Rattle.syntax.specs.Values.{recordAt}
 use Rattle.language.specs.Outcomes.{fills}
 use Rattle.evaluated.specs.Weighed.{byWeight}
 use Rattle.evaluated.specs.Results.{stringIn, Written}
-use Rattle.evaluate.specs.Drafts.{labels, spelling, Drafted, Extends}
+use Rattle.evaluate.specs.Drafts.{spelling, Drafted, Extends}
 use Rattle.evaluate.specs.declared.draft.Draft.{Draft}
 use Rattle.evaluate.specs.declared.draft.Added.the-variants as Is
 use Rattle.evaluated.proofs.Weighing.{weighed-light, weighed-heavy}
@@ -42,7 +42,7 @@ finish s fs (some r) = closed fs (each (fieldValue s) (r .0))
 pub whole-record : (s : Session) (bs : List Binding) (us : List Token) → recordValue s bs ≡ finish s [] (some (bs, us))
 whole-record s bs us = go (each (fieldValue s) bs)
   where
-    go : (o : Option (List Field)) → (o >>= λ fs. if distinct (map (λ f. f .label) fs) then some (single (fields fs)) else none) ≡ closed [] o
+    go : (o : Option (List Field)) → (o >>= λ fs. if distinct (labels fs) then some (single (fields fs)) else none) ≡ closed [] o
     go none = refl
     go (some gs) = refl
 

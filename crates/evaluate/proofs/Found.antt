@@ -26,7 +26,7 @@ use Rattle.values.specs.Encoding.{Holds, ValueText}
 use Rattle.values.specs.Answers.{fieldOf}
 use Rattle.values.proofs.Texts.{some-bytes}
 use Rattle.values.proofs.Standing.{fields-valid}
-use Rattle.evaluate.specs.Scopes.{Scope, ReadAs}
+use Rattle.scopes.specs.Scopes.{Scope, ReadAs}
 use Rattle.evaluated.specs.Weighed.{byWeight}
 use Rattle.evaluated.specs.Results.{stringIn, fieldIn, MaybeString, stringValue, Valued}
 use Rattle.evaluated.specs.declared.Evaluated.{Evaluated}

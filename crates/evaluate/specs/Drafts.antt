@@ -2,14 +2,14 @@
 use mathlib.Core.Path.{_≡_}
 use Prim.Native.Nat.{ℕ, _+_, _*_, _≤_}
 use mathlib.Core.Option.{Option, none, some}
-use mathlib.Core.List.{List, [], _∷_, _++_, map}
+use mathlib.Core.List.{List, [], _∷_, _++_}
 use lib.Dec.{T}
 use lib.ListN.{length, take}
 use Rattle.language.specs.Text.{Text, all, sum, member, distinct}
 use Rattle.language.specs.Syntax.{Name}
 use Rattle.language.specs.Programs.{longest}
 use Rattle.language.specs.Identifiers.{isName}
-use Rattle.language.specs.State.{Field, fields}
+use Rattle.language.specs.State.{Field, labels, fields}
 use Rattle.language.specs.Weight.{limit, elementWeight}
 use Rattle.language.specs.Encode.{elementText}
 use Rattle.language.specs.Valid.{validField}
@@ -19,9 +19,6 @@ use Rattle.store.specs.Rows.{Row, Rows, rowNames}
 use Rattle.evaluate.specs.declared.draft.Draft.{Draft}
 use Rattle.evaluate.specs.declared.draft.Added.{Added}
 use Rattle.evaluate.specs.declared.draft.Added.the-variants as Is
-
-abbrev pub labels : List Field → List Name
-labels fs = map (λ f. f .label) fs
 
 -- the bytes that fields take in a program at the least: each has its label, an equals sign, a value, and a comma or a brace
 abbrev pub spelling : List Field → ℕ

@@ -1,3 +1,2 @@
--- What the texts of a session hold, and what the answers about them mean in the terms of document 01, "Values".
-pub mod Scopes
+-- A record that is written field by field, and the room that is lent to write a value in.
 pub mod Drafts

@@ -9,11 +9,11 @@ ghost use lib.Dec.{T};
 ghost use lib.ListN.{length};
 ghost use Rattle.language.specs.Syntax as Syntax;
 ghost use Rattle.language.specs.Values.{Session};
-ghost use Rattle.language.specs.Expressions.{value};
+ghost use Rattle.language.specs.Expressions.{termValue};
 ghost use Rattle.language.proofs.Parsing.ValidPrograms.{validOperand};
 ghost use Rattle.syntax.specs.Values.{operandMeant, OperandWithin, functionMeant};
 ghost use Rattle.evaluated.specs.Results.{Valued};
-ghost use Rattle.evaluate.specs.Scopes.{Scope, SomeScope};
+ghost use Rattle.scopes.specs.Scopes.{Scope, SomeScope};
 
 // Writes the value of `tolower(v)`.
 pub fn put_lower<'a>(
@@ -31,7 +31,7 @@ pub fn put_lower<'a>(
     requires { ⌜ OperandWithin (now text) v × T (validOperand (operandMeant (now text) v)) ⌝ }
     requires { ⌜ 32768 ≤ length (now out) ⌝ }
     ensures { λ r. ⌜ ((s : Session) → Scope s (now (shared .entry)) (now (slots .entry)) count (now (locals .entry)) (now (lslots .entry)) lcount
-        → Valued r (value s (Syntax.tolower (operandMeant (now (text .entry)) v))) (now (out .exit))) ⌝ }
+        → Valued r (termValue s (Syntax.tolower (operandMeant (now (text .entry)) v))) (now (out .exit))) ⌝ }
 {
     let a = source(shared, slots, count, locals, lslots, lcount, text, v);
     let i = string_in(a, text, v);
@@ -56,7 +56,7 @@ pub fn put_call<'a>(
     requires { ⌜ OperandWithin (now text) v × T (validOperand (operandMeant (now text) v)) ⌝ }
     requires { ⌜ OperandWithin (now text) w × T (validOperand (operandMeant (now text) w)) × (32768 ≤ length (now out)) ⌝ }
     ensures { λ r. ⌜ ((s : Session) → Scope s (now (shared .entry)) (now (slots .entry)) count (now (locals .entry)) (now (lslots .entry)) lcount
-        → Valued r (value s (Syntax.call (functionMeant f) (operandMeant (now (text .entry)) v) (operandMeant (now (text .entry)) w))) (now (out .exit))) ⌝ }
+        → Valued r (termValue s (Syntax.call (functionMeant f) (operandMeant (now (text .entry)) v) (operandMeant (now (text .entry)) w))) (now (out .exit))) ⌝ }
 {
     let a = source(shared, slots, count, locals, lslots, lcount, text, v);
     let i = string_in(a, text, v);

@@ -1,12 +1,13 @@
-// The value of an expression of a program, over a session whose variables are texts.
+// The value of a term of a program, over a session whose variables are texts.
 mod call; // the value of a function
+mod compare; // the value of a comparison
 mod draft; // a record that is written field by field
 mod operand; // the value of x, of x.y or of a string
 mod record; // the value of a record
-mod source; // the string that an operand is
+mod source; // what an operand is looked for in, and the string that it is
 
 use evaluated::Evaluated;
-use syntax::Expr;
+use syntax::Term;
 ghost use mathlib.Core.Path.{_≡_};
 ghost use mathlib.Core.Option.{some};
 ghost use mathlib.Core.List.{[]};
@@ -17,9 +18,9 @@ ghost use Rattle.language.specs.Programs.{longest};
 ghost use Rattle.language.specs.State.{list};
 ghost use Rattle.language.specs.Outcomes.{gives};
 ghost use Rattle.language.specs.Values.{Session};
-ghost use Rattle.language.specs.Expressions.{value};
-ghost use Rattle.syntax.specs.Values.{exprMeant, SomeExpr};
-ghost use Rattle.evaluate.specs.Scopes.{Scope, SomeScope};
+ghost use Rattle.language.specs.Expressions.{termValue};
+ghost use Rattle.syntax.specs.Values.{termMeant, SomeTerm};
+ghost use Rattle.scopes.specs.Scopes.{Scope, SomeScope};
 ghost use Rattle.evaluated.specs.Results.{Valued};
 ghost use Rattle.evaluate.specs.Drafts.{Lent};
 
@@ -32,7 +33,7 @@ fn put_empty(out: &mut [u8]) -> Evaluated
     Evaluated::Value { len, weight: 0 }
 }
 
-// The value of the expression that the program's text says at the places e, written from the start of `out` on; whatever the rights.
+// The value of the term that the program's text says at the places e, written from the start of `out` on; whatever the rights.
 // `labels` is room for the slots of a record's labels.
 pub fn value<'a>(
     shared: &'a [u8],
@@ -42,22 +43,22 @@ pub fn value<'a>(
     lslots: &[u32],
     lcount: usize,
     text: &'a [u8],
-    e: Expr,
+    e: Term,
     out: &mut [u8],
     labels: &mut [u32],
 ) -> Evaluated
     requires { ⌜ SomeScope (now shared) (now slots) count (now locals) (now lslots) lcount ⌝ }
-    requires { ⌜ SomeExpr (now text) e × (length (now text) ≤ longest) ⌝ }
+    requires { ⌜ SomeTerm (now text) e × (length (now text) ≤ longest) ⌝ }
     requires { ⌜ Lent (now out) (now labels) ⌝ }
-    ensures { λ r. ⌜ ((s : Session) (x : Syntax.Expr) → Scope s (now (shared .entry)) (now (slots .entry)) count (now (locals .entry)) (now (lslots .entry)) lcount
-        → exprMeant (now (text .entry)) e ≡ some x → Valued r (value s x) (now (out .exit))) ⌝ }
+    ensures { λ r. ⌜ ((s : Session) (x : Syntax.Term) → Scope s (now (shared .entry)) (now (slots .entry)) count (now (locals .entry)) (now (lslots .entry)) lcount
+        → termMeant (now (text .entry)) e ≡ some x → Valued r (termValue s x) (now (out .exit))) ⌝ }
 {
     match e {
-        Expr::Single(v) => {
+        Term::Single(v) => {
             operand::put_operand(shared, slots, count, locals, lslots, lcount, text, v, out)
         }
-        Expr::Empty => put_empty(out),
-        Expr::Record(at) => record::put_fields(
+        Term::Empty => put_empty(out),
+        Term::Record(at) => record::put_fields(
             shared,
             slots,
             count,
@@ -69,10 +70,10 @@ pub fn value<'a>(
             out,
             labels,
         ),
-        Expr::Lower(v) => {
+        Term::Lower(v) => {
             call::put_lower(shared, slots, count, locals, lslots, lcount, text, v, out)
         }
-        Expr::Call(f, v, w) => call::put_call(
+        Term::Call(f, v, w) => call::put_call(
             shared,
             slots,
             count,
@@ -81,6 +82,19 @@ pub fn value<'a>(
             lcount,
             text,
             f,
+            v,
+            w,
+            out,
+        ),
+        Term::Compare(c, v, w) => compare::put_comparison(
+            shared,
+            slots,
+            count,
+            locals,
+            lslots,
+            lcount,
+            text,
+            c,
             v,
             w,
             out,

@@ -13,7 +13,7 @@ ghost use Rattle.language.specs.Values.{Session, operandValue};
 ghost use Rattle.language.proofs.Parsing.ValidPrograms.{validOperand};
 ghost use Rattle.syntax.specs.Values.{operandMeant, OperandWithin};
 ghost use Rattle.values.specs.Answers.{textAt, Placed};
-ghost use Rattle.evaluate.specs.Scopes.{Scope, SomeScope, ReadAs, SomeRead};
+ghost use Rattle.scopes.specs.Scopes.{Scope, SomeScope, ReadAs, SomeRead};
 ghost use Rattle.evaluated.specs.Weighed.{byWeight};
 ghost use Rattle.evaluated.specs.Results.{Valued, stringIn, fieldIn, stringValue, MaybeString};
 

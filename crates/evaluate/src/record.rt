@@ -21,11 +21,11 @@ ghost use Rattle.language.specs.Syntax as Syntax;
 ghost use Rattle.language.specs.Programs.{longest};
 ghost use Rattle.language.specs.State.{Field, single, fields};
 ghost use Rattle.language.specs.Values.{Session, operandValue};
-ghost use Rattle.language.specs.Expressions.{value};
+ghost use Rattle.language.specs.Expressions.{termValue};
 ghost use Rattle.language.proofs.Parsing.ValidPrograms.{validOperand};
 ghost use Rattle.text.specs.Meaning.{part, Within};
 ghost use Rattle.syntax.specs.Values.{operandMeant, OperandWithin, recordAt, SomeRecord};
-ghost use Rattle.evaluate.specs.Scopes.{Scope, SomeScope};
+ghost use Rattle.scopes.specs.Scopes.{Scope, SomeScope};
 ghost use Rattle.evaluated.specs.Weighed.{byWeight};
 ghost use Rattle.evaluated.specs.Results.{Valued, stringIn};
 ghost use Rattle.evaluate.specs.Drafts.{Drafted, SomeDraft, Lent, Extends, spelling};
@@ -87,7 +87,7 @@ pub fn put_fields<'a>(
     requires { ⌜ SomeRecord (now text) at × (length (now text) ≤ longest) ⌝ }
     requires { ⌜ Lent (now out) (now labels) ⌝ }
     ensures { λ r. ⌜ ((s : Session) (bs : List Binding) (us : List Token) → Scope s (now (shared .entry)) (now (slots .entry)) count (now (locals .entry)) (now (lslots .entry)) lcount
-        → recordAt (now (text .entry)) at ≡ some (bs, us) → Valued r (value s (Syntax.fields bs)) (now (out .exit))) ⌝ }
+        → recordAt (now (text .entry)) at ≡ some (bs, us) → Valued r (termValue s (Syntax.fields bs)) (now (out .exit))) ⌝ }
 {
     let mut d = crate::draft::start(out, labels);
     let mut p = at;

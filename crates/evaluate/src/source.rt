@@ -6,7 +6,7 @@ ghost use Rattle.language.specs.Values.{Session, operandValue};
 ghost use Rattle.syntax.specs.Values.{operandMeant, OperandWithin};
 ghost use Rattle.values.specs.Answers.{textAt, Placed};
 ghost use Rattle.evaluated.specs.Results.{stringIn};
-ghost use Rattle.evaluate.specs.Scopes.{Scope, SomeScope, SourceOf, SomeSource};
+ghost use Rattle.scopes.specs.Scopes.{Scope, SomeScope, SourceOf, SomeSource};
 
 // What an operand is looked for in.
 pub fn source<'a>(

@@ -1,1 +1,2 @@
-pub mod Expressions
+-- Laws of what the beginning of an expression says of it.
+pub mod Lets

@@ -1,41 +1,80 @@
-// The reader of an expression: a value, `[]`, a record or a call.
-use call_readers::called;
+// The reader of an expression: a term, or a `let`. Lets may nest as deep as a program is long, so that no function here calls itself.
 use syntax::Expr;
 use syntax::ExprRead;
-use syntax::Operand;
-use syntax::OperandRead;
-use syntax::dotted;
-use syntax::record_end;
+use syntax::TermRead;
+use term_readers::term_at;
 use text::Span;
+use tokens::reader::Found;
 use tokens::reader::Next;
-use tokens::token::Token;
 ghost use mathlib.Core.Path.{_≡_};
-ghost use Prim.Native.Nat.{ℕ, _≤_, _<_};
-ghost use mathlib.Core.List.{_∷_};
+ghost use Prim.Native.Nat.{_≤_};
 ghost use lib.ListN.{length, drop};
-ghost use Rattle.language.specs.Tokens.{lex, sign};
+ghost use Rattle.language.specs.Tokens.{lex};
 ghost use Rattle.language.specs.Grammar.{anyExpression};
-ghost use Rattle.text.specs.Meaning.{part, Within};
+ghost use Rattle.tokens.specs.Readers.{nextMeant, NextPlaced};
 ghost use Rattle.syntax.specs.Values.{exprReadMeant, ExprPlaced};
+ghost use Rattle.expression_readers.specs.Heads.{letHead, letReadMeant, LetPlaced, pastExpression};
 
-// The expression that starts with a keyword or a mark, from the place `at` past it: a record, `[]`, or a call.
-fn enclosed(text: &[u8], word: Span, at: usize) -> ExprRead
+// The name that a `let` binds, and the place past the mark after it, where its first expression starts.
+pub enum LetRead {
+    Found(Span, usize),
+    No,
+}
+
+// let x =
+pub fn let_head(text: &[u8], at: usize) -> LetRead
     requires { ⌜ at ≤ length (now text) ⌝ }
-    requires { ⌜ Within (now text) word ⌝ }
-    ensures meant { λ r. ⌜ exprReadMeant (now (text .entry)) r ≡ anyExpression (sign (part (now (text .entry)) word) ∷ lex (drop at (now (text .entry)))) ⌝ }
-    ensures placed { λ r. ⌜ ((from : ℕ) → from < at → ExprPlaced (now (text .entry)) from r) ⌝ }
+    ensures meant { λ r. ⌜ letReadMeant (now (text .entry)) r ≡ letHead (lex (drop at (now (text .entry)))) ⌝ }
+    ensures placed { λ r. ⌜ LetPlaced (now (text .entry)) at r ⌝ }
 {
-    if tokens::reader::is_sign(text, word, b"{") {
-        let last = record_end(text, at);
-        let Next::At(n) = last else {
-            return ExprRead::No;
-        };
-        return ExprRead::Found(Expr::Record(at), n);
+    let word = tokens::reader::expect(text, at, b"let");
+    let Next::At(a) = word else {
+        return LetRead::No;
+    };
+    let name = tokens::reader::name_at(text, a);
+    let Found::At(x, b) = name else {
+        return LetRead::No;
+    };
+    let equals = tokens::reader::expect(text, b, b"=");
+    let Next::At(n) = equals else {
+        return LetRead::No;
+    };
+    LetRead::Found(x, n)
+}
+
+// The place past an expression. `pending` counts the lets whose `in` is not read yet: after as many more of these words, each with an
+// expression behind it, the expression ends. A term is tried first, so that what is long is read once.
+fn lets_end(text: &[u8], at: usize) -> Next
+    requires { ⌜ at ≤ length (now text) ⌝ }
+    ensures meant { λ r. ⌜ nextMeant (now (text .entry)) r ≡ pastExpression (lex (drop at (now (text .entry)))) ⌝ }
+    ensures placed { λ r. ⌜ NextPlaced (now (text .entry)) at r ⌝ }
+{
+    let mut p = at;
+    let mut pending: usize = 0;
+    loop {
+        let term = term_at(text, p);
+        match term {
+            TermRead::Found(_, n) => {
+                if pending == 0 {
+                    return Next::At(n);
+                }
+                let word = tokens::reader::expect(text, n, b"in");
+                let Next::At(q) = word else {
+                    return Next::No;
+                };
+                pending -= 1;
+                p = q;
+            }
+            TermRead::No => {
+                let head = let_head(text, p);
+                let LetRead::Found(_, q) = head else {
+                    return Next::No;
+                };
+                pending += 1;
+                p = q;
+            }
+        }
     }
-    if tokens::reader::is_sign(text, word, b"[]") {
-        return ExprRead::Found(Expr::Empty, at);
-    }
-    called(text, word, at)
 }
 
 pub fn expression_at(text: &[u8], at: usize) -> ExprRead
@@ -43,18 +82,13 @@ pub fn expression_at(text: &[u8], at: usize) -> ExprRead
     ensures meant { λ r. ⌜ exprReadMeant (now (text .entry)) r ≡ anyExpression (lex (drop at (now (text .entry)))) ⌝ }
     ensures placed { λ r. ⌜ ExprPlaced (now (text .entry)) at r ⌝ }
 {
-    let t = tokens::scanner::first_token(text, at);
-    match t {
-        Token::End => ExprRead::No,
-        Token::Sign(s, n) => enclosed(text, s, n),
-        Token::Name(s, n) => {
-            let value = dotted(text, s, n);
-            let OperandRead::Found(v, e) = value else {
-                return ExprRead::No;
-            };
-            ExprRead::Found(Expr::Single(v), e)
-        }
-        Token::Quoted(s, n) => ExprRead::Found(Expr::Single(Operand::Quoted(s)), n),
-        Token::Wrong => ExprRead::No,
+    let term = term_at(text, at);
+    if let TermRead::Found(e, n) = term {
+        return ExprRead::Found(Expr::Term(e), n);
     }
+    let end = lets_end(text, at);
+    let Next::At(n) = end else {
+        return ExprRead::No;
+    };
+    ExprRead::Found(Expr::Let(at), n)
 }

@@ -1,4 +1,2 @@
--- Laws of what foreach makes of an element.
-pub mod Drafting
-pub mod Singles
+-- Laws of the session in which an element is tried.
 pub mod Lasting

@@ -1,3 +1,2 @@
--- What foreach makes of an element.
-pub mod Drafts
+-- The session in which an element is tried.
 pub mod Turning

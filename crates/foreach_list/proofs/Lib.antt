@@ -1,5 +1,3 @@
--- Laws of the list that foreach makes.
-pub mod Joining
+-- Laws of the list that is made.
 pub mod Growing
 pub mod Looping
-pub mod Aside

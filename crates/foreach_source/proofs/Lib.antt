@@ -1,3 +1,3 @@
--- Laws of the list that foreach goes through.
+-- Laws of the list that foreach and filtereach go through.
 pub mod Sourcing
 pub mod Denying

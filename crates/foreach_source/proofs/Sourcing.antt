@@ -1,26 +1,23 @@
--- What a session says of two names decides on the list that foreach goes through.
+-- What a session says of two names decides on the list to go through.
 -- Assumes nothing.
 use mathlib.Core.Path.{_≡_, refl, sym, ap, _∙_}
 use Prim.Native.Nat.{ℕ, _≤_}
 use native.Mathlib.Omega.{arith}
 use mathlib.Core.Bool.{Bool, true, false}
 use mathlib.Core.Option.{Option, none, some}
-use mathlib.Core.List.{List, [], _∷_}
-use lib.ListN.{length, take}
-use lib.Seq.{length-take-le}
+use mathlib.Core.List.{List}
+use lib.ListN.{length}
 use Rattle.language.specs.Text.{Text, if_then_else_, present}
 use Rattle.language.specs.Syntax.{Name}
 use Rattle.language.specs.State.{Element, Value, single, list}
-use Rattle.language.specs.Encode.{valueText}
 use Rattle.language.specs.Weight.{limit, valueWeight}
 use Rattle.language.specs.Values.{Session, isDefined, lookup}
-use Rattle.language.specs.Commands.{sessionWeight, elements, isFilled}
+use Rattle.language.specs.Commands.{sessionWeight, elements}
 use Rattle.language.proofs.Logic.Outcomes.{Where}
 use Rattle.value_text.specs.Writing as Piece
 use Rattle.value_text.proofs.Pieces.{written-take, written-length}
-use Rattle.values.proofs.Listing.{starts-with}
-use Rattle.evaluate.specs.Scopes.{ReadAs}
-use Rattle.evaluate.proofs.Bounds.{text-bound}
+use Rattle.scopes.specs.Scopes.{ReadAs}
+use Rattle.scopes.proofs.Bounds.{text-bound}
 use Rattle.lookup.specs.Looks.{elementsIn}
 use Rattle.foreach_source.specs.Sources.{Copied}
 use Rattle.lookup.proofs.LightNames.{lookup-light}
@@ -63,37 +60,15 @@ read-fits s x t k l = go (lookup s x) k (lookup-light s x l)
     go none k h = omega (arith, ap length k)
     go (some v) k h = omega (arith, h, text-bound v t k)
 
-pub source-fits : (s : Session) (y x : Name) (out : Text) (n : ℕ) → Copied (elements s y x) out n → sessionWeight s ≤ limit → n ≤ 24579
-source-fits s y x out n C l = defined (isDefined s y) (C .is-source)
+-- the list that was copied is not too heavy
+pub source-light : (s : Session) (y x : Name) (out : Text) (n : ℕ) (C : Copied (elements s y x) out n) → sessionWeight s ≤ limit → valueWeight (list (C .elements)) ≤ limit
+source-light s y x out n C l = defined (isDefined s y) (C .is-source)
   where
-    bound : (es : List Element) → valueWeight (list es) ≤ limit → es ≡ C .elements → n ≤ 24579
-    bound es k e = omega (arith, k, ap (λ (l : List Element). valueWeight (list l)) e, text-bound (list (C .elements)) (take n out) (C .held), length-take-le n out (C .within))
-
-    go : (o : Option Value) → Where (λ v. valueWeight v ≤ limit) o → elementsIn o ≡ some (C .elements) → n ≤ 24579
+    go : (o : Option Value) → Where (λ v. valueWeight v ≤ limit) o → elementsIn o ≡ some (C .elements) → valueWeight (list (C .elements)) ≤ limit
     go none k e = absurd (let z : _≡_ {A = ℕ} 0 1 = cc in omega arith)
     go (some (single a)) k e = absurd (let z : _≡_ {A = ℕ} 0 1 = cc in omega arith)
-    go (some (list es)) k e = bound es k (let q : es ≡ C .elements = cc in q)
+    go (some (list es)) k e = let q : es ≡ C .elements = cc in omega (arith, k, ap (λ (l : List Element). valueWeight (list l)) q)
 
-    defined : (b : Bool) → if_then_else_ {A = Option (List Element)} b none (elementsIn (lookup s x)) ≡ some (C .elements) → n ≤ 24579
+    defined : (b : Bool) → if_then_else_ {A = Option (List Element)} b none (elementsIn (lookup s x)) ≡ some (C .elements) → valueWeight (list (C .elements)) ≤ limit
     defined true e = absurd (let z : _≡_ {A = ℕ} 0 1 = cc in omega arith)
     defined false e = go (lookup s x) (lookup-light s x l) e
-
--- ---- an empty list's text has two bytes
-
-module _ (o : Option (List Element)) (out : Text) (n : ℕ) (C : Copied o out n) where
-  bytes-are : n ≡ length (valueText (list (C .elements)))
-  bytes-are = sym (length-take-le n out (C .within)) ∙ ap length (C .held .is-text)
-
-  pub not-filled : n ≡ 2 → isFilled o ≡ false
-  not-filled e = ap isFilled (C .is-source) ∙ go (C .elements) bytes-are
-    where
-      go : (es : List Element) → n ≡ length (valueText (list es)) → isFilled (some es) ≡ false
-      go [] q = refl
-      go (a ∷ es) q = absurd (omega (arith, e, q, starts-with a es))
-
-  pub filled : (n ≡ 2 → ⊥) → isFilled o ≡ true
-  filled f = ap isFilled (C .is-source) ∙ go (C .elements) bytes-are
-    where
-      go : (es : List Element) → n ≡ length (valueText (list es)) → isFilled (some es) ≡ true
-      go [] q = absurd (f q)
-      go (a ∷ es) q = refl

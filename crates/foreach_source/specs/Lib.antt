@@ -1,2 +1,2 @@
--- The list that foreach goes through.
+-- The list that foreach and filtereach go through.
 pub mod Sources

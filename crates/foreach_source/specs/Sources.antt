@@ -1,4 +1,4 @@
--- The list that foreach goes through, and whether the sender may send it.
+-- The list that foreach and filtereach go through, and whether the sender may send them.
 use mathlib.Core.Path.{_≡_}
 use Prim.Native.Nat.{ℕ, _≤_}
 use mathlib.Core.Bool.{Bool, true, false, _||_, not}
@@ -6,14 +6,15 @@ use mathlib.Core.Option.{Option, none, some}
 use mathlib.Core.List.{List}
 use lib.ListN.{length, take}
 use Rattle.language.specs.Text.{Text}
-use Rattle.language.specs.Syntax.{Name, read, write, Expr, foreach}
+use Rattle.language.specs.Syntax.{Name, read, write, Expr}
 use Rattle.language.specs.State.{Element, list}
 use Rattle.language.specs.Weight.{limit}
 use Rattle.language.specs.Values.{Session}
-use Rattle.language.specs.Commands.{elements, denied, sessionWeight}
+use Rattle.language.specs.Commands.{elements, sessionWeight}
 use Rattle.syntax.specs.declared.Expr as Read
 use Rattle.values.specs.Encoding.{Holds}
 use Rattle.permits.specs.Permits.{allowedOn}
+use Rattle.permits.specs.Knowledge.{terms, Knows}
 use Rattle.session.specs.declared.Layout.{Layout}
 use Rattle.lookup.specs.Looks.{Scoped}
 use Rattle.foreach_source.specs.declared.Source.{Source}
@@ -42,8 +43,8 @@ abbrev pub Sourced : Source → Option (List Element) → Text → Type 0
 Sourced (SourceIs.List n) o out = Copied o out n
 Sourced SourceIs.No o out = o ≡ none
 
--- foreach is denied; it may be sent, and there is no list to go through; or there is
+-- the sender may not read or write x; may, and there is no list to go through; or there is, and so much is known of the expression's terms
 abbrev pub Prepares : Prepared → Session → Name → Name → Expr → Text → Type 0
-Prepares Is.Denied s y x e out = denied s (foreach y x e) ≡ true
-Prepares Is.Failed s y x e out = (denied s (foreach y x e) ≡ false) × (elements s y x ≡ none)
-Prepares (Is.List n) s y x e out = (denied s (foreach y x e) ≡ false) × Copied (elements s y x) out n
+Prepares Is.Denied s y x e out = forbidden s x ≡ true
+Prepares Is.Failed s y x e out = (forbidden s x ≡ false) × (elements s y x ≡ none)
+Prepares (Is.List n known) s y x e out = (forbidden s x ≡ false) × Copied (elements s y x) out n × Knows known s (terms e)

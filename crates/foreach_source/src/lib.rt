@@ -1,6 +1,7 @@
-// The list that foreach goes through, and whether the sender may send it.
+// The list that foreach and filtereach go through, and whether the sender may send them.
 use assertion::READ;
 use assertion::WRITE;
+use permits::Known;
 use session::Layout;
 use syntax::Expr;
 use text::Span;
@@ -24,11 +25,12 @@ pub enum Source {
     No,
 }
 
-// What is known before the first element is replaced.
+// What is known before the first element is tried: that the sender may not read and write the list; that there is none; or its text's
+// length, and what is known of the terms of the expression.
 pub enum Prepared {
     Denied,
     Failed,
-    List(usize),
+    List(usize, Known),
 }
 
 // Whether the sender may read and write what a name stands for.
@@ -81,7 +83,7 @@ fn copy_list<'a>(
     Source::List(n)
 }
 
-// Whether the sender may send it, and what list there is to go through. Only where it has an element is the expression evaluated.
+// The rights on the list, and what of it there is to go through. An empty list asks for no right to read the expression.
 pub fn prepare<'a>(
     principals: &[u8],
     principal_slots: &[u32],
@@ -123,10 +125,19 @@ pub fn prepare<'a>(
         return Prepared::Failed;
     };
     if n == 2 {
-        return Prepared::List(n);
+        return Prepared::List(n, Known::Nothing);
     }
-    if !lookup::may_read(vars, variable_slots, assertions, l, text, e) {
-        return Prepared::Denied;
-    }
-    Prepared::List(n)
+    let m = l.vars_len;
+    let known = expression_rights::known(
+        &vars[..m],
+        variable_slots,
+        l.vars,
+        assertions,
+        l.asserted,
+        l.principals,
+        l.sender,
+        text,
+        e,
+    );
+    Prepared::List(n, known)
 }

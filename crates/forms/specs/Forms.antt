@@ -13,6 +13,8 @@ use Rattle.forms.specs.declared.AccountRead.{AccountRead}
 use Rattle.forms.specs.declared.AccountRead.the-variants as AccountIs
 use Rattle.forms.specs.declared.AssignRead.{AssignRead}
 use Rattle.forms.specs.declared.AssignRead.the-variants as AssignIs
+use Rattle.forms.specs.declared.EachRead.{EachRead}
+use Rattle.forms.specs.declared.EachRead.the-variants as EachIs
 use Rattle.forms.specs.declared.Right.{Right}
 use Rattle.forms.specs.declared.Right.the-variants as RightIs
 use Rattle.forms.specs.declared.RightRead.{RightRead}
@@ -88,6 +90,18 @@ assignMeant t k AssignIs.No = none
 abbrev pub AssignPlaced : Text → ℕ → AssignRead → Type 0
 AssignPlaced t at (AssignIs.Found x e n) = Within t x × ExprWithin t e × (at < n) × (n ≤ length t)
 AssignPlaced t at AssignIs.No = Unit
+
+-- ---- `y in x w e`, of which k makes a command
+abbrev pub eachForm : Text → (Syntax.Name → Syntax.Name → Syntax.Expr → Syntax.Command) → Reader Syntax.Command
+eachForm w k = do y ← anyName; the "in"; x ← anyName; theSign w; e ← anyExpression; give (k y x e)
+
+abbrev pub eachMeant : Text → (Syntax.Name → Syntax.Name → Syntax.Expr → Syntax.Command) → EachRead → Option (Syntax.Command × List Token)
+eachMeant t k (EachIs.Found y x e n) = ofExpr (exprMeant t e) (k (part t y) (part t x)) (lex (drop n t))
+eachMeant t k EachIs.No = none
+
+abbrev pub EachPlaced : Text → ℕ → EachRead → Type 0
+EachPlaced t at (EachIs.Found y x e n) = Within t y × Within t x × ExprWithin t e × (at < n) × (n ≤ length t)
+EachPlaced t at EachIs.No = Unit
 
 -- ---- `t q right -> p`, of which k makes a command
 abbrev pub delegationForm : (Syntax.Target → Syntax.Name → Syntax.Right → Syntax.Name → Syntax.Command) → Reader Syntax.Command

@@ -1,4 +1,4 @@
-// Readers of what several commands have in common: a name with a string, a name with an expression, and a delegation.
+// Readers of what several commands have in common: a name with a string, one or two names with an expression, and a delegation.
 use syntax::Expr;
 use syntax::ExprRead;
 use text::Span;
@@ -13,7 +13,7 @@ ghost use Rattle.language.specs.Tokens.{lex};
 ghost use Rattle.language.specs.Syntax as Syntax;
 ghost use Rattle.language.specs.Grammar.{anyRight, anyTarget};
 ghost use Rattle.syntax.specs.Values.{exprReadMeant, ExprPlaced};
-ghost use Rattle.forms.specs.Forms.{rightReadMeant, RightPlaced, targetReadMeant, TargetPlaced, accountForm, accountMeant, AccountPlaced, valueForm, assignForm, assignMeant, AssignPlaced, delegationForm, delegationMeant, DelegationPlaced};
+ghost use Rattle.forms.specs.Forms.{rightReadMeant, RightPlaced, targetReadMeant, TargetPlaced, accountForm, accountMeant, AccountPlaced, valueForm, assignForm, assignMeant, AssignPlaced, eachForm, eachMeant, EachPlaced, delegationForm, delegationMeant, DelegationPlaced};
 
 // A name and a string.
 pub enum AccountRead {
@@ -76,6 +76,33 @@ pub fn assign_at(text: &[u8], at: usize, word: &[u8]) -> AssignRead
         return AssignRead::No;
     };
     AssignRead::Found(x, e, n)
+}
+
+// Two names and an expression.
+pub enum EachRead {
+    Found(Span, Span, Expr, usize),
+    No,
+}
+
+// `y in x`, then a keyword, then an expression.
+pub fn each_at(text: &[u8], at: usize, word: &[u8]) -> EachRead
+    requires { ⌜ at ≤ length (now text) ⌝ }
+    ensures meant { λ r. ⌜ ((k : Syntax.Name → Syntax.Name → Syntax.Expr → Syntax.Command) → eachMeant (now (text .entry)) k r ≡ eachForm (now (word .entry)) k (lex (drop at (now (text .entry))))) ⌝ }
+    ensures placed { λ r. ⌜ EachPlaced (now (text .entry)) at r ⌝ }
+{
+    let name = tokens::reader::name_at(text, at);
+    let Found::At(y, a) = name else {
+        return EachRead::No;
+    };
+    let key = tokens::reader::expect(text, a, b"in");
+    let Next::At(b) = key else {
+        return EachRead::No;
+    };
+    let assign = assign_at(text, b, word);
+    let AssignRead::Found(x, e, n) = assign else {
+        return EachRead::No;
+    };
+    EachRead::Found(y, x, e, n)
 }
 
 pub enum Right {

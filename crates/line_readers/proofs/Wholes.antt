@@ -11,14 +11,13 @@ use Rattle.language.specs.Tokens.{Token, lex}
 use Rattle.language.specs.Syntax as Syntax
 use Rattle.language.specs.Grammar.{spent, whole, the, anyName, anyString, anyLogin, anyCommand, anyEnding}
 use Rattle.language.specs.Programs.{loginLine, commandLine, endingLine}
-use Rattle.syntax.specs.Values.{exprMeant, ExprWithin, recordAt}
+use Rattle.syntax.specs.Values.{exprMeant}
 use Rattle.command_readers.specs.Commands.{commandMeant, CommandWithin}
-use Rattle.syntax.specs.declared.Expr.{Expr}
-use Rattle.syntax.specs.declared.Expr.the-variants.{Single, Empty, Record, Lower, Call}
+use Rattle.syntax.proofs.Said.{bound, expr-there}
 use Rattle.command_readers.specs.declared.Command.{Command}
 use Rattle.command_readers.specs.declared.Command.the-variants.{Administer, Variable}
 use Rattle.command_readers.specs.declared.Administration.the-variants.{CreatePrincipal, ChangePassword, SetDelegation, DeleteDelegation, DefaultDelegator, Exit}
-use Rattle.command_readers.specs.declared.VariableCommand.the-variants.{Set, Append, Local, Foreach, Return}
+use Rattle.command_readers.specs.declared.VariableCommand.the-variants.{Set, Append, Local, Foreach, Filtereach, Return}
 use Rattle.program_lines.specs.Lines.{lineFrom}
 use Rattle.line_readers.specs.WholeLines.{isNil}
 use Rattle.line_readers.proofs.FirstLine.{lex-line}
@@ -59,26 +58,16 @@ pub login-is :
 login-is ts a b c d e f = rw (a, b, c, d, e, f)
 
 -- ---- what was read means something
-bound : {A B : Type 0} (o : Option A) (k : A → B) → present o ≡ true → present (o >>= λ v. some (k v)) ≡ true
-bound none k e = e
-bound (some a) k e = refl
-
-expr-meant : (t : Text) (e : Expr) → ExprWithin t e → present (exprMeant t e) ≡ true
-expr-meant t (Single v) h = refl
-expr-meant t Empty h = refl
-expr-meant t (Record p) h = bound (recordAt t p) (λ r. Syntax.fields (r .0)) (h .1)
-expr-meant t (Lower v) h = refl
-expr-meant t (Call f v w) h = refl
-
 pub command-meant : (t : Text) (c : Command) → CommandWithin t c → present (commandMeant t c) ≡ true
 command-meant t (Administer (CreatePrincipal p s)) h = refl
 command-meant t (Administer (ChangePassword p s)) h = refl
-command-meant t (Variable (Set x e)) h = bound (exprMeant t e) (λ v. Syntax.set _ v) (expr-meant t e (h .1))
-command-meant t (Variable (Append x e)) h = bound (exprMeant t e) (λ v. Syntax.append-to _ v) (expr-meant t e (h .1))
-command-meant t (Variable (Local x e)) h = bound (exprMeant t e) (λ v. Syntax.local _ v) (expr-meant t e (h .1))
-command-meant t (Variable (Foreach y x e)) h = bound (exprMeant t e) (λ v. Syntax.foreach _ _ v) (expr-meant t e (h .2))
+command-meant t (Variable (Set x e)) h = bound (exprMeant t e) (λ v. Syntax.set _ v) (expr-there t e (h .1))
+command-meant t (Variable (Append x e)) h = bound (exprMeant t e) (λ v. Syntax.append-to _ v) (expr-there t e (h .1))
+command-meant t (Variable (Local x e)) h = bound (exprMeant t e) (λ v. Syntax.local _ v) (expr-there t e (h .1))
+command-meant t (Variable (Foreach y x e)) h = bound (exprMeant t e) (λ v. Syntax.foreach _ _ v) (expr-there t e (h .2))
+command-meant t (Variable (Filtereach y x e)) h = bound (exprMeant t e) (λ v. Syntax.filtereach _ _ v) (expr-there t e (h .2))
 command-meant t (Administer (SetDelegation x q r p)) h = refl
 command-meant t (Administer (DeleteDelegation x q r p)) h = refl
 command-meant t (Administer (DefaultDelegator p)) h = refl
 command-meant t (Administer Exit) h = refl
-command-meant t (Variable (Return e)) h = bound (exprMeant t e) (λ v. Syntax.return v) (expr-meant t e h)
+command-meant t (Variable (Return e)) h = bound (exprMeant t e) (λ v. Syntax.return v) (expr-there t e h)

@@ -1,18 +1,16 @@
 -- What the texts of a running session say of a name, and what the answers about rights say of a command.
 -- Assumes nothing.
-use mathlib.Core.Path.{_≡_, refl, sym, ap, subst, _∙_}
+use mathlib.Core.Path.{_≡_, refl, sym, ap, _∙_}
 use mathlib.Core.Bool.{Bool, true, false, _||_, not}
-use mathlib.Core.Option.{Option, none, some}
+use mathlib.Core.Option.{Option}
 use mathlib.Core.List.{List, [], _∷_}
 use Prim.Native.Nat.{ℕ}
 use native.Mathlib.Omega.{arith}
-use borrow.Author.Tests.{lt-ltb}
-use lib.Dec.{ltb}
 use lib.ListN.{length}
-use Rattle.language.specs.Text.{Text, if_then_else_, any, present, _orElse_}
+use Rattle.language.specs.Text.{Text, if_then_else_, any, present}
 use Rattle.language.specs.Syntax.{Name, Right, write, append, Expr, set, append-to}
-use Rattle.language.specs.State.{string, fields, Value, single, list, valueIn}
-use Rattle.language.specs.Values.{Session, lookup, asList, isShared, isDefined}
+use Rattle.language.specs.State.{string, fields, Value, single, list}
+use Rattle.language.specs.Values.{Session, asList, isShared}
 use Rattle.language.specs.Expressions.{value, names}
 use Rattle.language.specs.Chains.{has}
 use Rattle.language.specs.Commands.{met, need, reads, denied}
@@ -20,27 +18,31 @@ use Rattle.values.specs.Encoding.{Holds}
 use Rattle.values.specs.Answers.{kindOf}
 use Rattle.values.specs.declared.Kind.{Kind}
 use Rattle.values.specs.declared.Kind.the-variants as Is
-use Rattle.values.proofs.Texts.{some-bytes}
-use Rattle.evaluate.specs.Scopes.{ReadAs}
+use Rattle.scopes.specs.Scopes.{ReadAs}
 use Rattle.permits.specs.Permits.{allowedOn, unread}
-use Rattle.evaluated.specs.Results.{Valued}
-use Rattle.evaluated.specs.declared.Evaluated.{Evaluated}
 use Rattle.evaluated.specs.declared.Evaluated.the-variants as Worth
 use Rattle.evaluate.proofs.Found.{something-read}
 use Rattle.session.specs.declared.Layout.{Layout}
 use Rattle.session.specs.Sessions.{Slices, Running}
 use Rattle.session.proofs.Scoping.{scope, sends}
-use Rattle.lookup.specs.Looks.{elementsIn, Scoped, Sending}
-use Rattle.lookup.specs.Told.{Answers}
-use Rattle.lookup.specs.declared.Answered.{Answered}
-use Rattle.lookup.specs.declared.Answered.the-variants as Told
+use Rattle.lookup.specs.Looks.{elementsIn, Scoped, Sending, Copyable}
 use Rattle.language.proofs.Logic.Lists.{any-joined}
 
 -- ---- a running session is what is asked for
 
 module _ (s : Session) (l : Layout) (b : Slices) (R : Running s l b) where
   pub scoped : Scoped s l (b .vars) (b .variable-slots) (b .locals) (b .local-slots)
-  scoped = record { scope = scope s l b R; vars-within = R .vars-within; locals-within = R .locals-within }
+  scoped = record {
+    scope = scope s l b R;
+    vars-within = R .vars-within;
+    locals-within = R .locals-within;
+  }
+
+  pub copyable : Copyable (b .locals) (b .local-slots)
+  copyable = record {
+    locals-short = omega (arith, R .sized .locals-size);
+    slots-few = omega (arith, R .sized .local-slots-size);
+  }
 
   pub sending : Sending s l (b .vars) (b .variable-slots) (b .assertions)
   sending = record { sends = sends s l b R; vars-within = R .vars-within }
@@ -61,17 +63,6 @@ pub list-said : (o : Option Value) (t : Text) → ReadAs o t → (length t ≡ 0
 list-said o t r n k f =
     let S = something-read o t r n in
     ap listKind (f (S .value) (S .held)) ∙ kind-list (S .value) ∙ sym (ap (λ (z : Option Value). present (elementsIn z)) (S .is-value))
-
-pub defined-said : (s : Session) (x : Name) (t : Text) → ReadAs (lookup s x) t → ltb 0 (length t) ≡ isDefined s x
-defined-said s x t r = bytes (lookup s x) r ∙ either (valueIn (s .locals) x) (valueIn (s .store .variables) x)
-  where
-    bytes : (o : Option Value) → ReadAs o t → ltb 0 (length t) ≡ present o
-    bytes none r = ap (λ (z : Text). ltb 0 (length z)) r
-    bytes (some v) r = lt-ltb 0 (length t) (omega (arith, some-bytes v t r))
-
-    either : (a b : Option Value) → present (a orElse b) ≡ (present a || present b)
-    either none b = refl
-    either (some v) b = refl
 
 -- ---- the rights
 
@@ -102,28 +93,11 @@ module _ (s : Session) (x : Name) (e : Expr) where
       go false = refl
 
   -- a command is denied by its own rule, or by what its expression reads
-  pub denied-set : denied s (set x e) ≡ (not (allowedOn s write x) || unread s (names e))
-  denied-set = any-joined (λ n. not (met s n)) (need s (write ∷ []) x) (reads s (names e)) ∙ ap (λ (z : Bool). z || unread s (names e)) (one-need write)
+  pub denied-set : denied s (set x e) ≡ (not (allowedOn s write x) || unread s (names s e))
+  denied-set = any-joined (λ n. not (met s n)) (need s (write ∷ []) x) (reads s (names s e)) ∙ ap (λ (z : Bool). z || unread s (names s e)) (one-need write)
 
-  pub denied-append : denied s (append-to x e) ≡ (not (allowedOn s write x || allowedOn s append x) || unread s (names e))
-  denied-append = any-joined (λ n. not (met s n)) (need s (write ∷ append ∷ []) x) (reads s (names e)) ∙ ap (λ (z : Bool). z || unread s (names e)) two-needs
-
--- ---- the answer for an expression
-
-abbrev answerTo : Evaluated → Answered
-answerTo (Worth.Value n w) = Told.Value n w
-answerTo Worth.Missing = Told.Missing
-answerTo Worth.Heavy = Told.Heavy
-
--- where the sender may read it, what the evaluation answers
-pub told : (s : Session) (e : Expr) (out : Text) (b : Bool) (r k : Evaluated) → unread s (names e) ≡ not b → not b ≡ false → Valued r (value s e) out → r ≡ k
-    → Answers (answerTo k) s e out
-told s e out b r k u f h q = go k (subst (λ (z : Evaluated). Valued z (value s e) out) q h)
-  where
-    go : (k : Evaluated) → Valued k (value s e) out → Answers (answerTo k) s e out
-    go (Worth.Value n w) h = (u ∙ f, h)
-    go Worth.Missing h = (u ∙ f, h)
-    go Worth.Heavy h = (u ∙ f, h)
+  pub denied-append : denied s (append-to x e) ≡ (not (allowedOn s write x || allowedOn s append x) || unread s (names s e))
+  denied-append = any-joined (λ n. not (met s n)) (need s (write ∷ append ∷ []) x) (reads s (names s e)) ∙ ap (λ (z : Bool). z || unread s (names s e)) two-needs
 
 -- write or append
 pub either-right : (a b : Bool) (c d : Bool) → c ≡ a → c ≡ false → d ≡ b → d ≡ (a || b)

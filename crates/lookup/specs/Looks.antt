@@ -8,7 +8,7 @@ use Rattle.language.specs.Programs.{longest}
 use Rattle.language.specs.State.{Element, Value}
 use Rattle.language.specs.Values.{Session, asList}
 use Rattle.syntax.specs.declared.Expr as Read
-use Rattle.evaluate.specs.Scopes.{Scope}
+use Rattle.scopes.specs.Scopes.{Scope}
 use Rattle.permits.specs.Permits.{Sends}
 use Rattle.syntax.specs.Values.{SomeExpr}
 use Rattle.session.specs.declared.Layout.{Layout}
@@ -35,6 +35,11 @@ pub record Sending (s : Session) (l : Layout) (vars : Text) (variable-slots asse
 pub record SomeSending (l : Layout) (vars : Text) (variable-slots assertions : List ℕ) : Type 0 where
   pub session : Session
   pub sending : Sending session l vars variable-slots assertions
+
+-- the locals fit a copy that has room for the names of a `let`
+pub record Copyable (locals : Text) (local-slots : List ℕ) : Type 0 where
+  pub locals-short : length locals ≤ 32768
+  pub slots-few : length local-slots ≤ 4096
 
 -- the program's text says a valid expression at these places
 pub record Said (t : Text) (e : Read.Expr) : Type 0 where

@@ -22,7 +22,7 @@ use Rattle.syntax.specs.Values.{exprMeant}
 use Rattle.command_readers.specs.declared.Command.{Command}
 use Rattle.command_readers.specs.declared.Command.the-variants.{Administer, Variable}
 use Rattle.command_readers.specs.declared.Administration.the-variants.{CreatePrincipal, ChangePassword, SetDelegation, DeleteDelegation, DefaultDelegator, Exit}
-use Rattle.command_readers.specs.declared.VariableCommand.the-variants.{Set, Append, Local, Foreach, Return}
+use Rattle.command_readers.specs.declared.VariableCommand.the-variants.{Set, Append, Local, Foreach, Filtereach, Return}
 use Rattle.parser_c.specs.Kinds.{kindOf, code, SomeCommands, Listed, notParsed, Answers}
 
 the : {d c : Syntax.Command} → some d ≡ some c → d ≡ c
@@ -45,6 +45,7 @@ code-kind t (Variable (Set x e)) c h = bound (exprMeant t e) (Syntax.set (part t
 code-kind t (Variable (Append x e)) c h = bound (exprMeant t e) (Syntax.append-to (part t x)) 4 c (λ v. refl) h
 code-kind t (Variable (Local x e)) c h = bound (exprMeant t e) (Syntax.local (part t x)) 5 c (λ v. refl) h
 code-kind t (Variable (Foreach y x e)) c h = bound (exprMeant t e) (Syntax.foreach (part t y) (part t x)) 6 c (λ v. refl) h
+code-kind t (Variable (Filtereach y x e)) c h = bound (exprMeant t e) (Syntax.filtereach (part t y) (part t x)) 12 c (λ v. refl) h
 code-kind t (Administer (SetDelegation x q r p)) c h = ap kindOf (the h)
 code-kind t (Administer (DeleteDelegation x q r p)) c h = ap kindOf (the h)
 code-kind t (Administer (DefaultDelegator p)) c h = ap kindOf (the h)

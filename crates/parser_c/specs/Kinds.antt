@@ -1,4 +1,4 @@
--- The kinds of a program's commands, as numbers in the order of document 01's statuses.
+-- The kinds of a program's commands, as numbers in the order of document 01's statuses; those of later requests follow.
 use mathlib.Core.Path.{_≡_}
 use Prim.Native.Nat.{ℕ, _≤_, _<_}
 use mathlib.Core.Option.{Option, none, some}
@@ -6,7 +6,7 @@ use mathlib.Core.List.{List, _++_, map}
 use lib.ListN.{length, drop}
 use Rattle.language.specs.Text.{Text}
 use Rattle.language.specs.Syntax as Syntax
-use Rattle.language.specs.Syntax.{create-principal, change-password, set, append-to, local, foreach, set-delegation, delete-delegation, default-delegator, exit, return}
+use Rattle.language.specs.Syntax.{create-principal, change-password, set, append-to, local, foreach, filtereach, set-delegation, delete-delegation, default-delegator, exit, return}
 use Rattle.language.specs.Programs.{parse}
 use Rattle.parser.specs.Bodies.{bodyFrom}
 use Rattle.command_readers.specs.declared.Command.{Command}
@@ -14,7 +14,7 @@ use Rattle.command_readers.specs.declared.Command.the-variants.{Administer, Var
 use Rattle.command_readers.specs.declared.Administration.{Administration}
 use Rattle.command_readers.specs.declared.Administration.the-variants.{CreatePrincipal, ChangePassword, SetDelegation, DeleteDelegation, DefaultDelegator, Exit}
 use Rattle.command_readers.specs.declared.VariableCommand.{VariableCommand}
-use Rattle.command_readers.specs.declared.VariableCommand.the-variants.{Set, Append, Local, Foreach, Return}
+use Rattle.command_readers.specs.declared.VariableCommand.the-variants.{Set, Append, Local, Foreach, Filtereach, Return}
 
 abbrev pub kindOf : Syntax.Command → ℕ
 kindOf (create-principal p t) = 1
@@ -23,6 +23,7 @@ kindOf (set x e) = 3
 kindOf (append-to x e) = 4
 kindOf (local x e) = 5
 kindOf (foreach y x e) = 6
+kindOf (filtereach y x e) = 12
 kindOf (set-delegation t q r p) = 7
 kindOf (delete-delegation t q r p) = 8
 kindOf (default-delegator p) = 9
@@ -43,6 +44,7 @@ variableCode (Set x e) = 3
 variableCode (Append x e) = 4
 variableCode (Local x e) = 5
 variableCode (Foreach y x e) = 6
+variableCode (Filtereach y x e) = 12
 variableCode (Return e) = 10
 
 abbrev pub code : Command → ℕ

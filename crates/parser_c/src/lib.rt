@@ -39,6 +39,7 @@ fn variable_kind(c: VariableCommand) -> u8
         VariableCommand::Append(_, _) => 4,
         VariableCommand::Local(_, _) => 5,
         VariableCommand::Foreach(_, _, _) => 6,
+        VariableCommand::Filtereach(_, _, _) => 12,
         VariableCommand::Return(_) => 10,
     }
 }

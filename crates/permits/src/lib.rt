@@ -1,9 +1,9 @@
-// Whether the sender of a program may do something with a name, and may read all that an expression evaluates.
+// Whether the sender of a program may do something with a name, and may read all that a term evaluates.
 use assertion::READ;
 use store::index::Found;
-use syntax::Expr;
 use syntax::FieldRead;
 use syntax::Operand;
+use syntax::Term;
 ghost use mathlib.Core.Path.{_≡_};
 ghost use mathlib.Core.Bool.{not};
 ghost use mathlib.Core.Option.{some};
@@ -12,10 +12,35 @@ ghost use Rattle.language.specs.Tokens.{Token};
 ghost use Rattle.language.specs.Syntax.{Right, Binding};
 ghost use Rattle.language.specs.Syntax as Syntax;
 ghost use Rattle.language.specs.Values.{Session};
-ghost use Rattle.language.specs.Expressions.{operandNames, bindingNames, names};
-ghost use Rattle.syntax.specs.Values.{operandMeant, OperandWithin, recordAt, exprMeant, SomeExpr, SomeRecord};
+ghost use Rattle.language.specs.Expressions.{operandNames, bindingNames, termNames};
+ghost use Rattle.syntax.specs.Values.{operandMeant, OperandWithin, recordAt, termMeant, SomeTerm, SomeRecord};
 ghost use Rattle.named_rights.specs.Numbers.{code};
 ghost use Rattle.permits.specs.Permits.{Sends, SomeSender, allowedOn, unread};
+ghost use Rattle.permits.specs.Knowledge.{past};
+
+// What is known of the terms of an expression, in the order in which they stand: that the sender may read all of them; that it may read so
+// many, and the next one not; or nothing.
+pub enum Known {
+    All,
+    Until(usize),
+    Nothing,
+}
+
+// What is known of the terms behind the first one, which may be read.
+pub fn behind(known: Known) -> Known
+    ensures { λ r. ⌜ r ≡ past known ⌝ }
+{
+    match known {
+        Known::All => Known::All,
+        Known::Until(k) => {
+            if k == 0 {
+                return Known::Until(0);
+            }
+            Known::Until(k - 1)
+        }
+        Known::Nothing => Known::Nothing,
+    }
+}
 
 // Whether the sender may do to `name` what the right allows. A name that is no shared variable asks for no right.
 pub fn allowed(
@@ -137,7 +162,7 @@ fn fields_readable(
     }
 }
 
-// Whether the sender may read the names that both values of a call evaluate.
+// Whether the sender may read the names that both values of a call or of a comparison evaluate.
 fn both_readable(
     shared: &[u8],
     slots: &[u32],
@@ -180,7 +205,7 @@ fn both_readable(
     )
 }
 
-// Whether the sender may read all names that an expression evaluates. What `tolower` evaluates is its value.
+// Whether the sender may read all names that a term evaluates. What `tolower` evaluates is its value.
 pub fn readable(
     shared: &[u8],
     slots: &[u32],
@@ -190,16 +215,16 @@ pub fn readable(
     principals: usize,
     sender: usize,
     text: &[u8],
-    e: Expr,
+    e: Term,
 ) -> bool
-    requires { ⌜ SomeSender (now shared) (now slots) count (now assertions) n principals sender × SomeExpr (now text) e ⌝ }
-    ensures { λ b. ⌜ ((s : Session) (x : Syntax.Expr) → Sends s (now (shared .entry)) (now (slots .entry)) count (now (assertions .entry)) n principals sender
-        → exprMeant (now (text .entry)) e ≡ some x → unread s (names x) ≡ not b) ⌝ }
+    requires { ⌜ SomeSender (now shared) (now slots) count (now assertions) n principals sender × SomeTerm (now text) e ⌝ }
+    ensures { λ b. ⌜ ((s : Session) (x : Syntax.Term) → Sends s (now (shared .entry)) (now (slots .entry)) count (now (assertions .entry)) n principals sender
+        → termMeant (now (text .entry)) e ≡ some x → unread s (termNames x) ≡ not b) ⌝ }
 {
     let v = match e {
-        Expr::Single(v) => v,
-        Expr::Empty => return true,
-        Expr::Record(at) => return fields_readable(
+        Term::Single(v) => v,
+        Term::Empty => return true,
+        Term::Record(at) => return fields_readable(
             shared,
             slots,
             count,
@@ -210,8 +235,20 @@ pub fn readable(
             text,
             at,
         ),
-        Expr::Lower(v) => v,
-        Expr::Call(_, v, w) => return both_readable(
+        Term::Lower(v) => v,
+        Term::Call(_, v, w) => return both_readable(
+            shared,
+            slots,
+            count,
+            assertions,
+            n,
+            principals,
+            sender,
+            text,
+            v,
+            w,
+        ),
+        Term::Compare(_, v, w) => return both_readable(
             shared,
             slots,
             count,

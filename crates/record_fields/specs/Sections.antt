@@ -2,12 +2,12 @@
 use mathlib.Core.Path.{_≡_}
 use Prim.Native.Nat.{ℕ, _+_, _*_, _≤_}
 use mathlib.Core.Bool.{Bool, true, _&&_, not}
-use mathlib.Core.List.{List, [], _∷_, _++_, map}
+use mathlib.Core.List.{List, [], _∷_, _++_}
 use lib.Dec.{T, leb, eqb}
 use lib.ListN.{length, getD, drop}
 use Rattle.language.specs.Text.{Text, all, joined, sum, distinct}
 use Rattle.language.specs.Syntax.{Name}
-use Rattle.language.specs.State.{Field}
+use Rattle.language.specs.State.{labels, Field}
 use Rattle.language.specs.Identifiers.{isString}
 use Rattle.language.specs.Weight.{limit}
 use Rattle.language.specs.Encode.{fieldText}
@@ -107,7 +107,7 @@ abbrev pub FieldMeant : Text → ℕ → ℕ → Entry → Type 0
 FieldMeant = EntryMeant (λ (f : Field). f .label) fieldText validField fieldWeight anyText
 
 abbrev pub distinctLabels : List Field → Bool
-distinctLabels fs = distinct (map (λ f. f .label) fs)
+distinctLabels fs = distinct (labels fs)
 
 abbrev pub FieldsMeant : Text → ℕ → ℕ → Section → Type 0
 FieldsMeant = SectionMeant fieldText validField distinctLabels fieldWeight offField

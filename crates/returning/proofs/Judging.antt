@@ -15,8 +15,8 @@ use Rattle.language.specs.Expressions.{value}
 use Rattle.language.specs.Commands.{Effect, effect, sessionWeight, step}
 use Rattle.session.proofs.Steps.{is-denied, is-failed, is-filled, is-done}
 use Rattle.lookup.specs.Told.{Answers}
-use Rattle.lookup.specs.declared.Answered.{Answered}
-use Rattle.lookup.specs.declared.Answered.the-variants as Told
+use Rattle.evaluated.specs.declared.Answered.{Answered}
+use Rattle.evaluated.specs.declared.Answered.the-variants as Told
 use Rattle.returning.specs.Returns.{Given, answerTo}
 
 abbrev effectOf : Session → Value → Effect

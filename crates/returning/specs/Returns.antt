@@ -9,8 +9,8 @@ use Rattle.language.specs.Output.{returning}
 use Rattle.language.specs.Values.{Session}
 use Rattle.language.specs.Commands.{Effect, Step, refused, went, DENIED, FAILED, FULL}
 use Rattle.values.specs.Encoding.{Holds}
-use Rattle.lookup.specs.declared.Answered.{Answered}
-use Rattle.lookup.specs.declared.Answered.the-variants as Told
+use Rattle.evaluated.specs.declared.Answered.{Answered}
+use Rattle.evaluated.specs.declared.Answered.the-variants as Told
 use Rattle.returning.specs.declared.Returned.{Returned}
 use Rattle.returning.specs.declared.Returned.the-variants as Is
 

@@ -1,5 +1,5 @@
 // The ending `return e`: the value that the program prints.
-use lookup::Answered;
+use evaluated::Answered;
 use session::Layout;
 use syntax::Expr;
 ghost use mathlib.Core.Path.{_≡_};
@@ -57,7 +57,7 @@ pub fn value<'a>(
         → Running s l (slices (now (principals .entry)) (now («principal_slots» .entry)) (now (vars .entry)) (now («variable_slots» .entry)) (now (locals .entry)) (now («local_slots» .entry)) (now (assertions .entry)))
         → exprMeant (now (text .entry)) e ≡ some x → Given r (step s (Syntax.return x)) s (now (value .exit))) ⌝ }
 {
-    let r = lookup::answer(
+    let r = lookup::any_answer(
         vars,
         variable_slots,
         locals,

@@ -13,7 +13,7 @@ use Rattle.language.proofs.StateText.Names.{named-is}
 use Rattle.language.proofs.Meaning.ValidValues.{holding}
 use Rattle.language.proofs.Meaning.ValidRuns.{ready-valid}
 use Rattle.named_rights.specs.Numbers.{principalsOf}
-use Rattle.evaluate.specs.Scopes.{Scope, SomeScope}
+use Rattle.scopes.specs.Scopes.{Scope, SomeScope}
 use Rattle.permits.specs.Permits.{Sends, SomeSender}
 use Rattle.session.specs.declared.Layout.{Layout}
 use Rattle.session.specs.Sessions.{Slices, Running}

@@ -30,8 +30,8 @@ use Rattle.assignment.specs.Assignments.{Assigns}
 use Rattle.variable_text.specs.Puts.{Weighs}
 use Rattle.lookup.specs.Looks.{elementsIn}
 use Rattle.lookup.specs.Told.{Answers}
-use Rattle.lookup.specs.declared.Answered.{Answered}
-use Rattle.lookup.specs.declared.Answered.the-variants as Told
+use Rattle.evaluated.specs.declared.Answered.{Answered}
+use Rattle.evaluated.specs.declared.Answered.the-variants as Told
 use Rattle.lookup.proofs.Looking.{denied-set, denied-append}
 use Rattle.settlement.specs.Commands.{verdictOf, settlement}
 use Rattle.settlement.specs.declared.Settled.{Settled}
@@ -49,7 +49,7 @@ weighed H = record { held = H .held; weighs = H .weighs; light = H .light }
 
 -- A command whose own rule denies it to nobody, or not to the sender: where it fits, it does f with the value of its expression.
 pub record Does (s : Session) (c : Command) (y : Expr) (fits : Bool) (f : Value → Effect) : Type 0 where
-  pub denied-by : denied s c ≡ unread s (names y)
+  pub denied-by : denied s c ≡ unread s (names s y)
   pub effect-is : effect s c ≡ (provided fits >> (value s y >>= λ v. gives (f v)))
 
 -- the sender has no right that the command's own rule asks for, or has one
@@ -87,21 +87,21 @@ module _ (s : Session) (x : Name) where
 
   module _ (y : Expr) (b : Bool) where
     pub set-denied : b ≡ allowedOn s write x → not b ≡ true → denied s (set x y) ≡ true
-    set-denied = own-denied (denied s (set x y)) (allowedOn s write x) (unread s (names y)) b (denied-set s x y)
+    set-denied = own-denied (denied s (set x y)) (allowedOn s write x) (unread s (names s y)) b (denied-set s x y)
 
     pub set-does : b ≡ allowedOn s write x → not b ≡ false → Does s (set x y) y true setEffect
     set-does q h = record {
-      denied-by = own-met (denied s (set x y)) (allowedOn s write x) (unread s (names y)) b (denied-set s x y) q h;
+      denied-by = own-met (denied s (set x y)) (allowedOn s write x) (unread s (names s y)) b (denied-set s x y) q h;
       effect-is = refl;
     }
 
     pub append-denied : b ≡ (allowedOn s write x || allowedOn s append x) → not b ≡ true → denied s (append-to x y) ≡ true
-    append-denied = own-denied (denied s (append-to x y)) (allowedOn s write x || allowedOn s append x) (unread s (names y)) b (denied-append s x y)
+    append-denied = own-denied (denied s (append-to x y)) (allowedOn s write x || allowedOn s append x) (unread s (names s y)) b (denied-append s x y)
 
     pub append-does : (fits : Bool) → fits ≡ present (elementsIn (lookup s x)) → b ≡ (allowedOn s write x || allowedOn s append x) → not b ≡ false
         → Does s (append-to x y) y fits appendEffect
     append-does fits p q h = record {
-      denied-by = own-met (denied s (append-to x y)) (allowedOn s write x || allowedOn s append x) (unread s (names y)) b (denied-append s x y) q h;
+      denied-by = own-met (denied s (append-to x y)) (allowedOn s write x || allowedOn s append x) (unread s (names s y)) b (denied-append s x y) q h;
       effect-is = go (lookup s x) ∙ ap (λ (z : Bool). provided z >> (value s y >>= λ v. gives (appendEffect v))) (sym p);
     }
       where
@@ -121,7 +121,7 @@ module _ (s : Session) (x : Name) where
 
 -- the command has a value to store: it fits, and out holds the value
 pub record Stores (s : Session) (y : Expr) (fits : Bool) (out : Text) (n w : ℕ) : Type 0 where
-  pub unread-none : unread s (names y) ≡ false
+  pub unread-none : unread s (names s y) ≡ false
   pub fitting : fits ≡ true
   pub written : Written (value s y) out n w
 

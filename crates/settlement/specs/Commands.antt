@@ -13,8 +13,8 @@ use Rattle.syntax.specs.declared.Expr as Read
 use Rattle.session.specs.declared.Verdict.{Verdict}
 use Rattle.session.specs.declared.Verdict.the-variants as Ends
 use Rattle.lookup.specs.Looks.{Said}
-use Rattle.lookup.specs.declared.Answered.{Answered}
-use Rattle.lookup.specs.declared.Answered.the-variants as Told
+use Rattle.evaluated.specs.declared.Answered.{Answered}
+use Rattle.evaluated.specs.declared.Answered.the-variants as Told
 use Rattle.assignment.specs.declared.Assigned.{Assigned}
 use Rattle.assignment.specs.declared.Assigned.the-variants.{Full, Done}
 use Rattle.settlement.specs.declared.Settled.{Settled}

@@ -1,6 +1,6 @@
 // What the answer for an expression leaves of a command that stores its value (set, append, local), and how such a command ends.
 use assignment::Assigned;
-use lookup::Answered;
+use evaluated::Answered;
 use session::Verdict;
 ghost use mathlib.Core.Path.{_≡_};
 ghost use Rattle.settlement.specs.Commands.{verdictOf, settlement};

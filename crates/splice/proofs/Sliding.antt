@@ -76,7 +76,7 @@ over-same d s e h l =
 -- what goes through a block comes out of it
 pub through : (block src : Text) (n : ℕ) → length src ≡ n → n ≤ length block → take (n - 0) (drop 0 (over block 0 src)) ≡ src
 through block src n e h =
-    ap (λ (j : ℕ). take j (over block 0 src)) (let q : n - 0 ≡ length src = omega arith in q) ∙ over-front block src (omega arith)
+    ap (λ (j : ℕ). take j (over block 0 src)) (let q : n - 0 ≡ length src = omega arith in q) ∙ over-front block src
 
 -- one block more moved down
 module _ (d now : Text) (from to i e : ℕ) (h : to ≤ from) (k : from ≤ i) (m : i ≤ e) (l : e ≤ length d) (was : now ≡ over d to (part d from i)) where

@@ -56,8 +56,8 @@ pub set-over : (d : Text) (i b : ℕ) → i < length d → set d i b ≡ over d 
 set-over d i b h = set-split d i b h ∙ ap (λ (n : ℕ). take i d ++ (b ∷ drop n d)) (sym (add-one i))
 
 -- what was written over the front of a list
-pub over-front : (d src : Text) → length src ≤ length d → take (length src) (over d 0 src) ≡ src
-over-front d src h = take-at src (drop (0 + length src) d) (length src) refl
+pub over-front : (d src : Text) → take (length src) (over d 0 src) ≡ src
+over-front d src = take-at src (drop (0 + length src) d) (length src) refl
 
 -- ---- numbers moved in place
 

@@ -17,6 +17,18 @@ pub fn copy(dst: &mut [u8], at: usize, src: &[u8])
     }
 }
 
+// Copies slots over a part of others.
+pub fn copy_slots(dst: &mut [u32], at: usize, src: &[u32])
+    requires { ⌜ at + length (now src) ≤ length (now dst) ⌝ }
+    ensures { λ _. ⌜ now (dst .exit) ≡ over (now (dst .entry)) at (now (src .entry)) ⌝ }
+{
+    let mut k = 0;
+    while k < src.len() {
+        dst[at + k] = src[k];
+        k += 1;
+    }
+}
+
 // How many of `left` bytes are moved at once.
 fn block_size(left: usize) -> usize
     requires { ⌜ 0 < left ⌝ }

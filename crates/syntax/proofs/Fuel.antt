@@ -15,16 +15,16 @@ use Rattle.language.specs.Grammar.{Reader, then-read, _>>=_, _>>_, _∣_, give,
 use Rattle.tokens.proofs.Reading.{no-some}
 
 -- a reader takes a token, or none
-abbrev Shorter : {A : Type 0} → Reader A → Type 0
+abbrev pub Shorter : {A : Type 0} → Reader A → Type 0
 Shorter {A} m = (ts us : List Token) (a : A) → m ts ≡ some (a, us) → length us < length ts
 
-abbrev NotLonger : {A : Type 0} → Reader A → Type 0
+abbrev pub NotLonger : {A : Type 0} → Reader A → Type 0
 NotLonger {A} m = (ts us : List Token) (a : A) → m ts ≡ some (a, us) → length us ≤ length ts
 
-rest-is : {A : Type 0} {a b : A} {us vs : List Token} → _≡_ {A = Option (A × List Token)} (some (a, us)) (some (b, vs)) → us ≡ vs
+pub rest-is : {A : Type 0} {a b : A} {us vs : List Token} → _≡_ {A = Option (A × List Token)} (some (a, us)) (some (b, vs)) → us ≡ vs
 rest-is {A} {a} {b} {us} {vs} e = let p : _≡_ {A = A × List Token} (a, us) (b, vs) = cc in ap (λ (q : A × List Token). q .1) p
 
-sign-shorter : (s : Text) → Shorter (theSign s)
+pub sign-shorter : (s : Text) → Shorter (theSign s)
 sign-shorter s [] us a e = no-some e
 sign-shorter s (sign w ∷ ts) us a e = go (w == s) e
   where
@@ -35,7 +35,7 @@ sign-shorter s (ident w ∷ ts) us a e = no-some e
 sign-shorter s (text w ∷ ts) us a e = no-some e
 sign-shorter s (wrong ∷ ts) us a e = no-some e
 
-name-shorter : Shorter anyName
+pub name-shorter : Shorter anyName
 name-shorter [] us a e = no-some e
 name-shorter (sign w ∷ ts) us a e = no-some e
 name-shorter (ident w ∷ ts) us a e = omega (arith, ap length (rest-is e))
@@ -49,27 +49,27 @@ string-shorter (ident w ∷ ts) us a e = no-some e
 string-shorter (text w ∷ ts) us a e = omega (arith, ap length (rest-is e))
 string-shorter (wrong ∷ ts) us a e = no-some e
 
-give-not-longer : {A : Type 0} (b : A) → NotLonger (give b)
+pub give-not-longer : {A : Type 0} (b : A) → NotLonger (give b)
 give-not-longer b ts us a e = omega (arith, ap length (rest-is e))
 
-weaker : {A : Type 0} (m : Reader A) → Shorter m → NotLonger m
+pub weaker : {A : Type 0} (m : Reader A) → Shorter m → NotLonger m
 weaker m h ts us a e = omega (arith, h ts us a e)
 
-bind-not-longer : {A B : Type 0} (m : Reader A) (f : A → Reader B) → NotLonger m → ((a : A) → NotLonger (f a)) → NotLonger (m >>= f)
+pub bind-not-longer : {A B : Type 0} (m : Reader A) (f : A → Reader B) → NotLonger m → ((a : A) → NotLonger (f a)) → NotLonger (m >>= f)
 bind-not-longer {A} {B} m f h k ts us b e = go (m ts) refl e
   where
     go : (r : Option (A × List Token)) → m ts ≡ r → then-read r f ≡ some (b, us) → length us ≤ length ts
     go none q p = no-some p
     go (some r) q p = omega (arith, h ts (r .1) (r .0) q, k (r .0) (r .1) us b p)
 
-or-not-longer : {A : Type 0} (m n : Reader A) → NotLonger m → NotLonger n → NotLonger (m ∣ n)
+pub or-not-longer : {A : Type 0} (m n : Reader A) → NotLonger m → NotLonger n → NotLonger (m ∣ n)
 or-not-longer {A} m n h k ts us a e = go (m ts) refl e
   where
     go : (r : Option (A × List Token)) → m ts ≡ r → r orElse n ts ≡ some (a, us) → length us ≤ length ts
     go none q p = k ts us a p
     go (some r) q p = h ts us a (q ∙ p)
 
-operand-not-longer : NotLonger anyOperand
+pub operand-not-longer : NotLonger anyOperand
 operand-not-longer =
     or-not-longer _ _
     (bind-not-longer anyName fieldOrVariable (weaker anyName name-shorter) (λ x.
@@ -80,17 +80,17 @@ operand-not-longer =
     (bind-not-longer anyString _ (weaker anyString string-shorter) (λ s. give-not-longer (quoted s)))
 
 -- two readers agree on at most n tokens
-abbrev Agree : {A : Type 0} → ℕ → Reader A → Reader A → Type 0
+abbrev pub Agree : {A : Type 0} → ℕ → Reader A → Reader A → Type 0
 Agree n m k = (ts : List Token) → length ts ≤ n → m ts ≡ k ts
 
-bind-agree : {A B : Type 0} (n : ℕ) (m : Reader A) (f g : A → Reader B) → NotLonger m → ((a : A) → Agree n (f a) (g a)) → Agree n (m >>= f) (m >>= g)
+pub bind-agree : {A B : Type 0} (n : ℕ) (m : Reader A) (f g : A → Reader B) → NotLonger m → ((a : A) → Agree n (f a) (g a)) → Agree n (m >>= f) (m >>= g)
 bind-agree {A} n m f g h k ts l = go (m ts) refl
   where
     go : (r : Option (A × List Token)) → m ts ≡ r → then-read r f ≡ then-read r g
     go none q = refl
     go (some r) q = k (r .0) (r .1) (omega (arith, h ts (r .1) (r .0) q))
 
-bind-agree-less : {A B : Type 0} (n : ℕ) (m : Reader A) (f g : A → Reader B) → Shorter m → ((a : A) → Agree n (f a) (g a)) → Agree (suc n) (m >>= f) (m >>= g)
+pub bind-agree-less : {A B : Type 0} (n : ℕ) (m : Reader A) (f g : A → Reader B) → Shorter m → ((a : A) → Agree n (f a) (g a)) → Agree (suc n) (m >>= f) (m >>= g)
 bind-agree-less {A} n m f g h k ts l = go (m ts) refl
   where
     go : (r : Option (A × List Token)) → m ts ≡ r → then-read r f ≡ then-read r g

@@ -9,8 +9,8 @@ use mathlib.Core.Path.{_≡_}
 use Rattle.language.specs.Text.{Text, _>>=_, present}
 use Rattle.language.specs.Tokens.{Token, lex}
 use Rattle.language.specs.Syntax as Syntax
-use Rattle.language.specs.Grammar.{anyFields}
-use Rattle.language.proofs.Parsing.ValidPrograms.{validExpr}
+use Rattle.language.specs.Grammar.{anyFields, anyExpression}
+use Rattle.language.proofs.Parsing.ValidPrograms.{validTerm, validExpr}
 use Rattle.text.specs.Meaning.{part, Within}
 use Rattle.syntax.specs.declared.Operand.{Operand}
 use Rattle.syntax.specs.declared.Operand.the-variants.{Name, Field, Quoted}
@@ -22,8 +22,14 @@ use Rattle.syntax.specs.declared.Function.{Function}
 use Rattle.syntax.specs.declared.Function.the-variants.{Split, Concat, Arithmetic}
 use Rattle.syntax.specs.declared.Operation.{Operation}
 use Rattle.syntax.specs.declared.Operation.the-variants.{Add, Sub, Times, Per}
+use Rattle.syntax.specs.declared.Comparison.{Comparison}
+use Rattle.syntax.specs.declared.Comparison.the-variants.{Equal, NotEqual}
+use Rattle.syntax.specs.declared.Term.{Term}
+use Rattle.syntax.specs.declared.Term.the-variants.{Single, Empty, Record, Lower, Call, Compare}
+use Rattle.syntax.specs.declared.TermRead.{TermRead}
+use Rattle.syntax.specs.declared.TermRead.the-variants as TermIs
 use Rattle.syntax.specs.declared.Expr.{Expr}
-use Rattle.syntax.specs.declared.Expr.the-variants.{Single, Empty, Record, Lower, Call}
+use Rattle.syntax.specs.declared.Expr.the-variants as ExprOf
 use Rattle.syntax.specs.declared.ExprRead.{ExprRead}
 use Rattle.syntax.specs.declared.ExprRead.the-variants as ExprIs
 
@@ -85,21 +91,48 @@ functionMeant Split = Syntax.split
 functionMeant Concat = Syntax.concat
 functionMeant (Arithmetic o) = Syntax.arithmetic (operationMeant o)
 
--- ---- expressions
-abbrev pub exprMeant : Text → Expr → Option Syntax.Expr
-exprMeant t (Single v) = some (Syntax.single (operandMeant t v))
-exprMeant t Empty = some Syntax.nothing
-exprMeant t (Record p) = recordAt t p >>= λ r. some (Syntax.fields (r .0))
-exprMeant t (Lower v) = some (Syntax.tolower (operandMeant t v))
-exprMeant t (Call f v w) = some (Syntax.call (functionMeant f) (operandMeant t v) (operandMeant t w))
+abbrev pub comparisonMeant : Comparison → Syntax.Comparison
+comparisonMeant Equal = Syntax.equal
+comparisonMeant NotEqual = Syntax.notequal
 
--- every place in an expression is within the text, and a record has its fields
+-- ---- terms
+abbrev pub termMeant : Text → Term → Option Syntax.Term
+termMeant t (Single v) = some (Syntax.single (operandMeant t v))
+termMeant t Empty = some Syntax.nothing
+termMeant t (Record p) = recordAt t p >>= λ r. some (Syntax.fields (r .0))
+termMeant t (Lower v) = some (Syntax.tolower (operandMeant t v))
+termMeant t (Call f v w) = some (Syntax.call (functionMeant f) (operandMeant t v) (operandMeant t w))
+termMeant t (Compare c v w) = some (Syntax.compare (comparisonMeant c) (operandMeant t v) (operandMeant t w))
+
+-- every place in a term is within the text, and a record has its fields
+abbrev pub TermWithin : Text → Term → Type 0
+TermWithin t (Single v) = OperandWithin t v
+TermWithin t Empty = Unit
+TermWithin t (Record p) = (p ≤ length t) × (present (recordAt t p) ≡ true)
+TermWithin t (Lower v) = OperandWithin t v
+TermWithin t (Call f v w) = OperandWithin t v × OperandWithin t w
+TermWithin t (Compare c v w) = OperandWithin t v × OperandWithin t w
+
+abbrev pub termReadMeant : Text → TermRead → Option (Syntax.Term × List Token)
+termReadMeant t (TermIs.Found e n) = termMeant t e >>= λ x. some (x, lex (drop n t))
+termReadMeant t TermIs.No = none
+
+abbrev pub TermPlaced : Text → ℕ → TermRead → Type 0
+TermPlaced t at (TermIs.Found e n) = TermWithin t e × (at < n) × (n ≤ length t)
+TermPlaced t at TermIs.No = Unit
+
+-- ---- expressions
+-- the expression that stands from place `at` on, and the tokens past it
+abbrev pub expressionAt : Text → ℕ → Option (Syntax.Expr × List Token)
+expressionAt t at = anyExpression (lex (drop at t))
+
+abbrev pub exprMeant : Text → Expr → Option Syntax.Expr
+exprMeant t (ExprOf.Term e) = termMeant t e >>= λ x. some (Syntax.term x)
+exprMeant t (ExprOf.Let p) = expressionAt t p >>= λ r. some (r .0)
+
 abbrev pub ExprWithin : Text → Expr → Type 0
-ExprWithin t (Single v) = OperandWithin t v
-ExprWithin t Empty = Unit
-ExprWithin t (Record p) = (p ≤ length t) × (present (recordAt t p) ≡ true)
-ExprWithin t (Lower v) = OperandWithin t v
-ExprWithin t (Call f v w) = OperandWithin t v × OperandWithin t w
+ExprWithin t (ExprOf.Term e) = TermWithin t e
+ExprWithin t (ExprOf.Let p) = (p ≤ length t) × (present (expressionAt t p) ≡ true)
 
 abbrev pub exprReadMeant : Text → ExprRead → Option (Syntax.Expr × List Token)
 exprReadMeant t (ExprIs.Found e n) = exprMeant t e >>= λ x. some (x, lex (drop n t))
@@ -110,7 +143,14 @@ ExprPlaced t at (ExprIs.Found e n) = ExprWithin t e × (at < n) × (n ≤ length
 ExprPlaced t at ExprIs.No = Unit
 
 -- ---- what a text says
--- the program's text says a valid expression at these places
+-- the program's text says a valid term at these places
+pub record SomeTerm (t : Text) (e : Term) : Type 0 where
+  pub term : Syntax.Term
+  pub meant : termMeant t e ≡ some term
+  pub within : TermWithin t e
+  pub is-valid : T (validTerm term)
+
+-- a valid expression
 pub record SomeExpr (t : Text) (e : Expr) : Type 0 where
   pub expression : Syntax.Expr
   pub meant : exprMeant t e ≡ some expression
@@ -123,4 +163,4 @@ pub record SomeRecord (t : Text) (at : ℕ) : Type 0 where
   pub others : List Token
   pub here : recordAt t at ≡ some (bindings, others)
   pub within : at ≤ length t
-  pub is-valid : T (validExpr (Syntax.fields bindings))
+  pub is-valid : T (validTerm (Syntax.fields bindings))

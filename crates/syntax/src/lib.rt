@@ -122,21 +122,39 @@ pub enum Operation {
     Per,
 }
 
-// A function of two values.
+// A function of two strings.
 pub enum Function {
     Split,
     Concat,
     Arithmetic(Operation),
 }
 
-// An expression: a value, `[]`, a record, whose fields stand past the place of its brace, or a function with its values. These are
-// one or two, and stand in the answer: nothing is read again where they are evaluated.
-pub enum Expr {
+// Whether two values are the same.
+pub enum Comparison {
+    Equal,
+    NotEqual,
+}
+
+// A term: a value, `[]`, a record, whose fields stand past the place of its brace, or a function or a comparison with its values. These
+// are one or two, and stand in the answer: nothing is read again where they are evaluated.
+pub enum Term {
     Single(Operand),
     Empty,
     Record(usize),
     Lower(Operand),
     Call(Function, Operand, Operand),
+    Compare(Comparison, Operand, Operand),
+}
+
+pub enum TermRead {
+    Found(Term, usize),
+    No,
+}
+
+// An expression: a term, or a `let`, which stands from a place on and is read again where it is evaluated: it may be as long as the text.
+pub enum Expr {
+    Term(Term),
+    Let(usize),
 }
 
 pub enum ExprRead {

@@ -114,6 +114,25 @@ pub fn act(
             );
             done(v, Status::Foreach)
         }
+        VariableCommand::Filtereach(y, x, e) => {
+            let v = filtereach::filtereach(
+                principals,
+                principal_slots,
+                vars,
+                variable_slots,
+                locals,
+                local_slots,
+                assertions,
+                value,
+                labels,
+                l,
+                text,
+                y,
+                x,
+                e,
+            );
+            done(v, Status::Filtereach)
+        }
         VariableCommand::Return(e) => {
             let v = returning::value(
                 principals,

@@ -15,7 +15,7 @@ use Rattle.session.specs.Sessions.{Slices, slices, Running}
 use Rattle.session.proofs.Steps.{is-denied}
 use Rattle.lookup.specs.Looks.{Scoped, Sending}
 use Rattle.lookup.specs.Told.{Answers}
-use Rattle.lookup.proofs.Looking.{scoped, sending}
+use Rattle.lookup.proofs.Looking.{scoped, sending, copyable}
 use Rattle.settlement.proofs.Ending.{lent, weighed, appendEffect, append-denied, append-does, elementsOf, listed, Does, Stores, over, stores, ends}
 use borrow.Author.Needs.{needs}
 use Rattle.append_command.proofs.append.Statement.{statement}
@@ -124,7 +124,10 @@ answer-requires c κs =
         record { session = S .session; scoped = session-scoped start (S .session) (S .running) },
         record { session = S .session; sending = session-sends start (S .session) (S .running) },
       ),
-      (start .pre .1 .0 .said, lent (a .value .now) (a .labels .now) (start .pre .1 .1 .value-size) (start .pre .1 .1 .labels-size)),
+      (
+        (start .pre .1 .0 .said, lent (a .value .now) (a .labels .now) (start .pre .1 .1 .value-size) (start .pre .1 .1 .labels-size)),
+        copyable (S .session) (a .l) (buffers start) (S .running),
+      ),
     )
 
 is-list-requires : tie.Need-is-list-requires

@@ -8,7 +8,7 @@ use Rattle.language.specs.Grammar.{anyCommand}
 use Rattle.text.specs.Meaning.{part}
 use Rattle.tokens.specs.Readers.{foundMeant, FoundPlaced}
 use Rattle.tokens.proofs.Reading.{told, known, sign-is, spelled}
-use Rattle.command_readers.proofs.Dispatch.{no-sign-command, principals-only, placed-later, append-is, local-is, foreach-is}
+use Rattle.command_readers.proofs.Dispatch.{no-sign-command, principals-only, placed-later, append-is, local-is, foreach-is, filtereach-is}
 use borrow.Author.Needs.{needs}
 use Rattle.command_readers.proofs.command_at.Statement.{statement}
 use Rattle.command_readers.proofs.command_at.Tie as tie
@@ -35,7 +35,8 @@ slice-aggregate-is-sign c = search needs
 
 is-sign-requires : tie.Need-is-sign-requires
 is-sign-requires c κs =
-    let start = c .before .before .before .before .before .before in
+    let back-6 = c .before .before .before .before .before .before in
+    let start = back-6 in
     let a = start .args in
     let p1 = known (FoundPlaced (now (a .text)) (a .at)) (c .before .before .before .before .sign-at .ensures .1) (c .before .before .sign .given .1) in
     omega arith
@@ -165,22 +166,33 @@ returns-5 c =
     let word = sym (c .before .before .is-sign4 .ensures) ∙ c .before .if4 .taken in
     (c .foreach-at .ensures .0 ∙ sym (ap anyCommand (spelled (bytes "foreach") e1 word) ∙ foreach-is us), placed-later t (a .at) (s .given .0 .1 .0) (c .foreach-at .result) (omega arith) (c .foreach-at .ensures .1))
 
-principal-command-requires : tie.Need-principal-command-requires
-principal-command-requires c κs =
-    let back-13 = c .before .before .before .before .before .before .before .before .before .before .before .before .before in
+slice-aggregate-is-sign-5 : tie.Need-slice-aggregate-is-sign-5
+slice-aggregate-is-sign-5 c = search needs
+
+is-sign-requires-5 : tie.Need-is-sign-requires-5
+is-sign-requires-5 c κs =
+    let back-14 = c .before .before .before .before .before .before .before .before .before .before .before .before .before .before in
+    let back-11 = back-14 in
+    let back-13 = back-11 .before .before in
+    let start = back-13 .before .before in
+    let a = start .args in
+    let p1 = known (FoundPlaced (now (a .text)) (a .at)) (back-13 .sign-at .ensures .1) (back-11 .sign .given .1) in
+    omega arith
+
+filtereach-at-requires : tie.Need-filtereach-at-requires
+filtereach-at-requires c κs =
+    let back-16 = c .before .before .before .before .before .before .before .before .before .before .before .before .before .before .before .before in
+    let back-13 = back-16 in
     let back-15 = back-13 .before .before in
     let start = back-15 .before .before in
     let a = start .args in
     let p1 = known (FoundPlaced (now (a .text)) (a .at)) (back-15 .sign-at .ensures .1) (back-13 .sign .given .1) in
-    (omega arith, omega arith)
+    omega arith
 
 returns-6 : tie.Need-returns-6
 returns-6 c =
-    let back-7 = c .before .before .before .before .before .before .before in
-    let back-8 = back-7 .before in
-    let back-10 = back-8 .before .before in
-    let back-11 = back-10 .before in
-    let back-14 = back-11 .before .before .before in
+    let back-17 = c .before .before .before .before .before .before .before .before .before .before .before .before .before .before .before .before .before in
+    let back-14 = back-17 in
     let back-16 = back-14 .before .before in
     let start = back-16 .before .before in
     let a = start .args in
@@ -189,12 +201,44 @@ returns-6 c =
     let e1 = sign-is (lex (drop (a .at) t)) (told (foundMeant t) (back-16 .sign-at .ensures .0) (s .given .1)) in
     let p1 = known (FoundPlaced t (a .at)) (back-16 .sign-at .ensures .1) (s .given .1) in
     let us = lex (drop (s .given .0 .1 .0) t) in
-    let set = sym (back-11 .is-sign .ensures) ∙ back-10 .if1 .left in
-    let append = sym (back-8 .is-sign2 .ensures) ∙ back-7 .if2 .left in
-    let local = sym (c .before .before .before .before .before .is-sign3 .ensures) ∙ c .before .before .before .before .if3 .left in
-    let foreach = sym (c .before .before .is-sign4 .ensures) ∙ c .before .if4 .left in
+    let word = sym (c .before .before .is-sign5 .ensures) ∙ c .before .if5 .taken in
+    (c .filtereach-at .ensures .0 ∙ sym (ap anyCommand (spelled (bytes "filtereach") e1 word) ∙ filtereach-is us), placed-later t (a .at) (s .given .0 .1 .0) (c .filtereach-at .result) (omega arith) (c .filtereach-at .ensures .1))
+
+principal-command-requires : tie.Need-principal-command-requires
+principal-command-requires c κs =
+    let back-16 = c .before .before .before .before .before .before .before .before .before .before .before .before .before .before .before .before in
+    let back-13 = back-16 in
+    let back-15 = back-13 .before .before in
+    let start = back-15 .before .before in
+    let a = start .args in
+    let p1 = known (FoundPlaced (now (a .text)) (a .at)) (back-15 .sign-at .ensures .1) (back-13 .sign .given .1) in
+    (omega arith, omega arith)
+
+returns-7 : tie.Need-returns-7
+returns-7 c =
+    let back-7 = c .before .before .before .before .before .before .before in
+    let back-8 = back-7 .before in
+    let back-10 = back-8 .before .before in
+    let back-11 = back-10 .before in
+    let back-13 = back-11 .before .before in
+    let back-14 = back-13 .before in
+    let back-17 = back-14 .before .before .before in
+    let back-19 = back-17 .before .before in
+    let back-21 = back-19 .before .before in
+    let start = back-21 in
+    let a = start .args in
+    let t = now (a .text) in
+    let s = back-17 .sign in
+    let e1 = sign-is (lex (drop (a .at) t)) (told (foundMeant t) (back-19 .sign-at .ensures .0) (s .given .1)) in
+    let p1 = known (FoundPlaced t (a .at)) (back-19 .sign-at .ensures .1) (s .given .1) in
+    let us = lex (drop (s .given .0 .1 .0) t) in
+    let set = sym (back-14 .is-sign .ensures) ∙ back-13 .if1 .left in
+    let append = sym (back-11 .is-sign2 .ensures) ∙ back-10 .if2 .left in
+    let local = sym (back-8 .is-sign3 .ensures) ∙ back-7 .if3 .left in
+    let foreach = sym (c .before .before .before .before .before .is-sign4 .ensures) ∙ c .before .before .before .before .if4 .left in
+    let filtereach = sym (c .before .before .is-sign5 .ensures) ∙ c .before .if5 .left in
     let r = c .principal-command in
-    (r .ensures .0 ∙ sym (ap anyCommand e1 ∙ principals-only (part t (s .given .0 .0)) us set append local foreach), placed-later t (a .at) (s .given .0 .1 .0) (r .result) (omega arith) (r .ensures .1))
+    (r .ensures .0 ∙ sym (ap anyCommand e1 ∙ principals-only (part t (s .given .0 .0)) us set append local foreach filtereach), placed-later t (a .at) (s .given .0 .1 .0) (r .result) (omega arith) (r .ensures .1))
 
 pub command-at-spec : {M : Type 1} → statement M
 command-at-spec =
@@ -220,5 +264,9 @@ command-at-spec =
     is-sign-requires-4
     foreach-at-requires
     returns-5
+    slice-aggregate-is-sign-5
+    is-sign-requires-5
+    filtereach-at-requires
+    returns-6
     principal-command-requires
-    returns-6)
+    returns-7)

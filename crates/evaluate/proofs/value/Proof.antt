@@ -1,11 +1,11 @@
--- `evaluate::value` meets its contract. One arm for each expression.
+-- `evaluate::value` meets its contract. One arm for each kind of term.
 -- Assumes nothing.
 use mathlib.Core.Path.{_≡_, sym, subst}
 use Rattle.language.specs.Text.{Text}
-use Rattle.language.specs.Syntax.{Expr}
+use Rattle.language.specs.Syntax.{Term}
 use Rattle.language.specs.Values.{Session}
-use Rattle.language.specs.Expressions.{value}
-use Rattle.syntax.proofs.Said.{single-meant, empty-meant, record-meant, lower-meant, call-meant, single-safe, record-safe, lower-safe, call-safe}
+use Rattle.language.specs.Expressions.{termValue}
+use Rattle.syntax.proofs.Said.{single-meant, empty-meant, record-meant, lower-meant, call-meant, compare-meant, single-safe, record-safe, lower-safe, call-safe, compare-safe}
 use Rattle.evaluated.specs.Results.{Valued}
 use Rattle.evaluated.specs.declared.Evaluated.{Evaluated}
 use borrow.Author.Needs.{needs}
@@ -15,13 +15,14 @@ use Rattle.evaluate.proofs.value.Reads as reads
 use Rattle.evaluate.proofs.value.Lts as lts
 use Rattle.evaluate.proofs.call.put_call.Reads as put-call-reads
 use Rattle.evaluate.proofs.call.put_lower.Reads as put-lower-reads
+use Rattle.evaluate.proofs.compare.put_comparison.Reads as put-comparison-reads
 use Rattle.evaluate.proofs.operand.put_operand.Reads as put-operand-reads
 use Rattle.evaluate.proofs.put_empty.Reads as put-empty-reads
 use Rattle.evaluate.proofs.record.put_fields.Reads as put-fields-reads
 
--- the same expression, by another name
-valued-at : (r : Evaluated) (s : Session) (out : Text) {x y : Expr} → x ≡ y → Valued r (value s y) out → Valued r (value s x) out
-valued-at r s out e h = subst (λ (z : Expr). Valued r (value s z) out) (sym e) h
+-- the same term, by another name
+valued-at : (r : Evaluated) (s : Session) (out : Text) {x y : Term} → x ≡ y → Valued r (termValue s y) out → Valued r (termValue s x) out
+valued-at r s out e h = subst (λ (z : Term). Valued r (termValue s z) out) (sym e) h
 
 enum-known-e : tie.Need-enum-known-e
 enum-known-e c = search needs
@@ -66,6 +67,17 @@ put-call-requires c κs =
     let g = c .before .before .e4 .given in
     let S = call-safe (start .args .text .now) (start .args .e) (P .1 .0 .0) (g .0 .0) (g .0 .1 .0) (g .0 .1 .1 .0) (g .1) in
     (P .0, (S .0, (S .1 .0, S .1 .1, P .1 .1 .out-size)))
+
+enum-known-e-5 : tie.Need-enum-known-e-5
+enum-known-e-5 c = search needs
+
+put-comparison-requires : tie.Need-put-comparison-requires
+put-comparison-requires c κs =
+    let start = c .before .before .before .before .before .before .before .before .before .before .before in
+    let P = start .pre in
+    let g = c .before .before .e5 .given in
+    let S = compare-safe (start .args .text .now) (start .args .e) (P .1 .0 .0) (g .0 .0) (g .0 .1 .0) (g .0 .1 .1 .0) (g .1) in
+    (P .0, (S .0 .0, S .1 .0, P .1 .1 .out-size))
 
 same-length : tie.Need-same-length
 same-length c = search needs
@@ -120,6 +132,16 @@ returns-5 c s x S m =
     let g = c .before .before .before .before .before .e4 .given in
     valued-at (C .result) s (C .last .1 .1 .1 .1 .1 .1 .1 .1 .1 .1 .0) (call-meant (start .args .text .now) (start .args .e) (g .0 .0) (g .0 .1 .0) (g .0 .1 .1 .0) x (g .1) m) (C .ensures s S)
 
+same-length-7 : tie.Need-same-length-7
+same-length-7 c = search needs
+
+returns-6 : tie.Need-returns-6
+returns-6 c s x S m =
+    let start = c .before .before .before .before .before .before .before .before .before .before .before .before .before .before in
+    let C = c .before .before .put-comparison in
+    let g = c .before .before .before .before .before .e5 .given in
+    valued-at (C .result) s (C .last .1 .1 .1 .1 .1 .1 .1 .1 .1 .1 .0) (compare-meant (start .args .text .now) (start .args .e) (g .0 .0) (g .0 .1 .0) (g .0 .1 .1 .0) x (g .1) m) (C .ensures s S)
+
 pub value-spec : {M : Type 1} → statement M
 value-spec =
     tie.close
@@ -134,6 +156,8 @@ value-spec =
     put-lower-requires
     enum-known-e-4
     put-call-requires
+    enum-known-e-5
+    put-comparison-requires
     same-length
     returns
     same-length-2
@@ -144,4 +168,6 @@ value-spec =
     same-length-5
     returns-4
     same-length-6
-    returns-5)
+    returns-5
+    same-length-7
+    returns-6)

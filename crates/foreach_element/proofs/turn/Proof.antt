@@ -1,120 +1,153 @@
--- `foreach_element::turn` meets its contract. The session that is evaluated has y last among its locals, which go when their old length is taken.
+-- `foreach_element::turn` meets its contract. The session in which the expression is evaluated has y last among its locals, which go when their old length is taken.
 -- Assumes nothing.
-use mathlib.Core.Path.{sym}
+use mathlib.Core.Path.{_∙_}
 use Prim.Native.Nat.{_+_, _≤_}
 use native.Mathlib.Omega.{arith}
-use mathlib.Core.List.{[], _∷_, _++_}
-use lib.ListN.{length, take}
-use lib.Seq.{length-take-le}
 use Rattle.language.specs.Text.{Text}
 use Rattle.language.specs.State.{Element, single}
 use Rattle.language.specs.Syntax.{Expr}
 use Rattle.language.specs.Values.{Session}
 use Rattle.language.specs.Expressions as Expressions
+use Rattle.language.specs.Expressions.{names}
 use Rattle.language.specs.Commands.{withElement}
 use Rattle.language.proofs.StateText.Clean.{name-length}
 use Rattle.text.specs.Meaning.{part}
-use Rattle.store.specs.Held.{Variables}
 use Rattle.values.specs.Encoding.{Holds}
-use Rattle.evaluated.specs.Results.{Valued}
+use Rattle.scopes.proofs.Bounds.{text-bound}
+use Rattle.term_answer.specs.Telling.{Tells}
+use Rattle.lets.specs.Reaching.{texts, stack}
+use Rattle.expression_answer.specs.Asking.{Asked}
 use Rattle.foreach_element.specs.Turning.{Turning}
-use Rattle.foreach_element.proofs.Lasting.{with-last, without-last}
+use Rattle.foreach_element.proofs.Lasting.{told-outside, sends-with, knows-with, with-last, without-last, fits}
 use borrow.Author.Needs.{needs}
 use Rattle.foreach_element.proofs.turn.Statement.{statement}
 use Rattle.foreach_element.proofs.turn.Tie as tie
 
 abbrev Turns : (c : tie.Start) → Session → Expr → Type 0
-Turns c s x = let a = c .args in Turning s x (a .shared .now) (a .slots .now) (a .count) (a .locals .now) (a .len) (a .lslots .now) (a .lcount) (a .text .now) (a .e)
+Turns c s x =
+    let a = c .args in
+    Turning s x (a .text .now) (texts (a .shared .now) (a .slots .now) (a .count) (a .scope .now) (a .local-slots .now)) (a .len) (a .number) (a .y) (a .e) (a .assertions .now) (a .n) (a .principals) (a .sender) (a .known)
 
 abbrev y-of : tie.Start → Text
 y-of c = part (c .args .text .now) (c .args .y)
 
 -- the function's start, as these places see it
+
 abbrev start-after-add-variable : tie.After-add-variable → tie.Start
-start-after-add-variable c = c .before .before .before .before .before .before .before .before .before .before .before .before
+start-after-add-variable c =
+    let back-17 = c .before .before .before .before .before .before .before .before .before .before .before .before .before .before .before .before .before in
+    back-17
 
-abbrev start-after-value : tie.After-value → tie.Start
-start-after-value c = c .before .before .before .before .before .before .before .before .before .before .before .before .before .before .before .before .before .before .before .before .before
+abbrev start-after-answer : tie.After-answer → tie.Start
+start-after-answer c =
+    let back-30 = c .before .before .before .before .before .before .before .before .before .before .before .before .before .before .before .before .before .before .before .before .before .before .before .before .before .before .before .before .before .before in
+    back-30
 
--- the locals with y last, in any session that the texts hold
-held : (c : tie.After-add-variable) (s : Session) (x : Expr) (a : Element) → Turns (start-after-add-variable c) s x → Holds (single a) (start-after-add-variable c .args .element .now)
-    → Variables (s .locals ++ (record { name = y-of (start-after-add-variable c); value = single a } ∷ [])) (take (c .add-variable .result) (c .add-variable .last .0))
-    (start-after-add-variable c .args .lcount + 1) (c .add-variable .last .1 .1 .0)
-held c s x a I h =
-    let start = start-after-add-variable c in
-    c .add-variable .ensures .1 .1 (s .locals) (single a) (I .scope .locals-held) (start .pre .0 .y-named) (h .is-text)
+abbrev added : tie.After-answer → tie.After-add-variable
+added c =
+    let back-13 = c .before .before .before .before .before .before .before .before .before .before .before .before .before in
+    back-13
 
-short : (c : tie.After-add-variable) → (start-after-add-variable c) .args .len ≤ length (start-after-add-variable c .args .locals .now)
-short c =
-    let start = start-after-add-variable c in
-    omega (arith, start .pre .1 .0 .2, start .pre .0 .locals-short)
+-- y stands last among the locals, in any session that the texts hold
+with-y : (c : tie.After-add-variable) (s : Session) (x : Expr) (a : Element) → Turns (start-after-add-variable c) s x → Holds (single a) (start-after-add-variable c .args .element .now)
+    → let b = start-after-add-variable c .args in
+    Asked (withElement s (y-of (start-after-add-variable c)) a) x (b .text .now) (texts (b .shared .now) (b .slots .now) (b .count) (c .add-variable .last .0) (c .add-variable .last .1 .1 .0)) (c .add-variable .result) (b .number + 1) (b .e)
+with-y c s x a I h =
+    let z = start-after-add-variable c in
+    with-last I a (c .add-variable .last .0) (c .add-variable .result) (c .add-variable .last .1 .1 .0)
+    (c .add-variable .ensures .1 .1 (s .locals) (single a) (I .asked .held .locals-held) (z .pre .0 .y-named) (h .is-text))
+    (omega (arith, c .add-variable .ensures .1 .0 .within, c .add-variable .kept .0)) (z .pre .0 .y-named) (h .is-valid)
 
-longer : (c : tie.After-add-variable) → (start-after-add-variable c) .args .len ≤ c .add-variable .result
-longer c = omega (arith, c .add-variable .ensures .0)
+ends : (c : tie.After-add-variable) → c .add-variable .result ≤ 57605
+ends c =
+    let z = start-after-add-variable c in
+    let E = z .pre .1 .1 .0 in
+    omega (arith, c .add-variable .ensures .0, z .pre .0 .locals-short, name-length (y-of z) (z .pre .0 .y-named) .1, text-bound (single (E .element)) _ (E .held), E .light)
 
--- what was evaluated, in any session that the texts hold
-valued : (c : tie.After-value) (s : Session) (x : Expr) (a : Element) → Turns (start-after-value c) s x → Holds (single a) (start-after-value c .args .element .now)
-    → Valued (c .value .result) (Expressions.value (withElement s (y-of (start-after-value c)) a) x) (c .value .last .1 .1 .1 .1 .1 .1 .1 .1 .0)
-valued c s x a I h =
-    let back-9 = c .before .before .before .before .before .before .before .before .before in
-    let start = back-9 .before .before .before .before .before .before .before .before .before .before .before .before in
-    c .value .ensures (withElement s (y-of start) a) x
-    (with-last I (y-of start) a (back-9 .add-variable .last .0) (back-9 .add-variable .result) (back-9 .add-variable .last .1 .1 .0) (held back-9 s x a I h) (start .pre .0 .y-named) (h .is-valid)) (I .meant)
+-- what was answered, in any session that the texts hold
+answered : (c : tie.After-answer) (s : Session) (x : Expr) (a : Element) → Turns (start-after-answer c) s x → Holds (single a) (start-after-answer c .args .element .now)
+    → let z = start-after-answer c in
+    let b = z .args in
+    let t = withElement s (y-of z) a in
+    Tells (c .answer .result) t (names t x) (Expressions.value t x) (c .answer .last .1 .1 .1 .1 .1 .1 .1 .1 .1 .1 .1 .1 .1 .1 .1 .1 .1 .1 .0)
+    × Asked t x (b .text .now) (texts (b .shared .now) (b .slots .now) (b .count) (c .answer .last .1 .1 .1 .0) (c .answer .last .1 .1 .1 .1 .1 .0)) (added c .add-variable .result) (b .number + 1) (b .e)
+answered c s x a I h =
+    let z = start-after-answer c in
+    c .answer .ensures (withElement s (y-of z) a) x (with-y (added c) s x a I h) (sends-with I a) (knows-with I a)
 
 sub-add-variable : tie.Need-sub-add-variable
 sub-add-variable c =
-    let start = c .before .before .before .before .before .before .before .before .before .before in
+    let start = c .before .before .before .before .before .before .before .before .before .before .before .before .before .before .before in
     let w = start .pre .0 .y-within in omega (arith, w .0, w .1)
 
 part-add-variable-start : tie.Need-part-add-variable-start
 part-add-variable-start c =
-    let start = c .before .before .before .before .before .before .before .before .before .before in
+    let start = c .before .before .before .before .before .before .before .before .before .before .before .before .before .before .before in
     let w = start .pre .0 .y-within in omega (arith, w .0, w .1)
 
 part-add-variable-end : tie.Need-part-add-variable-end
 part-add-variable-end c =
-    let start = c .before .before .before .before .before .before .before .before .before .before in
+    let start = c .before .before .before .before .before .before .before .before .before .before .before .before .before .before .before in
     let w = start .pre .0 .y-within in omega (arith, w .0, w .1)
 
 add-variable-requires : tie.Need-add-variable-requires
 add-variable-requires c κs =
-    let start = c .before .before .before .before .before .before .before .before .before .before .before in
-    let P = start .pre in
-    let n = name-length (y-of start) (P .0 .y-named) in
-    (omega (arith, P .1 .0 .2), omega (arith, P .1 .0 .2, P .0 .locals-short, P .1 .0 .1, n .1), P .0 .slots-room)
+    let back-16 = c .before .before .before .before .before .before .before .before .before .before .before .before .before .before .before .before in
+    let z = back-16 in
+    let P = z .pre in
+    let E = P .1 .1 .0 in
+    let R = P .1 .0 in (
+      R .scope-small,
+      omega (arith, R .scope-size, P .0 .locals-short, name-length (y-of z) (P .0 .y-named) .1, text-bound (single (E .element)) _ (E .held), E .light),
+      P .0 .slots-room,
+    )
 
-slice-reshare-prefix-value : tie.Need-slice-reshare-prefix-value
-slice-reshare-prefix-value c = search needs
+add-answer : tie.Need-add-answer
+add-answer c =
+    let start = c .before .before .before .before .before .before .before .before .before .before .before .before .before .before .before .before .before .before .before .before .before .before .before in
+    let P = start .pre .0 in omega (arith, P .few)
 
-slice-aggregate-value : tie.Need-slice-aggregate-value
-slice-aggregate-value c =
-    let back-5 = c .before .before .before .before .before in
-    sym (length-take-le _ _ (omega (arith, back-5 .add-variable .ensures .1 .0 .within, back-5 .add-variable .kept .0)))
-
-add-value : tie.Need-add-value
-add-value c = search needs
-
-value-requires : tie.Need-value-requires
-value-requires c κs =
-    let back-8 = c .before .before .before .before .before .before .before .before in
-    let start = back-8 .before .before .before .before .before .before .before .before .before .before .before .before in
-    let P = start .pre in
-    let E = P .1 .0 .0 in (
+answer-requires : tie.Need-answer-requires
+answer-requires c κs =
+    let back-12 = c .before .before .before .before .before .before .before .before .before .before .before .before in
+    let back-29 = back-12 .before .before .before .before .before .before .before .before .before .before .before .before .before .before .before .before .before in
+    let z = back-29 in
+    let v = back-12 in
+    let P = z .pre in
+    let E = P .1 .1 .0 in
+    let T = P .0 .turning in (
       record {
-        session =
-            withElement (P .0 .session) (y-of start) (E .element);
-        scope =
-            with-last (P .0 .turning) (y-of start) (E .element) (back-8 .add-variable .last .0) (back-8 .add-variable .result) (back-8 .add-variable .last .1 .1 .0) (held back-8 (P .0 .session) (P .0 .says .expression) (E .element) (P .0 .turning) (E .held)) (P .0 .y-named) (E .held .is-valid);
+        session = withElement (P .0 .session) (y-of z) (E .element);
+        expression = P .0 .expression;
+        asked = with-y v (P .0 .session) (P .0 .expression) (E .element) T (E .held);
+        sends = sends-with T (E .element);
+        knows = knows-with T (E .element);
       },
-      ((P .0 .says, P .0 .text-short), P .1 .1),
+      (
+        fits (z .args .e) (z .args .shared .now) (z .args .slots .now) (z .args .count) (z .args .scope .now) (v .add-variable .last .0) (z .args .local-slots .now) (v .add-variable .last .1 .1 .0)
+            (stack (z .args .heads .now) (z .args .lens .now) (z .args .counts .now) (z .args .bounds .now)) (z .args .number) (v .add-variable .result) (P .1 .0) (v .add-variable .kept .0) (v .add-variable .kept .1 .1 .0) (ends v),
+        (P .0 .text-short, P .1 .1 .1),
+      ),
     )
 
 settled-requires : tie.Need-settled-requires
 settled-requires c κs =
-    let start = c .before .before .before .before .before .before .before .before .before .before .before .before .before .before .before .before .before .before .before .before .before .before .before .before .before .before in
-    let P = start .pre in
-    let E = P .1 .0 .0 in
-    record { value = Expressions.value (withElement (P .0 .session) (y-of start) (E .element)) (P .0 .says .expression); valued = valued (c .before .before .before .before .before) (P .0 .session) (P .0 .says .expression) (E .element) (P .0 .turning) (E .held) }
+    let back-17 = c .before .before .before .before .before .before .before .before .before .before .before .before .before .before .before .before .before in
+    let back-47 = back-17 .before .before .before .before .before .before .before .before .before .before .before .before .before .before .before .before .before .before .before .before .before .before .before .before .before .before .before .before .before .before in
+    let z = back-47 in
+    let r = back-17 in
+    let P = z .pre in
+    let E = P .1 .1 .0 in
+    let t = withElement (P .0 .session) (y-of z) (E .element) in (
+      record {
+        session = t;
+        names = names t (P .0 .expression);
+        outcome = Expressions.value t (P .0 .expression);
+        tells = answered r (P .0 .session) (P .0 .expression) (E .element) (P .0 .turning) (E .held) .0;
+      },
+      E,
+      omega (arith, P .1 .1 .1 .out-size, r .answer .kept .1 .1 .1 .1 .1 .1 .1 .1 .1 .1 .1 .1 .1 .1 .1 .1 .1 .1 .0),
+    )
 
 same-length : tie.Need-same-length
 same-length c = search needs
@@ -128,13 +161,30 @@ same-length-3 c = search needs
 same-length-4 : tie.Need-same-length-4
 same-length-4 c = search needs
 
+same-length-5 : tie.Need-same-length-5
+same-length-5 c = search needs
+
+same-length-6 : tie.Need-same-length-6
+same-length-6 c = search needs
+
+same-length-7 : tie.Need-same-length-7
+same-length-7 c = search needs
+
+same-length-8 : tie.Need-same-length-8
+same-length-8 c = search needs
+
 returns : tie.Need-returns
-returns c =
-    let back-6 = c .before .before .before .before .before .before in
-    let back-15 = back-6 .before .before .before .before .before .before .before .before .before in
-    let start = back-15 .before .before .before .before .before .before .before .before .before .before .before .before in (
-      λ s x a I h. c .settled .ensures _ (valued back-6 s x a I h),
-      λ s x I. let E = start .pre .1 .0 .0 in without-last I (y-of start) (E .element) (back-15 .add-variable .last .0) (back-15 .add-variable .result) (back-15 .add-variable .last .1 .1 .0) (held back-15 s x (E .element) I (E .held)) (short back-15) (longer back-15),
+returns c s x a I h =
+    let back-20 = c .before .before .before .before .before .before .before .before .before .before .before .before .before .before .before .before .before .before .before .before in
+    let back-33 = back-20 .before .before .before .before .before .before .before .before .before .before .before .before .before in
+    let back-50 = back-33 .before .before .before .before .before .before .before .before .before .before .before .before .before .before .before .before .before in
+    let z = back-50 in
+    let v = back-33 in
+    let r = back-20 in
+    let t = withElement s (y-of z) a in
+    let A = answered r s x a I h in (
+      c .before .before .settled .ensures s (names t x) (Expressions.value t x) a (told-outside s (t .locals) (names t x) (r .answer .result) (Expressions.value t x) (r .answer .last .1 .1 .1 .1 .1 .1 .1 .1 .1 .1 .1 .1 .1 .1 .1 .1 .1 .1 .0) (A .0)) h,
+      without-last I a (r .answer .last .1 .1 .1 .0) (v .add-variable .result) (r .answer .last .1 .1 .1 .1 .1 .0) (A .1) (r .answer .kept .1 .1 .1 .0 ∙ v .add-variable .kept .0) (omega (arith, v .add-variable .ensures .0)),
     )
 
 pub turn-spec : {M : Type 1} → statement M
@@ -145,13 +195,15 @@ turn-spec =
     part-add-variable-start
     part-add-variable-end
     add-variable-requires
-    slice-reshare-prefix-value
-    slice-aggregate-value
-    add-value
-    value-requires
+    add-answer
+    answer-requires
     settled-requires
     same-length
     same-length-2
     same-length-3
     same-length-4
+    same-length-5
+    same-length-6
+    same-length-7
+    same-length-8
     returns)

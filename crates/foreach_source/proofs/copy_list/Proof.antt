@@ -7,7 +7,7 @@ use borrow.Author.Tests.{not-true, not-false}
 use Rattle.language.specs.Text.{Text}
 use Rattle.language.specs.Values.{Session, lookup, isDefined}
 use Rattle.text.specs.Meaning.{part}
-use Rattle.evaluate.specs.Scopes.{ReadAs}
+use Rattle.scopes.specs.Scopes.{ReadAs}
 use Rattle.lookup.specs.Looks.{Scoped}
 use Rattle.foreach_source.proofs.Sourcing.{other-there, no-list, list-copied, read-fits}
 use borrow.Author.Needs.{needs}

@@ -3,7 +3,7 @@ use native.Mathlib.Omega.{arith}
 use denote.Ref.{now}
 use Rattle.tokens.specs.Readers.{nextMeant, NextPlaced}
 use Rattle.tokens.proofs.Reading.{told, known}
-use Rattle.expression_readers.proofs.Expressions.{expr-later}
+use Rattle.expression_readers.proofs.Lets.{expr-later}
 use borrow.Author.Needs.{needs}
 use Rattle.forms.proofs.value_at.Statement.{statement}
 use Rattle.forms.proofs.value_at.Tie as tie

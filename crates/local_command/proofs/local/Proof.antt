@@ -13,7 +13,7 @@ use Rattle.syntax.specs.Values.{exprMeant}
 use Rattle.session.specs.Sessions.{Slices, slices, Running}
 use Rattle.lookup.specs.Looks.{Scoped, Sending}
 use Rattle.lookup.specs.Told.{Answers}
-use Rattle.lookup.proofs.Looking.{scoped, sending}
+use Rattle.lookup.proofs.Looking.{scoped, sending, copyable}
 use Rattle.assignment.proofs.Assigning.{locals-lie}
 use Rattle.settlement.proofs.Ending.{lent, weighed, localEffect, local-does, not-there, Does, Stores, over, stores, ends}
 use borrow.Author.Needs.{needs}
@@ -98,7 +98,10 @@ answer-requires c κs =
         record { session = S .session; scoped = session-scoped start (S .session) (S .running) },
         record { session = S .session; sending = session-sends start (S .session) (S .running) },
       ),
-      (start .pre .1 .0 .said, lent (a .value .now) (a .labels .now) (start .pre .1 .1 .value-size) (start .pre .1 .1 .labels-size)),
+      (
+        (start .pre .1 .0 .said, lent (a .value .now) (a .labels .now) (start .pre .1 .1 .value-size) (start .pre .1 .1 .labels-size)),
+        copyable (S .session) (a .l) (buffers start) (S .running),
+      ),
     )
 
 is-defined-requires : tie.Need-is-defined-requires

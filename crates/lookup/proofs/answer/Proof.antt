@@ -1,33 +1,48 @@
--- `lookup::answer` meets its contract. Refused for want of a right to read; else what the evaluation answers.
--- Assumes nothing.
-use mathlib.Core.Path.{_∙_}
-use Rattle.evaluated.specs.declared.Evaluated.the-variants as Worth
-use Rattle.lookup.proofs.Looking.{told}
+use mathlib.Core.Path.{sym, subst}
+use lib.Seq.{length-take-le}
+use Rattle.language.specs.Syntax as Syntax
+use Rattle.language.specs.Expressions.{value, names}
+use Rattle.term_answer.specs.Telling.{Tells}
+use Rattle.expression_answer.proofs.Meant.{as-term, some-term}
+use Rattle.lookup.proofs.Saying.{asked}
 use borrow.Author.Needs.{needs}
 use Rattle.lookup.proofs.answer.Statement.{statement}
 use Rattle.lookup.proofs.answer.Tie as tie
 use Rattle.lookup.proofs.answer.Reads as reads
 use Rattle.lookup.proofs.answer.Lts as lts
-use Rattle.lookup.proofs.may_read.Reads as may-read-reads
-use Rattle.lookup.proofs.worth.Reads as worth-reads
+use Rattle.lookup.proofs.any_answer.Reads as any-answer-reads
+use Rattle.term_answer.proofs.answer.Reads as answer-reads
 
-may-read-requires : tie.Need-may-read-requires
-may-read-requires c κs = search needs
+enum-known-e : tie.Need-enum-known-e
+enum-known-e c = search needs
 
-returns : tie.Need-returns
-returns c s y S W m = c .before .may-read .ensures s y W m ∙ c .if1 .taken
+slice-aggregate-answer : tie.Need-slice-aggregate-answer
+slice-aggregate-answer c =
+    let start = c .before .before .before .before .before .before .before .before .before .before .before .before in
+    sym (length-take-le _ _ (start .pre .0 .0 .scoped .vars-within))
 
-worth-requires : tie.Need-worth-requires
-worth-requires c κs = search needs
+slice-aggregate-answer-2 : tie.Need-slice-aggregate-answer-2
+slice-aggregate-answer-2 c =
+    let start = c .before .before .before .before .before .before .before .before .before .before .before .before .before in
+    sym (length-take-le _ _ (start .pre .0 .0 .scoped .locals-within))
 
-enum-known-v : tie.Need-enum-known-v
-enum-known-v c = search needs
+answer-requires : tie.Need-answer-requires
+answer-requires c κs =
+    let start = c .before .before .before .before .before .before .before .before .before .before .before .before .before .before .before in
+    let P = start .pre in
+    let a = start .args in
+    let E = P .1 .0 .0 .expression in
+    let A = asked (P .0 .0 .session) (a .l) (a .vars .now) (a .variable-slots .now) (a .locals .now) (a .local-slots .now) (a .text .now) (a .e) (E .expression) (P .0 .0 .scoped) E (E .meant) in
+    let g = c .before .before .before .before .before .e .given in (
+      (record { session = P .0 .0 .session; scope = P .0 .0 .scoped .scope }, record { session = P .0 .1 .session; sends = P .0 .1 .sending .sends }),
+      ((some-term A (g .0 .0) (g .1), P .1 .0 .0 .short), P .1 .0 .1),
+    )
 
 enum-told : tie.Need-enum-told
 enum-told c = search needs
 
-enum-told-2 : tie.Need-enum-told-2
-enum-told-2 c = search needs
+any-answer-requires : tie.Need-any-answer-requires
+any-answer-requires c κs = search needs
 
 same-length : tie.Need-same-length
 same-length c = search needs
@@ -35,13 +50,17 @@ same-length c = search needs
 same-length-2 : tie.Need-same-length-2
 same-length-2 c = search needs
 
-returns-2 : tie.Need-returns-2
-returns-2 c s y S W m =
-    let back-7 = c .before .before .before .before .before .before .before in
-    let back-10 = back-7 .before .before .before in
-    let back-11 = back-10 .before in
-    told s y (back-7 .worth .last .1 .1 .1 .1 .1 .1 .1 .0) (back-11 .may-read .result) (back-7 .worth .result) _ (back-11 .may-read .ensures s y W m) (back-10 .if1 .left)
-    (back-7 .worth .ensures s y S m) (c .before .v .given .1)
+returns : tie.Need-returns
+returns c s y S W m =
+    let back-10 = c .before .before .before .before .before .before .before .before .before .before in
+    let start = back-10 .before .before .before .before .before .before .before .before .before .before in
+    let P = start .pre in
+    let a = start .args in
+    let g = back-10 .e .given in
+    let A = asked s (a .l) (a .vars .now) (a .variable-slots .now) (a .locals .now) (a .local-slots .now) (a .text .now) (a .e) y S (P .1 .0 .0 .expression) m in
+    let T = as-term A (g .0 .0) (g .1) in
+    let r = c .before .before .before .before .answer in
+    subst (λ (z : Syntax.Expr). Tells (r .result) s (names s z) (value s z) (r .last .1 .1 .1 .1 .1 .1 .1 .1 .1 .1 .1 .1 .1 .0)) (sym (T .is)) (r .ensures s (T .the-term) (S .scope) (W .sends) (T .meant) tt)
 
 same-length-3 : tie.Need-same-length-3
 same-length-3 c = search needs
@@ -49,44 +68,22 @@ same-length-3 c = search needs
 same-length-4 : tie.Need-same-length-4
 same-length-4 c = search needs
 
-returns-3 : tie.Need-returns-3
-returns-3 c s y S W m =
-    let back-6 = c .before .before .before .before .before .before in
-    let back-9 = back-6 .before .before .before in
-    let back-10 = back-9 .before in
-    told s y (back-6 .worth .last .1 .1 .1 .1 .1 .1 .1 .0) (back-10 .may-read .result) (back-6 .worth .result) Worth.Missing (back-10 .may-read .ensures s y W m) (back-9 .if1 .left)
-    (back-6 .worth .ensures s y S m) (c .enum-told .given .1)
-
-same-length-5 : tie.Need-same-length-5
-same-length-5 c = search needs
-
-same-length-6 : tie.Need-same-length-6
-same-length-6 c = search needs
-
-returns-4 : tie.Need-returns-4
-returns-4 c s y S W m =
-    let back-6 = c .before .before .before .before .before .before in
-    let back-9 = back-6 .before .before .before in
-    let back-10 = back-9 .before in
-    told s y (back-6 .worth .last .1 .1 .1 .1 .1 .1 .1 .0) (back-10 .may-read .result) (back-6 .worth .result) Worth.Heavy (back-10 .may-read .ensures s y W m) (back-9 .if1 .left)
-    (back-6 .worth .ensures s y S m) (c .enum-told2 .given .1)
+returns-2 : tie.Need-returns-2
+returns-2 c = search needs
 
 pub answer-spec : {M : Type 1} → statement M
 answer-spec =
     tie.close
     (tie.spec
-    may-read-requires
-    returns
-    worth-requires
-    enum-known-v
+    enum-known-e
+    slice-aggregate-answer
+    slice-aggregate-answer-2
+    answer-requires
     enum-told
-    enum-told-2
+    any-answer-requires
     same-length
     same-length-2
-    returns-2
+    returns
     same-length-3
     same-length-4
-    returns-3
-    same-length-5
-    same-length-6
-    returns-4)
+    returns-2)

@@ -1,18 +1,28 @@
--- `lookup::is_defined` meets its contract. A value's text is never empty, so the length says whether there is one.
+-- `lookup::is_defined` meets its contract. The parts of the buffers are the scope that is asked.
 -- Assumes nothing.
-use Rattle.lookup.proofs.Looking.{defined-said}
-use borrow.Author.Needs.{needs}
+use mathlib.Core.Path.{sym}
+use lib.Seq.{length-take-le}
 use Rattle.lookup.proofs.is_defined.Statement.{statement}
 use Rattle.lookup.proofs.is_defined.Tie as tie
 
-text-of-requires : tie.Need-text-of-requires
-text-of-requires c κs = search needs
+slice-aggregate-is-defined : tie.Need-slice-aggregate-is-defined
+slice-aggregate-is-defined c =
+    let start = c .before .before .before .before .before .before in
+    sym (length-take-le _ _ (start .pre .scoped .vars-within))
+
+slice-aggregate-is-defined-2 : tie.Need-slice-aggregate-is-defined-2
+slice-aggregate-is-defined-2 c =
+    let start = c .before .before .before .before .before .before .before in
+    sym (length-take-le _ _ (start .pre .scoped .locals-within))
+
+is-defined-requires : tie.Need-is-defined-requires
+is-defined-requires c κs =
+    let start = c .before .before .before .before .before .before .before in
+    record { session = start .pre .session; scope = start .pre .scoped .scope }
 
 returns : tie.Need-returns
-returns c s S =
-    let back-6 = c .before .before .before .before .before .before in
-    let start = back-6 in
-    defined-said s (start .args .name .now) (c .text-of .result .now) (c .text-of .ensures s S)
+returns c s S = c .is-defined .ensures s (S .scope)
 
 pub is-defined-spec : {M : Type 1} → statement M
-is-defined-spec = tie.close (tie.spec text-of-requires returns)
+is-defined-spec =
+    tie.close (tie.spec slice-aggregate-is-defined slice-aggregate-is-defined-2 is-defined-requires returns)

@@ -1,7 +1,7 @@
 -- `settlement::settle` meets its contract. By cases.
 -- Assumes nothing.
 use mathlib.Core.Path.{sym, ap}
-use Rattle.lookup.specs.declared.Answered.{Answered}
+use Rattle.evaluated.specs.declared.Answered.{Answered}
 use Rattle.settlement.specs.Commands.{settlement}
 use borrow.Author.Needs.{needs}
 use Rattle.settlement.proofs.settle.Statement.{statement}

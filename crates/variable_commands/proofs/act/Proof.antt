@@ -6,7 +6,7 @@ use native.Mathlib.Omega.{arith}
 use borrow.Author.Needs.{needs}
 use mathlib.Core.Bool.{true, _&&_}
 use Rattle.language.specs.Identifiers.{isIdentifier}
-use Rattle.language.specs.Syntax.{Command, set, append-to, local, foreach, return}
+use Rattle.language.specs.Syntax.{Command, set, append-to, local, foreach, filtereach, return}
 use Rattle.language.specs.Commands.{step}
 use Rattle.language.proofs.Logic.Tests.{and}
 use Rattle.language.proofs.Parsing.ValidPrograms.{validExpr}
@@ -26,6 +26,7 @@ use Rattle.variable_commands.proofs.act.Tie as tie
 use Rattle.variable_commands.proofs.act.Reads as reads
 use Rattle.variable_commands.proofs.act.Lts as lts
 use Rattle.foreach.proofs.foreach.Reads as foreach-reads
+use Rattle.filtereach.proofs.filtereach.Reads as filtereach-reads
 use Rattle.returning.proofs.value.Reads as value-reads
 use Rattle.status.proofs.done.Reads as done-reads
 use Rattle.status.proofs.given.Reads as given-reads
@@ -119,13 +120,42 @@ done-requires-4 c κs = search needs
 enum-known-c-5 : tie.Need-enum-known-c-5
 enum-known-c-5 c = search needs
 
+filtereach-requires : tie.Need-filtereach-requires
+filtereach-requires c κs =
+    let back-8 = c .before .before .before .before .before .before .before .before in
+    let start = back-8 .before .before .before .before .before .before .before .before .before .before .before .before in
+    let t = start .args .text .now in
+    let y = back-8 .c5 .given .0 .0 in
+    let x = back-8 .c5 .given .0 .1 .0 in
+    let e = back-8 .c5 .given .0 .1 .1 .0 in
+    let S = spoken start (Is.Filtereach y x e) (back-8 .c5 .given .1) in
+    let X = expr-of t e (filtereach (part t y) (part t x)) (isIdentifier (part t y) && isIdentifier (part t x)) (λ z. refl) (S .within .2) (S .command) (S .meant) (S .is-valid) in (
+      start .pre .0,
+      (
+        record {
+          says = X .1;
+          is-valid = and (isIdentifier (part t y) && isIdentifier (part t x)) (validExpr (X .1 .expression)) (X .0) (X .1 .is-valid);
+          y-within = S .within .0;
+          x-within = S .within .1;
+          short = start .pre .1 .1 .1;
+        },
+        record { value-size = start .pre .1 .0 .0; labels-size = omega (arith, start .pre .1 .0 .1) },
+      ),
+    )
+
+done-requires-5 : tie.Need-done-requires-5
+done-requires-5 c κs = search needs
+
+enum-known-c-6 : tie.Need-enum-known-c-6
+enum-known-c-6 c = search needs
+
 value-requires : tie.Need-value-requires
 value-requires c κs =
     let back-8 = c .before .before .before .before .before .before .before .before in
     let start = back-8 .before .before .before .before .before .before .before .before .before .before .before .before in
     let t = start .args .text .now in
-    let e = back-8 .c5 .given .0 .0 in
-    let S = spoken start (Is.Return e) (back-8 .c5 .given .1) in
+    let e = back-8 .c6 .given .0 .0 in
+    let S = spoken start (Is.Return e) (back-8 .c6 .given .1) in
     let X = expr-of t e (return) (true) (λ z. refl) (S .within) (S .command) (S .meant) (S .is-valid) in
     (start .pre .0, ((X .1, start .pre .1 .1 .1), record { out-size = omega (arith, start .pre .1 .0 .0); slots-size = omega (arith, start .pre .1 .0 .1) }))
 
@@ -296,15 +326,52 @@ same-length-35 c = search needs
 
 returns-5 : tie.Need-returns-5
 returns-5 c s k R m =
+    let back-15 = c .before .before .before .before .before .before .before .before .before .before .before .before .before .before .before in
+    let back-24 = back-15 .before .before .before .before .before .before .before .before .before in
+    let start = back-24 .before .before .before .before .before .before .before .before .before .before .before .before in
+    let t = start .args .text .now in
+    let y = back-24 .c5 .given .0 .0 in
+    let x = back-24 .c5 .given .0 .1 .0 in
+    let e = back-24 .c5 .given .0 .1 .1 .0 in
+    let M = said (exprMeant t e) (filtereach (part t y) (part t x)) k (sym (ap (variableMeant t) (back-24 .c5 .given .1)) ∙ m) in
+    let b = slices (start .args .principals .now) (start .args .principal-slots .now) (back-15 .filtereach .last .1 .1 .0) (back-15 .filtereach .last .1 .1 .1 .0) (back-15 .filtereach .last .1 .1 .1 .1 .0) (back-15 .filtereach .last .1 .1 .1 .1 .1 .0)
+    (back-15 .filtereach .last .1 .1 .1 .1 .1 .1 .0) in
+    known (λ (j : Command). Acts (c .done5 .result) (step s j) s (start .args .l) b (back-15 .filtereach .last .1 .1 .1 .1 .1 .1 .1 .0))
+    (c .done5 .ensures (step s (filtereach (part t y) (part t x) (M .expression))) b s (start .args .l) (back-15 .filtereach .last .1 .1 .1 .1 .1 .1 .1 .0) (back-15 .filtereach .ensures s (M .expression) R (M .meant)) (λ f h. line-is s (filtereach (part t y) (part t x) (M .expression)) f tt h))
+    (M .is-command)
+
+same-length-36 : tie.Need-same-length-36
+same-length-36 c = search needs
+
+same-length-37 : tie.Need-same-length-37
+same-length-37 c = search needs
+
+same-length-38 : tie.Need-same-length-38
+same-length-38 c = search needs
+
+same-length-39 : tie.Need-same-length-39
+same-length-39 c = search needs
+
+same-length-40 : tie.Need-same-length-40
+same-length-40 c = search needs
+
+same-length-41 : tie.Need-same-length-41
+same-length-41 c = search needs
+
+same-length-42 : tie.Need-same-length-42
+same-length-42 c = search needs
+
+returns-6 : tie.Need-returns-6
+returns-6 c s k R m =
     let back-5 = c .before .before .before .before .before in
     let back-14 = back-5 .before .before .before .before .before .before .before .before .before in
     let start = back-14 .before .before .before .before .before .before .before .before .before .before .before .before in
     let t = start .args .text .now in
-    let e = back-14 .c5 .given .0 .0 in
-    let M = said (exprMeant t e) return k (sym (ap (variableMeant t) (back-14 .c5 .given .1)) ∙ m) in
+    let e = back-14 .c6 .given .0 .0 in
+    let M = said (exprMeant t e) return k (sym (ap (variableMeant t) (back-14 .c6 .given .1)) ∙ m) in
     let b = slices (start .args .principals .now) (start .args .principal-slots .now) (start .args .vars .now) (start .args .variable-slots .now) (start .args .locals .now) (start .args .local-slots .now) (start .args .assertions .now) in
-    known (λ (j : Command). Acts (c .given .result) (step s j) s (start .args .l) b (back-5 .value5 .last .1 .1 .1 .1 .1 .1 .1 .0))
-    (c .given .ensures (step s (return (M .expression))) b s (start .args .l) (back-5 .value5 .last .1 .1 .1 .1 .1 .1 .1 .0) R (back-5 .value5 .ensures s (M .expression) R (M .meant)))
+    known (λ (j : Command). Acts (c .given .result) (step s j) s (start .args .l) b (back-5 .value6 .last .1 .1 .1 .1 .1 .1 .1 .0))
+    (c .given .ensures (step s (return (M .expression))) b s (start .args .l) (back-5 .value6 .last .1 .1 .1 .1 .1 .1 .1 .0) R (back-5 .value6 .ensures s (M .expression) R (M .meant)))
     (M .is-command)
 
 pub act-spec : {M : Type 1} → statement M
@@ -324,6 +391,9 @@ act-spec =
     foreach-requires
     done-requires-4
     enum-known-c-5
+    filtereach-requires
+    done-requires-5
+    enum-known-c-6
     value-requires
     given-requires
     same-length
@@ -365,4 +435,12 @@ act-spec =
     same-length-33
     same-length-34
     same-length-35
-    returns-5)
+    returns-5
+    same-length-36
+    same-length-37
+    same-length-38
+    same-length-39
+    same-length-40
+    same-length-41
+    same-length-42
+    returns-6)

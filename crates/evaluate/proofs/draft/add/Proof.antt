@@ -6,8 +6,8 @@ use mathlib.Core.List.{List}
 use native.Mathlib.Omega.{arith}
 use lib.Dec.{T}
 use Rattle.language.specs.Text.{member}
-use Rattle.language.specs.State.{Field}
-use Rattle.evaluate.specs.Drafts.{labels, Drafted}
+use Rattle.language.specs.State.{labels, Field}
+use Rattle.evaluate.specs.Drafts.{Drafted}
 use Rattle.evaluate.proofs.Labels.{slots-part}
 use Rattle.evaluate.proofs.Drafting.{few, label-added, line-added, is-there, is-not-there}
 use borrow.Author.Needs.{needs}

@@ -11,7 +11,7 @@ use Rattle.text.specs.Meaning.{Within, part}
 use Rattle.syntax.specs.declared.Operand.{Operand}
 use Rattle.syntax.specs.Values.{operandMeant, OperandWithin}
 use Rattle.store.proofs.Holders.{some-variables}
-use Rattle.evaluate.specs.Scopes.{Scope, ReadAs}
+use Rattle.scopes.specs.Scopes.{Scope, ReadAs}
 use Rattle.evaluated.specs.Weighed.{byWeight}
 use Rattle.evaluated.specs.Results.{MaybeString, Valued, stringValue}
 use Rattle.evaluate.proofs.Found.{read-name, field-read, dot-value, valued-as}

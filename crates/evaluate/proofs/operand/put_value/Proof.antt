@@ -5,7 +5,7 @@ use native.Mathlib.Omega.{arith}
 use Rattle.evaluated.specs.Weighed.{byWeight}
 use Rattle.evaluated.proofs.Weighing.{light-value, heavy-value}
 use Rattle.evaluate.proofs.Found.{nothing-read, something-read, value-text}
-use Rattle.evaluate.proofs.Bounds.{text-bound}
+use Rattle.scopes.proofs.Bounds.{text-bound}
 use Rattle.evaluated.proofs.Putting.{value-put}
 use borrow.Author.Needs.{needs}
 use Rattle.evaluate.proofs.operand.put_value.Statement.{statement}

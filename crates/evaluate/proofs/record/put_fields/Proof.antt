@@ -15,7 +15,7 @@ use Rattle.text.specs.Meaning.{part}
 use Rattle.syntax.specs.declared.FieldRead.the-variants as FieldIs
 use Rattle.syntax.specs.Values.{operandMeant, recordAt, withField, fieldMeant, FieldPlaced}
 use Rattle.tokens.proofs.Reading.{no-some}
-use Rattle.evaluate.specs.Scopes.{Scope}
+use Rattle.scopes.specs.Scopes.{Scope}
 use Rattle.evaluated.specs.Weighed.{byWeight}
 use Rattle.evaluated.specs.Results.{Valued, stringIn}
 use Rattle.evaluate.specs.Drafts.{Lent, Extends}

@@ -8,7 +8,7 @@ use Rattle.text.specs.Meaning.{Within, part}
 use Rattle.syntax.specs.declared.Operand.{Operand}
 use Rattle.syntax.specs.Values.{OperandWithin}
 use Rattle.store.proofs.Holders.{some-variables}
-use Rattle.evaluate.specs.Scopes.{SourceOf}
+use Rattle.scopes.specs.Scopes.{SourceOf}
 use Rattle.evaluate.proofs.Found.{read-name}
 use borrow.Author.Needs.{needs}
 use Rattle.evaluate.proofs.source.source.Statement.{statement}

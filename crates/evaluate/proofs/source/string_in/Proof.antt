@@ -9,7 +9,7 @@ use Rattle.syntax.specs.Values.{operandMeant, OperandWithin}
 use Rattle.values.specs.Answers.{textAt, Placed}
 use Rattle.values.specs.declared.Found.the-variants as Is
 use Rattle.evaluated.specs.Results.{stringIn}
-use Rattle.evaluate.specs.Scopes.{SourceOf}
+use Rattle.scopes.specs.Scopes.{SourceOf}
 use Rattle.evaluate.proofs.Found.{dot-string}
 use borrow.Author.Needs.{needs}
 use Rattle.evaluate.proofs.source.string_in.Statement.{statement}

@@ -1,0 +1,3 @@
+-- Laws of the elements that are compared.
+pub mod Said
+pub mod Weighed

@@ -1,0 +1,2 @@
+-- Laws of an expression that is asked for.
+pub mod Meant

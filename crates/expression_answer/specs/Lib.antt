@@ -1,0 +1,2 @@
+-- An expression that is asked for.
+pub mod Asking

@@ -1,0 +1,2 @@
+-- What the crate's types mean in the terms of the language.
+pub mod Heads

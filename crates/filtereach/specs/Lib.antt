@@ -1,0 +1,2 @@
+-- What filtereach asks.
+pub mod Asked

@@ -1,3 +1,0 @@
--- Laws of foreach.
-pub mod Effects
-pub mod Sessions

@@ -1,0 +1,2 @@
+-- What foreach and filtereach ask.
+pub mod Each

@@ -1,0 +1,2 @@
+-- The list that is made.
+pub mod Lists

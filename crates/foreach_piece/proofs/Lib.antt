@@ -1,0 +1,4 @@
+-- Laws of what becomes of an element.
+pub mod Drafting
+pub mod Settling
+pub mod Joining

@@ -1,0 +1,3 @@
+-- What becomes of an element.
+pub mod Ways
+pub mod Drafts

@@ -1,0 +1,2 @@
+-- Laws of the room in which elements are tried.
+pub mod Aside

@@ -1,0 +1,2 @@
+-- What an expression without `let` is.
+pub mod Terms

@@ -1,0 +1,2 @@
+-- Laws of a copy.
+pub mod Copies

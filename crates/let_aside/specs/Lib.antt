@@ -1,0 +1,2 @@
+-- The locals of a session, where a `let` is asked for.
+pub mod Aside

@@ -1,0 +1,2 @@
+-- The variables of a running program as texts.
+pub mod Scopes
