@@ -26,12 +26,12 @@ extern "C" {
 #endif
 
 /* The version of this header and of what the functions answer. CHANGELOG.md says what changed. */
-#define KIVZURG_VERSION "0.7.0"
+#define KIVZURG_VERSION "0.8.0"
 
 /* The size of the state, of the work buffer and of the output. */
 #define KIVZURG_BUFFER 65536
 
-/* The stack that a call needs, with room to spare. */
+/* The stack that a call needs, with room to spare. How deep the lets of a program are inside each other does not matter. */
 #define KIVZURG_STACK 524288
 
 /* Makes a server: `state` then holds its text and zeros. Answers KIVZURG_READY, or the number 2, 8 or 9. */
@@ -75,7 +75,7 @@ enum kivzurg_code {
     KIVZURG_EXITED = 17,   /* completed by exit: the server is closed */
     KIVZURG_DENIED = 18,   /* the login is not right, or a command is reserved to others or needs a right that is not had */
     KIVZURG_FAILED = 19,   /* it does not parse, or a command cannot be done */
-    KIVZURG_FULL = 20,     /* a value, or what a command leaves, would weigh more than 8,192 */
+    KIVZURG_FULL = 20,     /* a value, names of `let` that live at once, or what a command leaves, would weigh more than 8,192 */
     KIVZURG_YES = 32,
     KIVZURG_NO = 33,
     KIVZURG_READY = 48,

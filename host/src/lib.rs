@@ -46,8 +46,8 @@ pub type Buffer = [u8; BUFFER];
 /// A longer program does not parse.
 pub const LONGEST_PROGRAM: usize = 16_384;
 
-/// The stack that a thread needs to make calls, with room to spare. tests/stack.rs runs every kind of program in a thread of this size. The same figure
-/// stands in include/kivzurg.h and in README.md, which tests/documents.rs compares.
+/// The stack that a thread needs to make calls, with room to spare. tests/stack.rs runs every kind of program in a thread of this size, also the longest
+/// that have nothing but lets, one inside the other. The same figure stands in include/kivzurg.h and in README.md, which tests/documents.rs compares.
 pub const STACK_BYTES: usize = 524_288;
 
 /// The name of a principal.

@@ -50,7 +50,7 @@ pub enum Kind {
     Denied,
     /// Not done: it does not parse, or it cannot be done.
     Failed,
-    /// Not done: it would weigh too much.
+    /// Not done: a value, names of `let` that live at once, or what a command leaves would weigh too much.
     Full,
 }
 

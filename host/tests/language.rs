@@ -38,7 +38,7 @@ fn is_name(word: &str) -> bool {
 #[test]
 fn keywords() {
     let words = block(&page(), "Keywords are no names");
-    for word in ["split", "let", "add", "sub", "times", "per"] {
+    for word in ["split", "let", "filtereach", "equal", "notequal", "add", "sub", "times", "per"] {
         assert!(words.split_whitespace().any(|listed| listed == word), "{word} is not listed");
     }
     for word in words.split_whitespace() {
@@ -56,7 +56,7 @@ fn returned(expression: &str) -> String {
     String::from_utf8_lossy(report.output).into_owned()
 }
 
-/// A row of a table that shows a call and what it gives, perhaps with a remark behind.
+/// A row of a table that shows a call or a let and what it gives, perhaps with a remark behind.
 fn call_of(row: &str) -> Option<(&str, &str)> {
     let (call, rest) = row.strip_prefix("| `")?.split_once("` | `")?;
     let (value, _) = rest.split_once('`')?;
@@ -69,8 +69,8 @@ fn functions() {
     let (_, after) = page.split_once("so they are printed by `return`").expect("the text before the tables");
     let (shown, _) = after.split_once("\n## Rights").expect("the section behind the functions");
     let rows: Vec<(&str, &str)> = shown.lines().filter_map(call_of).collect();
-    for word in ["split", "concat", "tolower", "add", "sub", "times", "per"] {
-        assert!(rows.iter().any(|(call, _)| call.starts_with(&format!("{word}("))), "no row shows {word}");
+    for start in ["split(", "concat(", "tolower(", "add(", "sub(", "times(", "per(", "equal(", "notequal(", "let "] {
+        assert!(rows.iter().any(|(call, _)| call.starts_with(start)), "no row starts with {start}");
     }
     for (call, value) in rows {
         assert_eq!(returned(call), format!("{{\"status\":\"RETURNING\",\"output\":{value}}}\n"), "{call}");

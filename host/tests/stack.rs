@@ -1,10 +1,11 @@
-//! The stack that calls take: every kind of program runs in a thread of `STACK_BYTES`, and a fifth of that is to spare.
+//! The stack that calls take: every kind of program runs in a thread of `STACK_BYTES`, and a fifth of that is to spare. So do programs of 16,384 bytes
+//! that have nothing but lets, one inside the other.
 
 use std::fs;
 use std::hint::black_box;
 use std::thread;
 
-use kivzurg::{raw, Buffer, Kind, Principal, Right, Server, Variable, STACK_BYTES};
+use kivzurg::{raw, Buffer, Kind, Principal, Right, Server, Variable, LONGEST_PROGRAM, STACK_BYTES};
 
 /// Commands, and how a program of admin's that ends with them ends. Together they have every command, every function and every kind of end.
 const PROGRAMS: &[(&str, Kind)] = &[
@@ -12,6 +13,11 @@ const PROGRAMS: &[(&str, Kind)] = &[
     ("append to l with r\nappend to l with r\nappend to l with l\nlocal n = r.x\nreturn l", Kind::Returned),
     ("foreach y in l replacewith {z=y.x}\nreturn l", Kind::Returned),
     ("foreach y in l replacewith y.none\nreturn l", Kind::Failed),
+    ("filtereach y in l with let z = y.z in equal(z,\"1\")\nreturn l", Kind::Returned),
+    ("filtereach y in l with y.none\nreturn l", Kind::Failed),
+    ("set q = {y=\"2\",x=a}\nlocal c = equal(q,r)\nreturn notequal(c,q)", Kind::Returned),
+    ("return let z = let z = r.x in concat(z,z) in {a=z,b=z}", Kind::Returned),
+    ("return let r = a in none", Kind::Failed),
     ("set delegation l admin read -> anyone\nset delegation all admin delegate -> rosa\nreturn \"\"", Kind::Returned),
     ("default delegator = rosa\ncreate principal tom \"t\"\nchange password tom \"tt\"\nreturn \"\"", Kind::Returned),
     ("delete delegation all rosa write -> tom\ndelete delegation l admin read -> anyone\nreturn \"\"", Kind::Returned),
@@ -24,6 +30,43 @@ const PROGRAMS: &[(&str, Kind)] = &[
     ("return [ ]", Kind::Failed),
     ("exit", Kind::Exited),
 ];
+
+/// Where an expression may stand: what is before it, and what is behind. No name here has one letter or two.
+const PLACES: &[(&str, &str)] = &[
+    ("set list = []\nappend to list with \"\"\nset out = ", "\nreturn out"),
+    ("append to list with ", "\nreturn list"),
+    ("local own = ", "\nreturn own"),
+    ("foreach song in list replacewith ", "\nreturn list"),
+    ("filtereach song in list with ", "\nreturn list"),
+    ("return ", ""),
+];
+
+/// As many lets as there is room for, each in the first expression of the one before it, so that all are begun at once.
+fn deep(room: usize) -> String {
+    let depth = (room - "\"\"".len()) / "let a=in\"\"".len();
+    format!("{}\"\"{}", "let a=".repeat(depth), "in\"\"".repeat(depth))
+}
+
+/// As many lets as there is room for, each in the second expression of the one before it, so that all names live at once.
+fn wide(room: usize) -> String {
+    let mut lets = String::new();
+    for name in short_names() {
+        let one = format!("let {name}=\"\"in ");
+        if lets.len() + one.len() + "\"\"".len() > room {
+            break;
+        }
+        lets += &one;
+    }
+    lets + "\"\""
+}
+
+/// A program of as many bytes as one may have, with nothing but lets in one place; spaces before them fill it up.
+fn longest(before: &str, lets: fn(usize) -> String, after: &str) -> String {
+    let rest = program(&format!("{before}{after}")).len();
+    let lets = lets(LONGEST_PROGRAM - rest);
+    let spaces = " ".repeat(LONGEST_PROGRAM - rest - lets.len());
+    program(&format!("{before}{spaces}{lets}{after}"))
+}
 
 /// A list of 8,000 for the weight, so that it is long and one more is too much.
 fn doubling() -> String {
@@ -68,12 +111,17 @@ fn server(lines: impl Iterator<Item = String>) -> Server {
 
 const LETTERS: &str = "abcdefghijklmnopqrstuvwxyzABCDEFGHIJKLMNOPQRSTUVWXYZ";
 
-/// As many principals as can be beside a variable, 634: the names are of one letter or two, and none of them is a keyword.
-fn crowded() -> Server {
+/// Names of one letter, and then of two; the first 1,404 are no keywords, since those of two letters start with capitals.
+fn short_names() -> impl Iterator<Item = String> {
     let letters = || LETTERS.chars();
     let ones = letters().map(|letter| letter.to_string());
-    let twos = letters().rev().flat_map(|first| letters().map(move |second| format!("{first}{second}")));
-    let people = ones.chain(twos).take(632).map(|name| format!("P\t{name}\t\t0\n"));
+    let twos = letters().rev().flat_map(move |first| letters().map(move |second| format!("{first}{second}")));
+    ones.chain(twos)
+}
+
+/// As many principals as can be beside a variable, 634.
+fn crowded() -> Server {
+    let people = short_names().take(632).map(|name| format!("P\t{name}\t\t0\n"));
     server(people.chain(["D\tanyone\nV\tl\tL\n".to_string()]))
 }
 
@@ -87,12 +135,18 @@ fn asserted() -> Server {
 }
 
 /// Every kind of call. The servers' buffers are not on this thread's stack.
-fn calls(servers: &mut [Server; 5], damaged: &mut Buffer) {
-    let [plain, full, long, crowded, asserted] = servers;
+fn calls(servers: &mut [Server; 6], damaged: &mut Buffer) {
+    let [plain, full, long, lets, crowded, asserted] = servers;
     for (commands, kind) in PROGRAMS {
         assert_eq!(plain.run(program(commands).as_bytes()).map(|report| report.kind), Ok(*kind), "{commands}");
     }
     assert_eq!(full.run(program(&doubling()).as_bytes()).map(|report| report.kind), Ok(Kind::Full));
+    for (before, after) in PLACES {
+        for text in [deep, wide].map(|made| longest(before, made, after)) {
+            assert_eq!(text.len(), LONGEST_PROGRAM);
+            assert_eq!(lets.run(text.as_bytes()).map(|report| report.kind), Ok(Kind::Returned), "{text}");
+        }
+    }
     for text in chained(200) {
         assert_eq!(long.run(text.as_bytes()).map(|report| report.kind), Ok(Kind::Returned), "{text}");
     }
@@ -112,8 +166,8 @@ fn calls(servers: &mut [Server; 5], damaged: &mut Buffer) {
 
 /// Makes the calls in a thread of this size and answers what `after` says there.
 fn in_thread(size: usize, after: fn() -> usize) -> usize {
-    let [plain, full, long] = [(); 3].map(|()| Server::make(b"p").expect("a good password"));
-    let mut servers = [plain, full, long, crowded(), asserted()];
+    let [plain, full, long, lets] = [(); 4].map(|()| Server::make(b"p").expect("a good password"));
+    let mut servers = [plain, full, long, lets, crowded(), asserted()];
     let mut damaged: Box<Buffer> = Box::new([7; kivzurg::BUFFER]);
     let work = move || {
         let before = after();

@@ -1,7 +1,7 @@
 //! State texts in the former lines, and counts: what tests change in the text of a state.
 
 use crate::random::Random;
-use model::text::BUFFER;
+pub use model::replay::{padded, text};
 
 /// Which lines a text has.
 #[derive(Clone, Copy, PartialEq, Eq, Debug)]
@@ -22,18 +22,6 @@ pub fn count(random: &mut Random) -> u32 {
         4 => u32::MAX - random.below(3) as u32,
         _ => random.below(20) as u32,
     }
-}
-
-/// The text that a buffer holds.
-pub fn text(buffer: &[u8]) -> &[u8] {
-    &buffer[..buffer.iter().rposition(|byte| *byte != 0).map_or(0, |at| at + 1)]
-}
-
-/// A buffer that holds a text.
-pub fn padded(text: &[u8]) -> Vec<u8> {
-    let mut buffer = text.to_vec();
-    buffer.resize(BUFFER, 0);
-    buffer
 }
 
 /// The lines of a text, each without its end.

@@ -13,6 +13,14 @@ const RIGHTS: [&str; 4] = ["read", "write", "append", "delegate"];
 const LABELS: [&str; 3] = ["a", "b", "key"];
 const FUNCTIONS: [&str; 3] = ["split", "concat", "tolower"];
 const SUMS: [&str; 4] = ["add", "sub", "times", "per"];
+const COMPARISONS: [&str; 2] = ["equal", "notequal"];
+
+/// Records as r is at first, or nearly.
+const RECORDS: [&str; 6] =
+    ["{a=\"1\",key=\"F\"}", "{key=\"F\",a=\"1\"}", "{a=\"1\",key=\"G\"}", "{a=\"1\",b=\"F\"}", "{a=\"1\"}", "{key=\"F\",a=\"2.25\"}"];
+
+/// The names of lets, mostly.
+const LETS: [&str; 5] = ["k", "n", "i", "j", "word"];
 
 /// Names that no principal gets: two that share a hash with bob's, one told from his by its case and one with which his begins, a variable's, one that
 /// begins with admin's.
@@ -88,7 +96,8 @@ fn argument(random: &mut Random, world: World) -> String {
         3..=8 => operand(random, world),
         9..=11 => one(random, &["list", "queue", "r", "nosuch", "r.nosuch", "song.a"]).to_string(),
         12 => one(random, &["[]", "{a=\"1\"}", "", "(x)"]).to_string(),
-        13 => call(random, world),
+        13 if random.below(2) == 0 => call(random, world),
+        13 => lets(random, world, &[]),
         14..=20 => one(random, &["r.a", "r.key"]).to_string(),
         21..=30 => one(random, &["x", "song", "l"]).to_string(),
         _ => string(random),
@@ -116,6 +125,16 @@ fn summand(random: &mut Random, world: World) -> String {
     }
 }
 
+/// What is compared: often a record.
+fn compared(random: &mut Random, world: World) -> String {
+    match random.below(4) {
+        0 => argument(random, world),
+        1 => string(random),
+        2 => one(random, &["r.a", "y", "l", "m"]).to_string(),
+        _ => "r".to_string(),
+    }
+}
+
 /// Mostly with as many arguments as the function takes, and between parentheses.
 fn call(random: &mut Random, world: World) -> String {
     match random.below(120) {
@@ -123,15 +142,18 @@ fn call(random: &mut Random, world: World) -> String {
         2..=6 => return one(random, &RARE).to_string(),
         _ => {}
     }
-    let is_sum = random.below(2) == 0;
-    let function = if is_sum { one(random, &SUMS) } else { one(random, &FUNCTIONS) };
+    let (functions, value): (&[&str], fn(&mut Random, World) -> String) = match random.below(5) {
+        0 | 1 => (&SUMS, summand),
+        2 | 3 => (&FUNCTIONS, argument),
+        _ => (&COMPARISONS, compared),
+    };
+    let function = one(random, functions);
     let count = match random.below(24) {
         0 => random.below(4),
         _ if function == "tolower" => 1,
         _ => 2,
     };
-    let value = |random: &mut Random| if is_sum { summand(random, world) } else { argument(random, world) };
-    let arguments = (0..count).map(|_| value(random)).collect::<Vec<String>>().join(",");
+    let arguments = (0..count).map(|_| value(random, world)).collect::<Vec<String>>().join(",");
     match random.below(80) {
         0 => format!("{function} {arguments}"),
         1 => format!("{function}({arguments}"),
@@ -142,13 +164,61 @@ fn call(random: &mut Random, world: World) -> String {
 
 fn field(random: &mut Random, world: World) -> String {
     match random.below(96) {
+        0 if random.below(2) == 0 => lets(random, world, &[]),
         0 => call(random, world),
         1..=32 => operand(random, world),
         _ => string(random),
     }
 }
 
+/// Mostly a name that nothing has; sometimes one of a variable, of a local or of an element, rarely none.
+fn let_name(random: &mut Random, world: World) -> &'static str {
+    match random.below(60) {
+        0..=4 => world.variable(random),
+        5..=7 => one(random, &LOCALS),
+        8 | 9 => "y1",
+        10 => one(random, &["k.a", "in", "let", "s"]),
+        _ => one(random, &LETS),
+    }
+}
+
+/// An expression of a let: often another let, the name of one around it, or a string such that one name, or two together, weigh as much as they may.
+fn let_part(random: &mut Random, world: World, around: &[&str]) -> String {
+    match random.below(40) {
+        0..=6 => lets(random, world, around),
+        7..=14 if !around.is_empty() => match random.below(4) {
+            0 => format!("{}(r,{})", one(random, &COMPARISONS), one(random, around)),
+            1 => format!("concat({},{})", one(random, around), argument(random, world)),
+            2 => format!("{}.a", one(random, around)),
+            _ => one(random, around).to_string(),
+        },
+        15 => one(random, &LETS).to_string(),
+        16 => letters(8_184 + random.below(12)),
+        17 => letters(4_084 + random.below(16)),
+        18..=20 => one(random, &RECORDS).to_string(),
+        21 | 22 => format!("let k={} in {}(r,k)", one(random, &RECORDS), one(random, &COMPARISONS)),
+        _ => plain(random, world),
+    }
+}
+
+/// Rarely it is not written as it should be.
+fn lets(random: &mut Random, world: World, around: &[&str]) -> String {
+    let name = let_name(random, world);
+    let first = let_part(random, world, around);
+    let second = let_part(random, world, &[around, &[name]].concat());
+    match random.below(160) {
+        0 => format!("let {name}={first}"),
+        1 => format!("let {name}={first} in"),
+        2 => format!("(let {name}={first} in {second})"),
+        _ => format!("let {name}={first} in {second}"),
+    }
+}
+
 fn expression(random: &mut Random, world: World) -> String {
+    if random.below(5) == 0 { lets(random, world, &[]) } else { plain(random, world) }
+}
+
+fn plain(random: &mut Random, world: World) -> String {
     match random.below(13) {
         0 | 1 => "[]".to_string(),
         2 | 3 => {
@@ -165,9 +235,9 @@ fn expression(random: &mut Random, world: World) -> String {
     }
 }
 
-/// What foreach replaces by: y1 is its element.
+/// What foreach replaces by, and what filtereach keeps for: y1 is the element.
 fn replacement(random: &mut Random, world: World) -> String {
-    match random.below(16) {
+    match random.below(22) {
         0 | 1 => "y1".to_string(),
         2 => "{a=y1.a,b=\"0\"}".to_string(),
         3 => "{key=y1}".to_string(),
@@ -181,6 +251,8 @@ fn replacement(random: &mut Random, world: World) -> String {
         10 => format!("{}({},y1)", one(random, &SUMS), summand(random, world)),
         11 => format!("{}(y1.a,{})", one(random, &SUMS), summand(random, world)),
         12 => format!("{}({},y1.a)", one(random, &SUMS), price(random)),
+        13 | 14 => format!("{}({},{})", one(random, &COMPARISONS), one(random, &["y1", "y1.a"]), compared(random, world)),
+        15 | 16 => format!("let k={} in {}", one(random, &["y1", "y1.a"]), let_part(random, world, &["k", "y1"])),
         _ => expression(random, world),
     }
 }
@@ -203,7 +275,13 @@ fn command(random: &mut Random, world: World, sender: &str) -> String {
         10 | 11 => format!("local {} = {}", one(random, &LOCALS), expression(random, world)),
         12 | 13 => {
             let element = if random.below(8) == 0 { world.variable(random) } else { "y1" };
-            format!("foreach {element} in {} replacewith {}", one(random, &["list", "list", "queue", "l"]), replacement(random, world))
+            let command = one(random, &["foreach", "filtereach"]);
+            let word = match random.below(48) {
+                0 => one(random, &["with", "replacewith"]),
+                _ if command == "foreach" => "replacewith",
+                _ => "with",
+            };
+            format!("{command} {element} in {} {word} {}", one(random, &["list", "list", "queue", "l", "x"]), replacement(random, world))
         }
         14..=17 => delegation(random, world, sender, "set"),
         _ => delegation(random, world, sender, "delete"),
@@ -225,6 +303,47 @@ fn swollen(random: &mut Random) -> Vec<String> {
     lines
 }
 
+/// A list of prices, or of elements that one expression treats in several ways, and a command over it.
+fn varied(random: &mut Random, world: World) -> Vec<String> {
+    let long = format!("{{a={}}}", letters(4_000));
+    let is_priced = random.below(3) == 0;
+    let elements: &[&str] = if is_priced { &["\"0.05\"", "\"-2.00\"", "\"12.50\""] } else { &["\"one\"", "{a=\"1\"}", "{b=\"0\"}", &long] };
+    let mut lines = vec!["local s = []".to_string()];
+    for _ in 0..2 + random.below(3) {
+        lines.push(format!("append to s with {}", one(random, elements)));
+    }
+    let expression = if is_priced { of_prices(random) } else { of_mixed(random, world) };
+    lines.push(match random.below(2) {
+        0 => format!("foreach y1 in s replacewith {expression}"),
+        _ => format!("filtereach y1 in s with {expression}"),
+    });
+    lines
+}
+
+fn of_prices(random: &mut Random) -> String {
+    match random.below(8) {
+        0 => "tolower(y1)".to_string(),
+        1..=4 => format!("{}(y1,{})", one(random, &SUMS), price(random)),
+        5 => format!("{}({},y1)", one(random, &["split", "concat"]), price(random)),
+        _ => format!("{}(y1,{})", one(random, &COMPARISONS), one(random, &["\"0.05\"", "\"12.50\"", "r"])),
+    }
+}
+
+/// DENIED, FAILED, FULL or done, one for this element and one for that.
+fn of_mixed(random: &mut Random, world: World) -> String {
+    let second = match random.below(3) {
+        0 => one(random, &["k", "\"\"", "\"0\"", "{a=k}", "[]", "equal(k,\"1\")"]),
+        _ => world.variable(random),
+    };
+    match random.below(8) {
+        0 | 1 => format!("let k=y1.a in {second}"),
+        2..=4 => format!("let k=concat(y1.a,{}) in {second}", letters(4_200)),
+        5 => format!("let k=y1.a in concat(k,{})", letters(4_200)),
+        6 => one(random, &["equal(y1,r)", "notequal(r,y1)", "equal(y1,\"one\")"]).to_string(),
+        _ => one(random, &["let y1=\"\" in y1", "let s=\"\" in x", "let k=y1 in let k=y1 in k"]).to_string(),
+    }
+}
+
 /// Mostly a principal.
 fn sender(random: &mut Random, world: World) -> &'static str {
     match random.below(48) {
@@ -242,6 +361,11 @@ fn program(random: &mut Random, world: World, last: bool) -> Vec<u8> {
     match random.below(300) {
         0 => lines.extend(swollen(random)),
         1..=3 => lines.push(format!("create principal {sender} \"{password}\"")),
+        4..=24 => lines.extend(varied(random, world)),
+        25..=27 => {
+            let name = one(random, &VARIABLES);
+            lines.push(format!("{} {name} = let {name}=\"1\" in {name}", one(random, &["set", "local"])));
+        }
         _ => (0..random.below(4)).for_each(|_| lines.push(command(random, world, sender))),
     }
     lines.push(if last && random.below(2) == 0 { "exit".to_string() } else { format!("return {}", expression(random, world)) });

@@ -33,7 +33,7 @@ pub fn kinds(text: &[u8], kinds: &mut [u8]) -> Answer {
     }
 }
 
-/// The kinds of the model's commands: 1 to 11, in the order of document 01's statuses.
+/// The kinds of the model's commands: 1 to 11, in the order of document 01's statuses, and 12 for filtereach (request M-106).
 pub fn model_kinds(program: &Program) -> Vec<u8> {
     let mut kinds: Vec<u8> = program
         .commands
@@ -48,6 +48,7 @@ pub fn model_kinds(program: &Program) -> Vec<u8> {
             Command::SetDelegation(..) => 7,
             Command::DeleteDelegation(..) => 8,
             Command::DefaultDelegator(..) => 9,
+            Command::Filtereach(..) => 12,
         })
         .collect();
     kinds.push(match program.last {

@@ -132,14 +132,6 @@ pub fn short_name(n: usize) -> Bytes {
     name
 }
 
-/// So many names, the shortest that there are.
-pub fn shortest_names(count: usize) -> Vec<String> {
-    let ones = LETTERS.iter().map(|first| vec![*first]);
-    let twos = LETTERS.iter().flat_map(|first| WORD.iter().map(|second| vec![*first, *second]));
-    let names = ones.chain(twos).filter(|name| keyword(name).is_none());
-    names.take(count).map(|name| String::from_utf8_lossy(&name).into_owned()).collect()
-}
-
 fn fields(random: &mut Random, count: usize) -> Vec<(Bytes, Bytes)> {
     let mut all: Vec<(Bytes, Bytes)> = Vec::new();
     for _ in 0..count {

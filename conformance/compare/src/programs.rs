@@ -9,7 +9,7 @@ const KEYWORDS: [&str; 35] = [
     "foreach", "in", "local", "password", "principal", "read", "replacewith", "return", "set", "to", "write", "split",
     "concat", "tolower", "notequal", "equal", "filtereach", "with", "let", "add", "sub", "times", "per",
 ];
-const FUNCTIONS: [&str; 7] = ["split", "concat", "tolower", "add", "sub", "times", "per"];
+const FUNCTIONS: [&str; 9] = ["split", "concat", "tolower", "add", "sub", "times", "per", "equal", "notequal"];
 const RIGHTS: [&str; 4] = ["read", "write", "append", "delegate"];
 const TEXTS: [&str; 6] = ["", "s", "Blue Moon", "-_,;.?! 9", "a b", "0"];
 
@@ -60,7 +60,11 @@ fn call(random: &mut Random) -> String {
     };
     let arguments: Vec<String> = (0..count)
         .map(|_| {
-            let argument = if random.below(40) == 0 { call(random) } else { operand(random) };
+            let argument = match random.below(80) {
+                0 | 1 => call(random),
+                2 => lets(random),
+                _ => operand(random),
+            };
             format!("{}{argument}{}", gap(random), gap(random))
         })
         .collect();
@@ -76,12 +80,34 @@ fn call(random: &mut Random) -> String {
 fn field(random: &mut Random) -> String {
     match random.below(80) {
         0 => call(random),
+        1 => lets(random),
         _ => operand(random),
     }
 }
 
+/// A let, with gaps and often with another in one of its expressions. Rarely its name is none, or a part of it is missing.
+fn lets(random: &mut Random) -> String {
+    let name = match random.below(80) {
+        0 => operand(random),
+        1 => one(random, &KEYWORDS).to_string(),
+        _ => name(random),
+    };
+    let (first, second) = (expression(random), expression(random));
+    let begins = format!("let{}{name}{}={}", space(random), gap(random), gap(random));
+    match random.below(80) {
+        0 => format!("{begins}{first}"),
+        1 => format!("{begins}{first} in"),
+        2 => format!("{begins} in {second}"),
+        3 => format!("({begins}{first} in {second})"),
+        // A string or a mark ends by itself.
+        4..=40 if first.ends_with(['"', ')', '}', ']']) => format!("{begins}{first}{}in{}{second}", gap(random), space(random)),
+        _ => format!("{begins}{first}{}in{}{second}", space(random), space(random)),
+    }
+}
+
 fn expression(random: &mut Random) -> String {
-    match random.below(8) {
+    match random.below(9) {
+        8 => lets(random),
         0..=2 => operand(random),
         3 => "[]".to_string(),
         4 | 5 => call(random),
@@ -101,15 +127,23 @@ fn delegation(random: &mut Random, word: &str) -> String {
     format!("{}{}->{}{}", words.join(space(random)), gap(random), gap(random), name(random))
 }
 
+/// Rarely with the word that the other command has.
+fn over_a_list(random: &mut Random, command: &str, word: &str) -> String {
+    let part = space(random);
+    let word = if random.below(30) == 0 { one(random, &["with", "replacewith"]) } else { word };
+    format!("{command}{part}{}{part}in{part}{}{part}{word}{part}{}", name(random), name(random), expression(random))
+}
+
 fn command(random: &mut Random) -> String {
     let part = space(random);
-    match random.below(9) {
+    match random.below(10) {
         0 => format!("create{part}principal{part}{}{part}{}", name(random), string(random)),
         1 => format!("change{part}password{part}{}{}{}", name(random), gap(random), string(random)),
         2 => format!("set{part}{}{}={}{}", name(random), gap(random), gap(random), expression(random)),
         3 => format!("append{part}to{part}{}{part}with{part}{}", name(random), expression(random)),
         4 => format!("local{part}{}{}={}{}", name(random), gap(random), gap(random), expression(random)),
-        5 => format!("foreach{part}{}{part}in{part}{}{part}replacewith{part}{}", name(random), name(random), expression(random)),
+        5 => over_a_list(random, "foreach", "replacewith"),
+        9 => over_a_list(random, "filtereach", "with"),
         6 => delegation(random, "set"),
         7 => delegation(random, "delete"),
         _ => format!("default{part}delegator{}={}{}", gap(random), gap(random), name(random)),
@@ -123,7 +157,7 @@ fn dressed(random: &mut Random, line: String) -> String {
     format!("{before}{line}{}{comment}", gap(random))
 }
 
-/// A program that parses, unless a name in it is a keyword or too long, or a call in it is miswritten.
+/// A program that parses, unless a name in it is a keyword or too long, or a call, a let or a command over a list in it is miswritten.
 pub fn whole(random: &mut Random) -> Vec<u8> {
     let mut lines = Vec::new();
     let part = space(random);

@@ -3,16 +3,7 @@
 use kivzurg::raw::{self, Kind};
 use model::calls::{Listed, Report};
 use model::engine::End;
-
-#[derive(Clone, Copy, PartialEq, Eq, Debug)]
-pub enum Answer {
-    Wrong(u8),
-    Ended(Report),
-    Yes(usize),
-    No,
-    Ready,
-    Listed(Listed),
-}
+pub use model::replay::Answer;
 
 fn answer(given: raw::Answer) -> Answer {
     match given {

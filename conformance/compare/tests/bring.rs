@@ -206,7 +206,7 @@ fn around_the_limits() {
 #[test]
 fn around_the_most_principals() {
     for count in (620..645).chain(2_735..2_755) {
-        let names = compare::plans::shortest_names(count);
+        let names = model::replay::shortest_names(count);
         let people: String = names.iter().map(|name| format!("P\t{name}\t\n")).collect();
         let text = format!("C\t4294967295\nP\tadmin\t\nN\tanyone\n{people}D\tanyone\n");
         let expected = match count {

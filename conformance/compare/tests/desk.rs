@@ -42,7 +42,7 @@ fn padded(length: usize) -> String {
 
 #[test]
 fn examples_in_pieces() {
-    for name in ["short", "evening", "titles", "bill"] {
+    for name in ["short", "evening", "titles", "bill", "picks"] {
         let stream = fs::read(root().join(format!("examples/{name}.desk"))).expect("the stream");
         let expected = fs::read_to_string(root().join(format!("examples/{name}.out"))).expect("the stored output");
         for size in [1, 7, 100, stream.len()] {

@@ -86,3 +86,8 @@ fn titles() {
 fn bill() {
     compared("bill");
 }
+
+#[test]
+fn picks() {
+    compared("picks");
+}

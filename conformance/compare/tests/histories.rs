@@ -14,16 +14,20 @@ use compare::seen::{each_seeded, must_come, note, setting, Seen};
 use compare::server::{ask, bring, make, run, sheet, Answer};
 use model::calls;
 use model::engine::End;
+use model::observe::comparisons::COMPARISONS;
+use model::observe::filters::FILTERS;
+use model::observe::lets::{BOUND, ELEMENTS, LEFT, UNDONE};
 use model::observe::logins::{logins, MISSING, PARSED, UNPARSED};
 use model::observe::older::{is_older, older, Met, OLDER as OLDER_MET};
 use model::observe::prices::{FAILURES, ROUNDINGS};
-use model::observe::{self, COUNTS, FUNCTIONS, MISHAPS, PLACES, SHAPES};
+use model::observe::shapes::SHAPES;
+use model::observe::{self, COUNTS, FUNCTIONS, MISHAPS, PLACES};
 use model::text::BUFFER;
 
-/// What must come: each status, each kind of end, each number, each answer; beside them each form of a call and each mishap of one, how prices are
-/// rounded, how logins stand to the state, what becomes of counts, and what programs meet of older names, by the lists of `model::observe`.
-const STATUSES: [&str; 11] = [
-    "CREATE_PRINCIPAL", "CHANGE_PASSWORD", "SET", "APPEND", "LOCAL", "FOREACH", "SET_DELEGATION", "DELETE_DELEGATION",
+/// What must come: each status, each kind of end, each number, each answer; beside them each form of a call, of a let and of filtereach and each mishap
+/// of one, how prices are rounded, how what is compared stands to each other, how logins stand to the state, what becomes of counts, and what programs meet of older names, by the lists of `model::observe`.
+const STATUSES: [&str; 12] = [
+    "CREATE_PRINCIPAL", "CHANGE_PASSWORD", "SET", "APPEND", "LOCAL", "FOREACH", "FILTEREACH", "SET_DELEGATION", "DELETE_DELEGATION",
     "DEFAULT_DELEGATOR", "RETURNING", "EXITING",
 ];
 const ENDS: [&str; 5] = ["Returned", "Exited", "Denied", "Failed", "Full"];
@@ -58,10 +62,10 @@ fn statuses(seen: &mut Seen, output: &[u8]) {
     }
 }
 
-/// The same program on both sides. What became of the calls in it, of its login and of its sender's count is told by the model.
+/// The same program on both sides. What became of the expressions in it, of its login and of its sender's count is told by the model.
 fn run_both(seen: &mut Seen, proved: &mut Lent, model: &mut Lent, program: &[u8]) -> Answer {
     if [&proved.state, &proved.work, &proved.output].iter().all(|lent| lent.len() == BUFFER) {
-        observe::calls(&model.state, program).iter().for_each(|told| note(seen, told));
+        observe::expressions(&model.state, program).iter().for_each(|told| note(seen, told));
         logins(&model.state, program).iter().for_each(|told| note(seen, told));
     }
     let before = model.state.clone();
@@ -277,7 +281,14 @@ fn histories() {
     must_come(&seen, STATUSES.iter().chain(&ENDS).chain(&NUMBERS).chain(&ANSWERS).chain(&STARTS).chain(&COUNTS).chain(&MISHAPS).chain(&SHAPES));
     must_come(&seen, ROUNDINGS.iter().chain(&FAILURES).chain(&OLDER_MET).chain(&OLDER_ANSWERS));
     must_come(&seen, PARSED.iter().chain(&UNPARSED).chain(&MISSING));
-    for (function, place) in FUNCTIONS.iter().flat_map(|function| PLACES.map(|place| (function, place))) {
-        assert!(seen.contains_key(&format!("{function} in {place}")), "{function} was never done in {place}");
+    must_come(&seen, BOUND.iter().chain(&UNDONE).chain([&LEFT]).chain(&FILTERS).chain(&COMPARISONS));
+    for (done, place) in FUNCTIONS.iter().chain(&["let"]).flat_map(|done| PLACES.map(|place| (done, place))) {
+        assert!(seen.contains_key(&format!("{done} in {place}")), "{done} was never done in {place}");
+    }
+    for function in FUNCTIONS {
+        assert!(seen.contains_key(&format!("{function} in let")), "{function} was never done in a let");
+    }
+    for (command, words) in ["foreach", "filtereach"].iter().flat_map(|command| ELEMENTS.map(|words| (command, words))) {
+        assert!(seen.contains_key(&format!("{command}: {words}")), "never came in {command}: {words}");
     }
 }

@@ -5,7 +5,8 @@ use std::collections::BTreeMap;
 use compare::programs::{damage, whole};
 use compare::random::Random;
 use compare::parser::{kinds, model_kinds, Answer, ROOM};
-use model::observe::{misshapen, written, FUNCTIONS, PLACES, SHAPES};
+use model::observe::shapes::{misshapen, SHAPES};
+use model::observe::{written, FUNCTIONS, PLACES};
 use model::parse::parse;
 
 const PROGRAMS: usize = 120_000;
@@ -20,7 +21,7 @@ fn compare(text: &[u8], room: &mut [u8]) -> Answer {
     proved
 }
 
-/// How often calls of functions came that are read, by function and place, and miswritten ones for which a program does not parse.
+/// How often calls of functions and lets came that are read, by function and place, and miswritten ones for which a program does not parse.
 #[derive(Default)]
 struct Calls(BTreeMap<String, usize>);
 
@@ -35,7 +36,7 @@ impl Calls {
 
     fn all_came(&self) {
         println!("{:?}", self.0);
-        let read = FUNCTIONS.iter().flat_map(|function| PLACES.map(|place| format!("{function} in {place}")));
+        let read = FUNCTIONS.iter().chain(&["let"]).flat_map(|function| PLACES.map(|place| format!("{function} in {place}")));
         for key in read.chain(SHAPES.map(str::to_string)) {
             assert!(self.0.get(&key).is_some_and(|times| *times > 100), "{key} hardly came");
         }
@@ -48,7 +49,7 @@ fn random_programs() {
     println!("seed {seed}");
     let mut random = Random(seed);
     let mut room = vec![0; ROOM];
-    let mut seen = [0usize; 12];
+    let mut seen = [0usize; 13];
     let mut refused = 0;
     let mut calls = Calls::default();
     for at in 0..PROGRAMS {
@@ -88,6 +89,27 @@ fn sizes() {
     }
     text.extend_from_slice(b"exit\n***");
     assert!(matches!(compare(&text, &mut room), Answer::Parses(found) if found.len() > 2_000));
+}
+
+/// As many lets as fit, one in the first expression of the other, one in the second, and some that have no end.
+#[test]
+fn many_lets() {
+    let mut room = vec![0; ROOM];
+    let first = |depth| ["let a=".repeat(depth), "\"\"".to_string(), "in\"\"".repeat(depth)].concat();
+    let second = |depth| ["let a=\"\"in ".repeat(depth), "\"\"".to_string()].concat();
+    let head = "as principal a password\"\"do\nreturn ";
+    for (lets, parses) in [
+        (first(1_634), true),
+        (second(1_485), true),
+        (first(1_634).replacen("in", "", 1), false),
+        (first(1_633) + "in\"\"", false),
+        (second(1_485).replacen("=", "", 1), false),
+        ("let a=".repeat(2_720), false),
+    ] {
+        let text = format!("{head}{lets}\n***");
+        assert!(text.len() <= 16_384 && text.len() > 16_350, "{} bytes", text.len());
+        assert_eq!(compare(text.as_bytes(), &mut room), if parses { Answer::Parses(vec![10]) } else { Answer::No });
+    }
 }
 
 #[test]

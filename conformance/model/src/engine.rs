@@ -1,8 +1,9 @@
 //! Commands and whole programs (01, Commands and A run).
 //!
-//! Each command is asked three things in turn: is it denied, can it be done,
-//! and is what it leaves too heavy. So DENIED goes before FAILED and FAILED
-//! before FULL, whichever part of the command each is in.
+//! Each command is asked three things in turn: is it denied by itself, can it
+//! be done with its expression, and is what it leaves too heavy. DENIED goes
+//! before FAILED and FAILED before FULL, whichever part of the command each is
+//! in.
 
 use std::rc::Rc;
 
@@ -13,7 +14,7 @@ use crate::session::{Place, Session, Undone};
 use crate::state::{State, HEAVIEST};
 use crate::strings::Strings;
 use crate::syntax::{Command, Delegation, Expression, Last, Program, Target};
-use crate::value::Value;
+use crate::value::{List, Value};
 
 /// How a program ended.
 #[derive(Clone, Copy, PartialEq, Eq, Debug)]
@@ -100,9 +101,6 @@ impl<'a> Session<'a> {
                 Ok(End::Exited)
             }
             Last::Return(expression) => {
-                if self.unreadable(expression) {
-                    return Err(Undone::Denied);
-                }
                 lines.returning(&self.evaluate(expression)?);
                 Ok(End::Returned)
             }
@@ -110,22 +108,17 @@ impl<'a> Session<'a> {
     }
 
     /// Whether the command is reserved to others or needs a right that is not
-    /// had.
+    /// had, its expression apart.
     fn denied(&mut self, command: &Command) -> bool {
         match command {
             Command::CreatePrincipal(..) | Command::DefaultDelegator(_) => !self.by_admin(),
             Command::ChangePassword(name, _) => !self.by_admin() && !self.by(name),
-            Command::Set(name, expression) => {
-                self.lacks_all(&[Right::Write], name) || self.unreadable(expression)
-            }
-            Command::Append(name, expression) => {
-                self.lacks_all(&[Right::Write, Right::Append], name) || self.unreadable(expression)
-            }
-            Command::Local(_, expression) => self.unreadable(expression),
-            Command::Foreach(foreach) => {
-                self.lacks_all(&[Right::Read], foreach.list)
-                    || self.lacks_all(&[Right::Write], foreach.list)
-                    || self.foreach_evaluates(foreach) && self.unreadable(&foreach.expression)
+            Command::Set(name, _) => self.lacks_all(&[Right::Write], name),
+            Command::Append(name, _) => self.lacks_all(&[Right::Write, Right::Append], name),
+            Command::Local(..) => false,
+            Command::Foreach(each) | Command::Filtereach(each) => {
+                self.lacks_all(&[Right::Read], each.list)
+                    || self.lacks_all(&[Right::Write], each.list)
             }
             Command::SetDelegation(delegation) => self.set_delegation_denied(delegation),
             Command::DeleteDelegation(delegation) => self.delete_delegation_denied(delegation),
@@ -174,28 +167,31 @@ impl<'a> Session<'a> {
         }
     }
 
-    /// Does a command that is not denied. What makes it fail is looked for
-    /// before the value of an expression, which may weigh too much.
+    /// Does a command that is not denied by itself.
     fn perform(&mut self, command: &Command<'a>) -> Result<(), Undone> {
         let done = match command {
             Command::CreatePrincipal(name, password) => self.create_principal(name, password),
             Command::ChangePassword(name, password) => self.change_password(name, password),
             Command::Set(name, expression) => return self.set(name, expression),
             Command::Append(name, expression) => {
-                let place = self.list(name).ok_or(Undone::Failed)?;
-                let value = self.evaluate(expression)?;
-                self.append(place, value)
+                let value = self.evaluate(expression);
+                let place = self.list(name).ok_or_else(|| failed_behind(&value))?;
+                self.append(place, value?)
             }
-            Command::Local(name, _) if self.find(name).is_some() => None,
             Command::Local(name, expression) => {
-                let value = self.evaluate(expression)?;
-                self.locals.add(name, value).map(|_| ())
+                let value = self.evaluate(expression);
+                if self.find(name).is_some() {
+                    return Err(failed_behind(&value));
+                }
+                self.locals.add(name, value?).map(|_| ())
             }
-            Command::Foreach(foreach) => {
-                let list = self.replaced(foreach)?;
-                let place = self.find(foreach.list).ok_or(Undone::Failed)?;
-                self.store(place, Value::List(Rc::new(list)));
-                Some(())
+            Command::Foreach(each) => {
+                let list = self.replaced(each)?;
+                self.store_list(each.list, list)
+            }
+            Command::Filtereach(each) => {
+                let list = self.filtered(each)?;
+                self.store_list(each.list, list)
             }
             Command::SetDelegation(delegation) => self.set_delegation(delegation),
             Command::DeleteDelegation(delegation) => self.delete_delegation(delegation),
@@ -208,6 +204,12 @@ impl<'a> Session<'a> {
     fn list(&self, name: &[u8]) -> Option<Place> {
         let place = self.find(name)?;
         self.value(place).list().map(|_| place)
+    }
+
+    fn store_list(&mut self, name: &[u8], list: List<'a>) -> Option<()> {
+        let place = self.find(name)?;
+        self.store(place, Value::List(Rc::new(list)));
+        Some(())
     }
 
     fn change_password(&mut self, name: &[u8], password: &'a [u8]) -> Option<()> {
@@ -286,5 +288,14 @@ impl<'a> Session<'a> {
                 to,
             });
         }
+    }
+}
+
+/// What a command comes to that fails by itself: FAILED, unless its expression
+/// is denied.
+fn failed_behind(expression: &Result<Value, Undone>) -> Undone {
+    match expression {
+        Ok(_) => Undone::Failed,
+        Err(undone) => Undone::Failed.min(*undone),
     }
 }

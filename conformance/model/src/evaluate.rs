@@ -1,29 +1,83 @@
-//! Expressions (01, Values). Whether the sender may read what an expression
-//! names is asked before, by `unreadable`; here none is FAILED.
+//! Expressions (01, Values; 02, M-106). What is tried needs its reads, and an
+//! expression comes to a value or to DENIED, FAILED or FULL, whichever goes
+//! before the others.
 
 use std::rc::Rc;
 
 use crate::names::distinct;
 use crate::rights::Right;
 use crate::session::{Place, Session, Undone};
-use crate::state::HEAVIEST;
-use crate::strings::Maker;
-use crate::syntax::{Call, Expression, Foreach, Operand};
+use crate::state::{Variable, HEAVIEST};
+use crate::syntax::{Call, Each, Expression, Operand, Plain, Step};
 use crate::value::{Field, Item, List, Record, Value};
 
 impl<'a> Session<'a> {
+    pub fn evaluate(&mut self, expression: &Expression<'a>) -> Result<Value<'a>, Undone> {
+        match expression {
+            Expression::Plain(plain) => self.plain(plain),
+            Expression::Lets(steps) => self.lets(steps),
+        }
+    }
+
+    /// The second expression of a let is left untried where its name is not
+    /// bound. Then the whole let is not done, and where it stands in the first
+    /// expression of another, neither is that one.
+    fn lets(&mut self, steps: &[Step<'a>]) -> Result<Value<'a>, Undone> {
+        let mut outcome = Err(Undone::Failed);
+        // How many lets are open from an untried expression on.
+        let mut untried = 0;
+        for step in steps {
+            match step {
+                Step::Evaluate(_) if untried > 0 => {}
+                Step::Bind(_) if untried > 0 => untried += 1,
+                Step::Unbind if untried > 0 => untried -= 1,
+                Step::Evaluate(plain) => outcome = self.plain(plain),
+                Step::Bind(name) => {
+                    let first = outcome;
+                    outcome = Err(Undone::Failed);
+                    if let Err(undone) = self.bind(name, first) {
+                        outcome = Err(undone);
+                        untried = 1;
+                    }
+                }
+                Step::Unbind => self.bound.remove_last(),
+            }
+        }
+        outcome
+    }
+
+    pub fn plain(&mut self, plain: &Plain<'a>) -> Result<Value<'a>, Undone> {
+        if self.unreadable(plain) {
+            return Err(Undone::Denied);
+        }
+        let value = match plain {
+            Plain::Operand(Operand::Variable(name)) => self.read(name).cloned(),
+            Plain::Operand(operand) => self.text(operand).map(Value::of_text),
+            Plain::EmptyList => Some(Value::List(Rc::default())),
+            Plain::Record(fields) => self
+                .record(fields)
+                .map(|record| Value::Item(Item::Record(record))),
+            Plain::Call(call) => return self.call(call).map(Value::Item),
+        };
+        let value = value.ok_or(Undone::Failed)?;
+        if value.weight() > HEAVIEST {
+            return Err(Undone::Full);
+        }
+        Ok(value)
+    }
+
     /// Whether evaluating the expression needs a read that the sender lacks.
-    pub fn unreadable(&mut self, expression: &Expression) -> bool {
+    fn unreadable(&mut self, plain: &Plain) -> bool {
         if self.by_admin() {
             return false;
         }
-        match expression {
-            Expression::Operand(operand) => self.operand_unreadable(operand),
-            Expression::EmptyList => false,
-            Expression::Record(fields) => fields
+        match plain {
+            Plain::Operand(operand) => self.operand_unreadable(operand),
+            Plain::EmptyList => false,
+            Plain::Record(fields) => fields
                 .iter()
                 .any(|(_, operand)| self.operand_unreadable(operand)),
-            Expression::Call(call) => call
+            Plain::Call(call) => call
                 .arguments()
                 .any(|operand| self.operand_unreadable(operand)),
         }
@@ -39,28 +93,22 @@ impl<'a> Session<'a> {
         }
     }
 
-    /// The value, or that there is none, or that it or an argument weighs too
-    /// much.
-    pub fn evaluate(&self, expression: &Expression<'a>) -> Result<Value<'a>, Undone> {
-        let value = match expression {
-            Expression::Operand(Operand::Variable(name)) => self.read(name).cloned(),
-            Expression::Operand(operand) => self.text(operand).map(Value::of_text),
-            Expression::EmptyList => Some(Value::List(Rc::default())),
-            Expression::Record(fields) => self
-                .record(fields)
-                .map(|record| Value::Item(Item::Record(record))),
-            Expression::Call(call) => return self.call(call).map(Value::Item),
-        };
-        let value = value.ok_or(Undone::Failed)?;
-        if value.weight() > HEAVIEST {
-            return Err(Undone::Full);
+    /// Only the functions that compare take records.
+    fn call(&self, call: &Call<Operand<'a>>) -> Result<Item<'a>, Undone> {
+        if let Call::Compare(..) = call {
+            let call = call.map(|operand| self.item(operand));
+            return call.ok_or(Undone::Failed)?.result(&self.maker);
         }
-        Ok(value)
+        let call = call.map(|operand| self.text(operand));
+        call.ok_or(Undone::Failed)?.of_strings(&self.maker)
     }
 
-    fn call(&self, call: &Call<Operand<'a>>) -> Result<Item<'a>, Undone> {
-        let call = call.map(|operand| self.text(operand));
-        call.ok_or(Undone::Failed)?.result(&self.maker)
+    /// The operand's value where it is a string or a record.
+    pub fn item(&self, operand: &Operand<'a>) -> Option<Item<'a>> {
+        match *operand {
+            Operand::Variable(name) => self.read(name)?.item().cloned(),
+            _ => self.text(operand).map(Item::Text),
+        }
     }
 
     /// The operand's value where it is a string.
@@ -86,170 +134,65 @@ impl<'a> Session<'a> {
         Some(Record::new(&fields))
     }
 
-    /// Whether foreach evaluates its expression: where x is a list with an
-    /// element and y is undefined.
-    pub fn foreach_evaluates(&self, foreach: &Foreach) -> bool {
-        self.find(foreach.element).is_none()
-            && self
-                .read(foreach.list)
-                .and_then(Value::list)
-                .is_some_and(|list| !list.items().is_empty())
-    }
-
-    /// The list that foreach leaves. Once it weighs too much, items are not
-    /// kept any more, only tried: the command is FAILED or FULL by then.
-    pub fn replaced(&self, foreach: &Foreach<'a>) -> Result<List<'a>, Undone> {
-        let list = self.read(foreach.list).and_then(Value::list);
-        let list = list.ok_or(Undone::Failed)?;
-        if self.find(foreach.element).is_some() {
-            return Err(Undone::Failed);
-        }
+    /// The list that foreach leaves. A result that is a list is FAILED. Once
+    /// it weighs too much, items are not kept any more.
+    pub fn replaced(&mut self, each: &Each<'a>) -> Result<List<'a>, Undone> {
+        let list = self.list_of(each)?;
         let mut replaced = List::with_room(list.items().len());
-        if list.items().is_empty() {
-            return Ok(replaced);
-        }
-        let template = self.template(foreach)?;
-        let mut full = false;
-        for item in list.items() {
-            if full {
-                template.applies(item).then_some(()).ok_or(Undone::Failed)?;
-                continue;
+        self.for_each(each, &list, |_, result| {
+            let Value::Item(item) = result else {
+                return Err(Undone::Failed);
+            };
+            if replaced.weight() + 1 + item.weight() > HEAVIEST {
+                return Err(Undone::Full);
             }
-            match template.apply(item, &self.maker) {
-                Ok(item) => replaced.push(item),
-                Err(Undone::Full) => full = true,
-                Err(undone) => return Err(undone),
-            }
-            full |= replaced.weight() > HEAVIEST;
-        }
-        if full {
-            return Err(Undone::Full);
-        }
+            replaced.push(item);
+            Ok(())
+        })?;
         Ok(replaced)
     }
 
-    /// Evaluates what does not depend on the element, once for all elements.
-    fn template(&self, foreach: &Foreach<'a>) -> Result<Template<'a>, Undone> {
-        let element = foreach.element;
-        let names = |operand: &Operand<'a>| Part::of_element(operand, element).is_some();
-        match &foreach.expression {
-            Expression::Operand(operand) => match Part::of_element(operand, element) {
-                Some(part) => Ok(Template::Part(part)),
-                None => self.constant(&foreach.expression),
-            },
-            Expression::Record(fields) if fields.iter().any(|(_, operand)| names(operand)) => {
-                self.record_template(fields, element).ok_or(Undone::Failed)
+    /// The list that filtereach leaves: the elements for which the expression
+    /// comes to the empty string (001, Filtering lists).
+    pub fn filtered(&mut self, each: &Each<'a>) -> Result<List<'a>, Undone> {
+        let list = self.list_of(each)?;
+        let mut filtered = List::with_room(list.items().len());
+        self.for_each(each, &list, |element, result| {
+            if result == Value::of_text(b"") {
+                filtered.push(element.clone());
             }
-            Expression::Call(call) if call.arguments().any(names) => call
-                .map(|operand| self.part(operand, element))
-                .map(Template::Call)
-                .ok_or(Undone::Failed),
-            expression => self.constant(expression),
+            Ok(())
+        })?;
+        Ok(filtered)
+    }
+
+    /// The list x, where it is one and y is undefined.
+    fn list_of(&self, each: &Each<'a>) -> Result<Rc<List<'a>>, Undone> {
+        let list = self.read(each.list).and_then(Value::list);
+        let list = list.filter(|_| !self.is_defined(each.element));
+        list.cloned().ok_or(Undone::Failed)
+    }
+
+    /// Evaluates the expression for each element, for which y stands. It goes
+    /// on after an element for which that, or the taking of the result, is not
+    /// done: what goes before may come later.
+    fn for_each(
+        &mut self,
+        each: &Each<'a>,
+        list: &List<'a>,
+        mut take: impl FnMut(&Item<'a>, Value<'a>) -> Result<(), Undone>,
+    ) -> Result<(), Undone> {
+        let mut undone = None;
+        for item in list.items() {
+            self.element = Some(Variable {
+                name: each.element,
+                value: Value::Item(item.clone()),
+            });
+            let result = self.evaluate(&each.expression);
+            let taken = result.and_then(|result| take(item, result));
+            undone = undone.into_iter().chain(taken.err()).min();
         }
-    }
-
-    /// A result that is a list is FAILED. One that weighs too much does for
-    /// every element.
-    fn constant(&self, expression: &Expression<'a>) -> Result<Template<'a>, Undone> {
-        let value = self.evaluate(expression)?;
-        let item = value.item().cloned().ok_or(Undone::Failed)?;
-        Ok(Template::Constant(item))
-    }
-
-    fn part(&self, operand: &Operand<'a>, element: &[u8]) -> Option<Part<'a>> {
-        match Part::of_element(operand, element) {
-            Some(part) => Some(part),
-            None => self.text(operand).map(Part::Text),
-        }
-    }
-
-    fn record_template(
-        &self,
-        fields: &[(&'a [u8], Operand<'a>)],
-        element: &[u8],
-    ) -> Option<Template<'a>> {
-        if !distinct(fields.iter().map(|&(label, _)| label)) {
-            return None;
-        }
-        fields
-            .iter()
-            .map(|&(label, ref operand)| {
-                let part = self.part(operand, element)?;
-                Some((label, part))
-            })
-            .collect::<Option<Vec<_>>>()
-            .map(Template::Record)
-    }
-}
-
-/// The expression of a foreach, all but the element evaluated.
-enum Template<'a> {
-    Constant(Item<'a>),
-    Part(Part<'a>),
-    Record(Vec<(&'a [u8], Part<'a>)>),
-    Call(Call<Part<'a>>),
-}
-
-impl<'a> Template<'a> {
-    fn apply(&self, item: &Item<'a>, maker: &Maker<'a>) -> Result<Item<'a>, Undone> {
-        let applied = match self {
-            Template::Constant(constant) => Some(constant.clone()),
-            Template::Part(Part::Element) => Some(item.clone()),
-            Template::Part(part) => part.text(item).map(Item::Text),
-            Template::Record(parts) => {
-                let fields = parts.iter().map(|&(label, ref part)| {
-                    let text = part.text(item)?;
-                    Some(Field { label, text })
-                });
-                let fields: Option<Vec<_>> = fields.collect();
-                fields.map(|fields| Item::Record(Record::new(&fields)))
-            }
-            Template::Call(call) => {
-                let call = call.map(|part| part.text(item));
-                return call.ok_or(Undone::Failed)?.result(maker);
-            }
-        };
-        applied.ok_or(Undone::Failed)
-    }
-
-    /// Whether `apply` does not fail.
-    fn applies(&self, item: &Item<'a>) -> bool {
-        match self {
-            Template::Constant(_) | Template::Part(Part::Element) => true,
-            Template::Part(part) => part.text(item).is_some(),
-            Template::Record(parts) => parts.iter().all(|(_, part)| part.text(item).is_some()),
-            Template::Call(call) => call
-                .map(|part| part.text(item))
-                .is_some_and(|call| !call.fails()),
-        }
-    }
-}
-
-/// An operand of foreach's expression.
-enum Part<'a> {
-    Text(&'a [u8]),
-    /// The element itself.
-    Element,
-    /// The element's field of this label.
-    Field(&'a [u8]),
-}
-
-impl<'a> Part<'a> {
-    /// The part that an operand naming the element is.
-    fn of_element(operand: &Operand<'a>, element: &[u8]) -> Option<Part<'a>> {
-        match *operand {
-            Operand::Variable(name) if name == element => Some(Part::Element),
-            Operand::Field(name, label) if name == element => Some(Part::Field(label)),
-            _ => None,
-        }
-    }
-
-    /// The part's value for the element, where it is a string.
-    fn text(&self, item: &Item<'a>) -> Option<&'a [u8]> {
-        match *self {
-            Part::Text(text) => Some(text),
-            Part::Element => item.text(),
-            Part::Field(label) => item.field(label),
-        }
+        self.element = None;
+        undone.map_or(Ok(()), Err)
     }
 }

@@ -1,17 +1,45 @@
-//! The functions on strings (001, String functions; 02, M-100) and on prices
-//! (02, M-104).
+//! The functions on strings (001, String functions; 02, M-100), on prices (02,
+//! M-104), and those that compare (001, Filtering lists; 02, M-106).
 
 use crate::session::Undone;
 use crate::state::HEAVIEST;
 use crate::strings::Maker;
-use crate::syntax::Call;
+use crate::syntax::{Call, Comparison};
 use crate::value::{Field, Item, Record};
+
+impl<'a> Call<Item<'a>> {
+    /// What the function gives. Only those that compare take records.
+    pub fn result(&self, maker: &Maker<'a>) -> Result<Item<'a>, Undone> {
+        match self {
+            Call::Compare(comparison, first, second) => {
+                if first.weight() > HEAVIEST || second.weight() > HEAVIEST {
+                    return Err(Undone::Full);
+                }
+                Ok(comparison.answer(first.equals(second)))
+            }
+            _ => {
+                let strings = self.map(Item::text);
+                strings.ok_or(Undone::Failed)?.of_strings(maker)
+            }
+        }
+    }
+}
+
+impl Comparison {
+    /// The empty string for yes and "0" for no.
+    fn answer(self, are_equal: bool) -> Item<'static> {
+        match are_equal == (self == Comparison::Equal) {
+            true => Item::Text(b""),
+            false => Item::Text(b"0"),
+        }
+    }
+}
 
 impl<'a> Call<&'a [u8]> {
     /// What the function gives. FULL where an argument or the result weighs
     /// too much; what would is not made. A string that weighs too much is no
     /// price, and FAILED goes before FULL.
-    pub fn result(&self, maker: &Maker<'a>) -> Result<Item<'a>, Undone> {
+    pub fn of_strings(&self, maker: &Maker<'a>) -> Result<Item<'a>, Undone> {
         let is_heavy = self.arguments().any(|text| text.len() > HEAVIEST);
         let item = match *self {
             Call::Prices(operation, first, second) => {
@@ -25,20 +53,12 @@ impl<'a> Call<&'a [u8]> {
             }
             Call::Concat(first, second) => Item::Text(maker.keep([first, second].concat())),
             Call::Tolower(text) => Item::Text(maker.keep(text.to_ascii_lowercase())),
+            Call::Compare(comparison, first, second) => comparison.answer(first == second),
         };
         if item.weight() > HEAVIEST {
             return Err(Undone::Full);
         }
         Ok(item)
-    }
-
-    /// Whether the function is FAILED for these strings. The functions on
-    /// strings never are.
-    pub fn fails(&self) -> bool {
-        match *self {
-            Call::Prices(operation, first, second) => operation.of_texts(first, second).is_none(),
-            Call::Split(..) | Call::Concat(..) | Call::Tolower(_) => false,
-        }
     }
 }
 

@@ -7,8 +7,9 @@
 //! the state and its text, [`rights`] the chains, [`strings`], [`session`],
 //! [`prices`], [`functions`], [`evaluate`], [`lines`] and [`engine`] what a
 //! program does, [`sheet`] who may do what on paper, and [`calls`] what the host
-//! program may call. [`observe`] is for tests: it tells what became of the calls
-//! of functions in a program, and what a program met of older names.
+//! program may call. [`observe`] and [`replay`] are for tests: the one tells what
+//! became of the expressions in a program and what it met of older names, the
+//! other plays scripts of calls.
 
 #![forbid(unsafe_code)]
 
@@ -22,6 +23,7 @@ pub mod names;
 pub mod observe;
 pub mod parse;
 pub mod prices;
+pub mod replay;
 pub mod rights;
 pub mod session;
 pub mod sheet;

@@ -12,6 +12,7 @@ pub fn status(command: &Command) -> &'static str {
         Command::Append(..) => "APPEND",
         Command::Local(..) => "LOCAL",
         Command::Foreach(..) => "FOREACH",
+        Command::Filtereach(..) => "FILTEREACH",
         Command::SetDelegation(..) => "SET_DELEGATION",
         Command::DeleteDelegation(..) => "DELETE_DELEGATION",
         Command::DefaultDelegator(..) => "DEFAULT_DELEGATOR",

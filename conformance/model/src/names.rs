@@ -8,8 +8,7 @@ use crate::bytes::{class, Class};
 /// The longest identifier (001, Grammar).
 pub const LONGEST_NAME: usize = 255;
 
-/// Keywords: 01's, and the four of 02's M-104. Those of 001's optional features
-/// that are not taken in are reserved without a use.
+/// Keywords: 01's, and the four of 02's M-104.
 #[derive(Clone, Copy, PartialEq, Eq, Debug)]
 pub enum Keyword {
     Add,
@@ -25,10 +24,14 @@ pub enum Keyword {
     Delegator,
     Delete,
     Do,
+    Equal,
     Exit,
+    Filtereach,
     Foreach,
     In,
+    Let,
     Local,
+    Notequal,
     Password,
     Per,
     Principal,
@@ -43,7 +46,6 @@ pub enum Keyword {
     Tolower,
     With,
     Write,
-    Reserved,
 }
 
 impl Keyword {
@@ -73,10 +75,14 @@ pub fn keyword(word: &[u8]) -> Option<Keyword> {
         b"delegator" => Keyword::Delegator,
         b"delete" => Keyword::Delete,
         b"do" => Keyword::Do,
+        b"equal" => Keyword::Equal,
         b"exit" => Keyword::Exit,
+        b"filtereach" => Keyword::Filtereach,
         b"foreach" => Keyword::Foreach,
         b"in" => Keyword::In,
+        b"let" => Keyword::Let,
         b"local" => Keyword::Local,
+        b"notequal" => Keyword::Notequal,
         b"password" => Keyword::Password,
         b"per" => Keyword::Per,
         b"principal" => Keyword::Principal,
@@ -91,7 +97,6 @@ pub fn keyword(word: &[u8]) -> Option<Keyword> {
         b"tolower" => Keyword::Tolower,
         b"with" => Keyword::With,
         b"write" => Keyword::Write,
-        b"notequal" | b"equal" | b"filtereach" | b"let" => Keyword::Reserved,
         _ => return None,
     })
 }

@@ -1,27 +1,34 @@
-//! What became of the calls of functions in a program, of its login and of its
-//! sender's count, told in a few words each. Random tests count them, so that
-//! no form and no mishap is left out unnoticed.
+//! What became of the calls of functions, of the lets and of filtereach in a
+//! program, of its login and of its sender's count, told in a few words each.
+//! Random tests count them, so that no form and no mishap is left out
+//! unnoticed.
 
+pub mod comparisons;
+pub mod filters;
+pub mod lets;
 pub mod logins;
 pub mod older;
 pub mod prices;
+pub mod shapes;
 
 use crate::engine::login;
-use crate::names::Keyword;
 use crate::parse::parse;
 use crate::session::{Session, Undone};
-use crate::state::HEAVIEST;
+use crate::state::{Variable, HEAVIEST};
 use crate::strings::Strings;
-use crate::syntax::{Call, Command, Expression, Foreach, Last, Operand, Operation, Program};
+use crate::syntax::{
+    Call, Command, Comparison, Each, Expression, Last, Operand, Operation, Plain, Program,
+};
 use crate::text::decode;
-use crate::token::{Scanner, Token};
 use crate::value::{Item, Value};
 
-pub const FUNCTIONS: [&str; 7] = ["split", "concat", "tolower", "add", "sub", "times", "per"];
+pub const FUNCTIONS: [&str; 9] = [
+    "split", "concat", "tolower", "add", "sub", "times", "per", "equal", "notequal",
+];
 
 /// Where an expression may stand. A call that was done is told as "split in
-/// set".
-pub const PLACES: [&str; 5] = ["set", "append", "local", "foreach", "return"];
+/// set", and one within a let as "split in let".
+pub const PLACES: [&str; 6] = ["set", "append", "local", "foreach", "filtereach", "return"];
 
 /// What a call may come to where the program ends with it. Where its strings
 /// are no prices, or have no result, [`prices::FAILURES`] has the words.
@@ -36,15 +43,6 @@ pub const MISHAPS: [&str; 10] = [
     "FULL by a result",
     "FULL by what is left",
     "FAILED behind strings that are too heavy",
-];
-
-/// Why a program with such a call does not parse.
-pub const SHAPES: [&str; 5] = [
-    "number of arguments",
-    "call in a call",
-    "call in a field",
-    "parenthesis missing",
-    "parentheses without a function",
 ];
 
 /// How a sender's count may move, where that is worth seeing.
@@ -75,16 +73,16 @@ pub fn count(before: &[u8], program: &[u8], after: &[u8]) -> Option<&'static str
     }
 }
 
-/// What became of the calls in a program that is run on a state: of each that
-/// was done, and of the one with which the program ended. Where the program
-/// does not parse for how one is written, that.
-pub fn calls(state: &[u8], program: &[u8]) -> Vec<String> {
+/// What became of the calls, lets and filtereaches in a program that is run on
+/// a state: of each that was done, and of the one with which the program ended.
+/// Where the program does not parse for how one is written, that.
+pub fn expressions(state: &[u8], program: &[u8]) -> Vec<String> {
     let strings = Strings::default();
     let Some((state, _)) = decode(state).filter(|(state, _)| state.open) else {
         return Vec::new();
     };
     let Some(parsed) = parse(program) else {
-        return misshapen(program).map(str::to_string).into_iter().collect();
+        return told(shapes::misshapen(program));
     };
     let Ok(sender) = login(&state, &parsed) else {
         return Vec::new();
@@ -92,32 +90,237 @@ pub fn calls(state: &[u8], program: &[u8]) -> Vec<String> {
     let mut session = Session::new(state, sender, &strings);
     let mut told = Vec::new();
     for command in &parsed.commands {
-        if !stepped(&mut session, command, &mut told) {
+        let placed = placed(command).map(|placed| (placed, session.clone()));
+        let outcome = session.step(command);
+        if let Some((placed, before)) = placed {
+            told.extend(placed.tried(&before, Some(command), outcome).told());
+        }
+        if outcome.is_err() {
             return told;
         }
     }
-    if let Last::Return(expression @ Expression::Call(call)) = &parsed.last {
-        let outcome = match session.unreadable(expression) {
-            true => Err(Undone::Denied),
-            false => session.evaluate(expression).map(|_| ()),
-        };
-        told.extend(match outcome {
-            Ok(()) => done_with(&session, call, PLACES[4], None),
-            Err(undone) => mishap(&session, call, None, undone),
-        });
+    if let Some(placed) = placed_last(&parsed.last) {
+        let before = session.clone();
+        let outcome = session.evaluate(placed.expression).map(|_| ());
+        told.extend(placed.tried(&before, None, outcome).told());
     }
     told
 }
 
-/// The calls that a program has, as they would be told if they were done.
+fn told<'s>(words: impl IntoIterator<Item = &'s str>) -> Vec<String> {
+    words.into_iter().map(str::to_string).collect()
+}
+
+/// The calls and lets that a program has, as they would be told if they were
+/// done.
 pub fn written(program: &Program) -> Vec<String> {
-    let commands = program.commands.iter().filter_map(call_of);
-    let last = match &program.last {
-        Last::Return(Expression::Call(call)) => Some((PLACES[4], call.as_ref())),
-        _ => None,
+    let commands = program.commands.iter().filter_map(placed);
+    let all = commands.chain(placed_last(&program.last));
+    let told = all.filter_map(|placed| match placed.expression {
+        Expression::Plain(Plain::Call(call)) => Some(done(call, placed.place)),
+        Expression::Plain(_) => None,
+        Expression::Lets(_) => Some(format!("let in {}", placed.place)),
+    });
+    told.collect()
+}
+
+/// An expression and where it stands.
+#[derive(Clone, Copy)]
+struct Placed<'t, 'a> {
+    place: &'static str,
+    expression: &'t Expression<'a>,
+    /// The foreach or filtereach that it stands in.
+    each: Option<&'t Each<'a>>,
+    /// The name that the command would make.
+    makes: Option<&'a [u8]>,
+}
+
+fn placed<'t, 'a>(command: &'t Command<'a>) -> Option<Placed<'t, 'a>> {
+    let (place, expression, each, makes) = match command {
+        Command::Set(name, expression) => (PLACES[0], expression, None, Some(*name)),
+        Command::Append(_, expression) => (PLACES[1], expression, None, None),
+        Command::Local(name, expression) => (PLACES[2], expression, None, Some(*name)),
+        Command::Foreach(each) => (PLACES[3], &each.expression, Some(each), None),
+        Command::Filtereach(each) => (PLACES[4], &each.expression, Some(each), None),
+        _ => return None,
     };
-    let calls = commands.chain(last);
-    calls.map(|(place, call)| done(call, place)).collect()
+    Some(Placed {
+        place,
+        expression,
+        each,
+        makes,
+    })
+}
+
+fn placed_last<'t, 'a>(last: &'t Last<'a>) -> Option<Placed<'t, 'a>> {
+    match last {
+        Last::Return(expression) => Some(Placed {
+            place: PLACES[5],
+            expression,
+            each: None,
+            makes: None,
+        }),
+        Last::Exit => None,
+    }
+}
+
+impl<'t, 'a> Placed<'t, 'a> {
+    fn tried(
+        self,
+        before: &'t Session<'a>,
+        command: Option<&'t Command<'a>>,
+        outcome: Result<(), Undone>,
+    ) -> Tried<'t, 'a> {
+        Tried {
+            before,
+            command,
+            placed: self,
+            outcome,
+        }
+    }
+}
+
+/// An expression, the session before its command, and how that ended. There is
+/// no command where the program returns the expression.
+struct Tried<'t, 'a> {
+    before: &'t Session<'a>,
+    command: Option<&'t Command<'a>>,
+    placed: Placed<'t, 'a>,
+    outcome: Result<(), Undone>,
+}
+
+impl<'a> Tried<'_, 'a> {
+    fn told(&self) -> Vec<String> {
+        let mut told = Vec::new();
+        if self.is_decided_by_the_expression() {
+            match self.placed.expression {
+                Expression::Plain(Plain::Call(call)) => told.extend(self.call(call)),
+                Expression::Plain(_) => {}
+                Expression::Lets(steps) => told.extend(lets::told(self, steps)),
+            }
+        }
+        if let Some(Command::Filtereach(each)) = self.command {
+            told.extend(filters::told(self, each));
+        }
+        told
+    }
+
+    /// Whether the expression is evaluated, and the command is done or ends
+    /// otherwise with an empty string in its place.
+    fn is_decided_by_the_expression(&self) -> bool {
+        if self.elements().is_empty() {
+            return false;
+        }
+        match self.command {
+            Some(command) if self.outcome.is_err() => {
+                self.before.clone().step(&without_expression(command)) != self.outcome
+            }
+            _ => true,
+        }
+    }
+
+    /// What y stands for each time that the expression is evaluated; nothing
+    /// where there is no y.
+    fn elements(&self) -> Vec<Option<Variable<'a>>> {
+        let Some(each) = self.placed.each else {
+            return vec![None];
+        };
+        let list = self.before.read(each.list).and_then(Value::list);
+        let items = list.map_or(&[][..], |list| list.items());
+        if self.before.is_defined(each.element) {
+            return Vec::new();
+        }
+        let element = |item: &Item<'a>| Variable {
+            name: each.element,
+            value: Value::Item(item.clone()),
+        };
+        items.iter().map(|item| Some(element(item))).collect()
+    }
+
+    /// The call with its values each time that it is evaluated; none where an
+    /// argument is a list or has no value.
+    fn applied(&self, call: &Call<Operand<'a>>) -> Vec<Option<Call<Item<'a>>>> {
+        let mut session = self.before.clone();
+        let elements = self.elements().into_iter();
+        let applied = elements.map(|element| {
+            session.element = element;
+            call.map(|operand| session.item(operand))
+        });
+        applied.collect()
+    }
+
+    fn call(&self, call: &Call<Operand<'a>>) -> Vec<String> {
+        match self.outcome {
+            Ok(()) => {
+                let applied = self.applied(call).into_iter().flatten();
+                let beside = applied.flat_map(|call| beside(&call));
+                let mut all = vec![done(call, self.placed.place)];
+                all.extend(told(beside));
+                all
+            }
+            Err(undone) => told(self.mishap(call, undone)),
+        }
+    }
+
+    /// Why the call could not be done, of [`MISHAPS`] or [`prices::FAILURES`].
+    fn mishap(&self, call: &Call<Operand<'a>>, undone: Undone) -> Vec<&'static str> {
+        match undone {
+            Undone::Denied => vec![MISHAPS[0]],
+            Undone::Failed => self.failure(call),
+            Undone::Full if call.arguments().any(heavy) => vec![MISHAPS[6]],
+            Undone::Full => {
+                let results = self.results(&self.applied(call));
+                let is_full = results.contains(&Err(Undone::Full));
+                vec![MISHAPS[if is_full { 7 } else { 8 }]]
+            }
+        }
+    }
+
+    /// Why it is FAILED: an argument that it cannot take whatever the element
+    /// is, an element that gives such a one, or values for which it fails.
+    fn failure(&self, call: &Call<Operand<'a>>) -> Vec<&'static str> {
+        let element = self.placed.each.map(|each| each.element);
+        let mut outside = call
+            .arguments()
+            .filter(|operand| element.is_none() || element != named(operand));
+        let takes_records = matches!(call, Call::Compare(..));
+        let untakable = |operand| untakable(self.before, operand, takes_records);
+        if let Some(why) = outside.find_map(untakable) {
+            return vec![why];
+        }
+        let applied = self.applied(call);
+        let results = self.results(&applied);
+        let fails = |result: &Result<Item, Undone>| *result == Err(Undone::Failed);
+        let at = results.iter().position(fails).unwrap_or(results.len());
+        let beside = applied.get(at).and_then(Option::as_ref).map(beside);
+        let mut why = beside.unwrap_or_default();
+        if why.is_empty() {
+            why.push(MISHAPS[5]);
+        }
+        if self.is_heavy(&results[..at]) {
+            why.push(match call {
+                Call::Prices(..) => prices::FAILURES[7],
+                _ => MISHAPS[9],
+            });
+        }
+        why
+    }
+
+    fn results(&self, applied: &[Option<Call<Item<'a>>>]) -> Vec<Result<Item<'a>, Undone>> {
+        let result = |call: &Option<Call<Item<'a>>>| match call {
+            Some(call) => call.result(&self.before.maker),
+            None => Err(Undone::Failed),
+        };
+        applied.iter().map(result).collect()
+    }
+
+    /// Whether one of these results weighs too much, or in a foreach all of
+    /// them together.
+    fn is_heavy(&self, results: &[Result<Item, Undone>]) -> bool {
+        let weight: usize = results.iter().flatten().map(|item| 1 + item.weight()).sum();
+        let is_kept = self.placed.place == PLACES[3];
+        results.contains(&Err(Undone::Full)) || is_kept && weight > HEAVIEST
+    }
 }
 
 fn done<A>(call: &Call<A>, place: &str) -> String {
@@ -129,178 +332,41 @@ fn done<A>(call: &Call<A>, place: &str) -> String {
         Call::Prices(Operation::Sub, ..) => FUNCTIONS[4],
         Call::Prices(Operation::Times, ..) => FUNCTIONS[5],
         Call::Prices(Operation::Per, ..) => FUNCTIONS[6],
+        Call::Compare(Comparison::Equal, ..) => FUNCTIONS[7],
+        Call::Compare(Comparison::Notequal, ..) => FUNCTIONS[8],
     };
     format!("{function} in {place}")
 }
 
-/// A call that was done, and how each price that it gave was rounded.
-fn done_with<'a>(
-    session: &Session<'a>,
-    call: &Call<Operand<'a>>,
-    place: &str,
-    foreach: Option<&Foreach<'a>>,
-) -> Vec<String> {
-    let strings = applied(session, call, foreach).into_iter().flatten();
-    let rounded = strings.flat_map(|call| of_prices(&call));
-    let told = rounded.map(str::to_string);
-    [done(call, place)].into_iter().chain(told).collect()
-}
-
-/// What became of an operation on prices.
-fn of_prices(call: &Call<&[u8]>) -> Vec<&'static str> {
-    match *call {
-        Call::Prices(operation, first, second) => prices::outcome(operation, first, second),
+/// What is told beside a call: how a price was rounded or why there is none,
+/// and how what was compared stands to each other.
+fn beside(call: &Call<Item>) -> Vec<&'static str> {
+    match call {
+        Call::Prices(operation, Item::Text(first), Item::Text(second)) => {
+            prices::outcome(*operation, first, second)
+        }
+        Call::Compare(_, first, second) => vec![comparisons::compared(first, second)],
         _ => Vec::new(),
     }
 }
 
-/// The call with its strings, for each element of a foreach or once; none
-/// where an argument is no string.
-fn applied<'a>(
-    session: &Session<'a>,
-    call: &Call<Operand<'a>>,
-    foreach: Option<&Foreach<'a>>,
-) -> Vec<Option<Call<&'a [u8]>>> {
-    let Some(foreach) = foreach else {
-        return vec![call.map(|operand| string(session, operand, None))];
-    };
-    let list = session.read(foreach.list).and_then(Value::list);
-    let items = list.map_or(&[][..], |list| list.items());
-    let bound = items.iter().map(|item| (foreach.element, item));
-    bound
-        .map(|bound| call.map(|operand| string(session, operand, Some(bound))))
-        .collect()
-}
-
-/// An operand's value where it is a string, a name being bound to an item.
-fn string<'a>(
-    session: &Session<'a>,
-    operand: &Operand<'a>,
-    bound: Option<(&[u8], &Item<'a>)>,
-) -> Option<&'a [u8]> {
-    let item = |name: &[u8]| match bound {
-        Some((element, item)) if element == name => Some(item.clone()),
-        _ => session.read(name)?.item().cloned(),
-    };
-    match *operand {
-        Operand::Variable(name) => item(name)?.text(),
-        Operand::Field(name, label) => item(name)?.field(label),
-        Operand::Text(text) => Some(text),
-    }
-}
-
-/// Does a command and tells what became of its call; whether it was done. The
-/// call ended the program where the command ends otherwise with an empty
-/// string in its place.
-fn stepped<'a>(session: &mut Session<'a>, command: &Command<'a>, told: &mut Vec<String>) -> bool {
-    let Some((place, call)) = call_of(command) else {
-        return session.step(command).is_ok();
-    };
-    let before = session.clone();
-    let outcome = session.step(command);
-    let foreach = match command {
-        Command::Foreach(foreach) if !before.foreach_evaluates(foreach) => return outcome.is_ok(),
-        Command::Foreach(foreach) => Some(foreach),
-        _ => None,
-    };
-    match outcome {
-        Ok(()) => told.extend(done_with(&before, call, place, foreach)),
-        Err(undone) if before.clone().step(&without_call(command)) != outcome => {
-            told.extend(mishap(&before, call, foreach, undone));
-        }
-        Err(_) => {}
-    }
-    outcome.is_ok()
-}
-
-fn call_of<'c, 'a>(command: &'c Command<'a>) -> Option<(&'static str, &'c Call<Operand<'a>>)> {
-    let (place, expression) = match command {
-        Command::Set(_, expression) => (PLACES[0], expression),
-        Command::Append(_, expression) => (PLACES[1], expression),
-        Command::Local(_, expression) => (PLACES[2], expression),
-        Command::Foreach(foreach) => (PLACES[3], &foreach.expression),
-        _ => return None,
-    };
-    match expression {
-        Expression::Call(call) => Some((place, call)),
-        _ => None,
-    }
-}
-
 /// The command with an empty string for its expression.
-fn without_call<'a>(command: &Command<'a>) -> Command<'a> {
-    let empty = Expression::Operand(Operand::Text(b""));
+fn without_expression<'a>(command: &Command<'a>) -> Command<'a> {
+    let empty = Expression::Plain(Plain::Operand(Operand::Text(b"")));
     match command {
         Command::Set(name, _) => Command::Set(name, empty),
         Command::Append(name, _) => Command::Append(name, empty),
         Command::Local(name, _) => Command::Local(name, empty),
-        Command::Foreach(foreach) => Command::Foreach(Foreach {
+        Command::Foreach(each) => Command::Foreach(Each {
             expression: empty,
-            ..*foreach
+            ..*each
+        }),
+        Command::Filtereach(each) => Command::Filtereach(Each {
+            expression: empty,
+            ..*each
         }),
         other => other.clone(),
     }
-}
-
-/// Why the call could not be done, of [`MISHAPS`] or [`prices::FAILURES`].
-fn mishap<'a>(
-    session: &Session<'a>,
-    call: &Call<Operand<'a>>,
-    foreach: Option<&Foreach<'a>>,
-    undone: Undone,
-) -> Vec<String> {
-    let why = match undone {
-        Undone::Denied => vec![MISHAPS[0]],
-        Undone::Failed => failure(session, call, foreach),
-        Undone::Full if call.arguments().any(heavy) => vec![MISHAPS[6]],
-        Undone::Full => match session.evaluate(&Expression::Call(Box::new(*call))) {
-            Err(Undone::Full) => vec![MISHAPS[7]],
-            _ => vec![MISHAPS[8]],
-        },
-    };
-    why.into_iter().map(str::to_string).collect()
-}
-
-/// Why it is FAILED: an argument that is no string whatever the element is, an
-/// element that gives none, or strings for which the function fails.
-fn failure<'a>(
-    session: &Session<'a>,
-    call: &Call<Operand<'a>>,
-    foreach: Option<&Foreach<'a>>,
-) -> Vec<&'static str> {
-    let element = foreach.map(|foreach| foreach.element);
-    let mut outside = call
-        .arguments()
-        .filter(|operand| element.is_none() || element != named(operand));
-    if let Some(told) = outside.find_map(|operand| no_string(session, operand)) {
-        return vec![told];
-    }
-    let applied = applied(session, call, foreach);
-    let fails = |call: &Option<Call<&[u8]>>| call.is_none_or(|call| call.fails());
-    let at = applied.iter().position(fails).unwrap_or(applied.len());
-    let mut told = match applied.get(at) {
-        Some(Some(call)) => of_prices(call),
-        _ => vec![MISHAPS[5]],
-    };
-    if too_heavy(session, &applied[..at]) {
-        told.push(match call {
-            Call::Prices(..) => prices::FAILURES[7],
-            _ => MISHAPS[9],
-        });
-    }
-    told
-}
-
-/// Whether what these calls give is too heavy already for a list.
-fn too_heavy<'a>(session: &Session<'a>, calls: &[Option<Call<&'a [u8]>>]) -> bool {
-    let results = calls
-        .iter()
-        .flatten()
-        .map(|call| call.result(&session.maker));
-    let weight: Result<usize, Undone> = results
-        .map(|result| result.map(|item| 1 + item.weight()))
-        .sum();
-    weight.map_or(true, |weight| weight > HEAVIEST)
 }
 
 /// Only a string that the program itself has can weigh too much.
@@ -315,8 +381,8 @@ fn named<'a>(operand: &Operand<'a>) -> Option<&'a [u8]> {
     }
 }
 
-/// Why an argument is no string, where it is none.
-fn no_string(session: &Session, operand: &Operand) -> Option<&'static str> {
+/// Why a function cannot take an argument, where it cannot.
+fn untakable(session: &Session, operand: &Operand, takes_records: bool) -> Option<&'static str> {
     let Some(value) = session.read(named(operand)?) else {
         return Some(MISHAPS[1]);
     };
@@ -326,90 +392,7 @@ fn no_string(session: &Session, operand: &Operand) -> Option<&'static str> {
         }
         (Value::List(_), Operand::Field(..)) => Some(MISHAPS[2]),
         (Value::List(_), _) => Some(MISHAPS[3]),
+        (Value::Item(_), _) if takes_records => None,
         (Value::Item(item), _) => item.text().is_none().then_some(MISHAPS[4]),
     }
-}
-
-/// A token with its first byte's place and its end.
-type Placed<'a> = (Token<'a>, usize, usize);
-
-/// Why a program that does not parse does not, where it is for one call and
-/// the program parses with an empty string in its place.
-pub fn misshapen(program: &[u8]) -> Option<&'static str> {
-    let mut scanner = Scanner::new(program);
-    let mut tokens: Vec<Placed> = Vec::new();
-    let mut start = 0;
-    while let Some(token) = scanner.token() {
-        tokens.push((token, start, scanner.position()));
-        start = scanner.position();
-    }
-    (0..tokens.len()).find_map(|at| {
-        let (shape, count) = mistake(&tokens, at)?;
-        let (from, to) = (tokens[at].1, tokens[at + count - 1].2);
-        let mended = [&program[..from], b"\"\"", &program[to..]].concat();
-        parse(&mended).is_some().then_some(shape)
-    })
-}
-
-/// What is wrong, of [`SHAPES`], with what begins at a token, and how many
-/// tokens that takes.
-fn mistake(tokens: &[Placed], at: usize) -> Option<(&'static str, usize)> {
-    let is_end = |token: &Placed| token.0 == Token::LineEnd;
-    let line = tokens[..at].iter().rposition(is_end);
-    let before = &tokens[line.map_or(0, |end| end + 1)..at];
-    let rest = &tokens[at..];
-    let rest = &rest[..rest.iter().position(is_end)?];
-    let function = match rest.first()?.0 {
-        Token::Keyword(word) if is_function(word) => word,
-        Token::OpenParenthesis => {
-            let last = before.last().map(|token| token.0);
-            let called = matches!(last, Some(Token::Keyword(word)) if is_function(word));
-            return (!called).then_some((SHAPES[4], closed(rest)?.0));
-        }
-        _ => return None,
-    };
-    let Some((count, commas)) = closed(&rest[1..]) else {
-        return Some((SHAPES[3], rest.len()));
-    };
-    let within = |mark| before.iter().any(|token| token.0 == mark);
-    let shape = if within(Token::OpenParenthesis) {
-        SHAPES[1]
-    } else if within(Token::OpenBrace) {
-        SHAPES[2]
-    } else if count == 2 || commas != usize::from(function != Keyword::Tolower) {
-        SHAPES[0]
-    } else {
-        return None;
-    };
-    Some((shape, 1 + count))
-}
-
-fn is_function(word: Keyword) -> bool {
-    matches!(
-        word,
-        Keyword::Split
-            | Keyword::Concat
-            | Keyword::Tolower
-            | Keyword::Add
-            | Keyword::Sub
-            | Keyword::Times
-            | Keyword::Per
-    )
-}
-
-/// How many tokens there are from an opening parenthesis, which stands first,
-/// to the one that closes it, and how many commas of its own it has between.
-fn closed(tokens: &[Placed]) -> Option<(usize, usize)> {
-    let (mut open, mut commas) = (0, 0);
-    for (at, (token, _, _)) in tokens.iter().enumerate() {
-        match token {
-            Token::OpenParenthesis => open += 1,
-            _ if open == 0 => return None,
-            Token::CloseParenthesis if open == 1 => return Some((at + 1, commas)),
-            Token::CloseParenthesis => open -= 1,
-            Token::Comma if open == 1 => commas += 1,
-            _ => {}
-        }
-    }
-    None
 }

@@ -3,7 +3,8 @@
 use crate::names::Keyword;
 use crate::rights::Right;
 use crate::syntax::{
-    Call, Command, Delegation, Expression, Foreach, Last, Operand, Operation, Program, Target,
+    Call, Command, Comparison, Delegation, Each, Expression, Last, Operand, Operation, Plain,
+    Program, Step, Target,
 };
 use crate::token::{Scanner, Token};
 
@@ -123,7 +124,8 @@ impl<'a> Reader<'a> {
                 Command::Append(variable, self.expression()?)
             }
             Keyword::Local => Command::Local(self.name()?, self.assigned()?),
-            Keyword::Foreach => Command::Foreach(self.foreach()?),
+            Keyword::Foreach => Command::Foreach(self.each(Keyword::Replacewith)?),
+            Keyword::Filtereach => Command::Filtereach(self.each(Keyword::With)?),
             Keyword::Delete => {
                 self.word(Keyword::Delegation)?;
                 Command::DeleteDelegation(self.delegation()?)
@@ -143,13 +145,13 @@ impl<'a> Reader<'a> {
         self.expression()
     }
 
-    /// `y in x replacewith expression`
-    fn foreach(&mut self) -> Option<Foreach<'a>> {
+    /// `y in x replacewith expression`, or with another word.
+    fn each(&mut self, word: Keyword) -> Option<Each<'a>> {
         let element = self.name()?;
         self.word(Keyword::In)?;
         let list = self.name()?;
-        self.word(Keyword::Replacewith)?;
-        Some(Foreach {
+        self.word(word)?;
+        Some(Each {
             element,
             list,
             expression: self.expression()?,
@@ -181,11 +183,52 @@ impl<'a> Reader<'a> {
     }
 
     fn expression(&mut self) -> Option<Expression<'a>> {
-        Some(match self.0.token()? {
-            Token::EmptyList => Expression::EmptyList,
-            Token::OpenBrace => Expression::Record(self.fields()?),
-            Token::Keyword(keyword) => Expression::Call(Box::new(self.call(keyword)?)),
-            first => Expression::Operand(self.operand(first)?),
+        match self.0.token()? {
+            Token::Keyword(Keyword::Let) => Some(Expression::Lets(self.lets()?)),
+            first => Some(Expression::Plain(self.plain(first)?)),
+        }
+    }
+
+    /// The rest of an expression that starts with `let`, by its steps. Of the
+    /// lets that are open each is in its first expression, and then its name
+    /// is kept for later, or in its second.
+    fn lets(&mut self) -> Option<Vec<Step<'a>>> {
+        let mut steps = Vec::new();
+        let mut open = vec![Some(self.let_name()?)];
+        loop {
+            match self.0.token()? {
+                Token::Keyword(Keyword::Let) => {
+                    open.push(Some(self.let_name()?));
+                    continue;
+                }
+                first => steps.push(Step::Evaluate(self.plain(first)?)),
+            }
+            while let Some(None) = open.last() {
+                open.pop();
+                steps.push(Step::Unbind);
+            }
+            let Some(innermost) = open.last_mut() else {
+                return Some(steps);
+            };
+            self.word(Keyword::In)?;
+            steps.extend(innermost.take().map(Step::Bind));
+        }
+    }
+
+    /// `x =`
+    fn let_name(&mut self) -> Option<&'a [u8]> {
+        let name = self.name()?;
+        self.the(Token::Equals)?;
+        Some(name)
+    }
+
+    /// An expression without lets, of which the first token has been taken.
+    fn plain(&mut self, first: Token<'a>) -> Option<Plain<'a>> {
+        Some(match first {
+            Token::EmptyList => Plain::EmptyList,
+            Token::OpenBrace => Plain::Record(self.fields()?),
+            Token::Keyword(keyword) => Plain::Call(Box::new(self.call(keyword)?)),
+            first => Plain::Operand(self.operand(first)?),
         })
     }
 
@@ -216,6 +259,8 @@ impl<'a> Reader<'a> {
             Keyword::Sub => self.prices(Operation::Sub)?,
             Keyword::Times => self.prices(Operation::Times)?,
             Keyword::Per => self.prices(Operation::Per)?,
+            Keyword::Equal => self.compared(Comparison::Equal)?,
+            Keyword::Notequal => self.compared(Comparison::Notequal)?,
             _ => return None,
         };
         self.the(Token::CloseParenthesis)?;
@@ -225,6 +270,11 @@ impl<'a> Reader<'a> {
     /// The two values of an operation on prices.
     fn prices(&mut self, operation: Operation) -> Option<Call<Operand<'a>>> {
         Some(Call::Prices(operation, self.value()?, self.next_value()?))
+    }
+
+    /// The two values that are compared.
+    fn compared(&mut self, comparison: Comparison) -> Option<Call<Operand<'a>>> {
+        Some(Call::Compare(comparison, self.value()?, self.next_value()?))
     }
 
     /// 01's value: x, x.y or a string.

@@ -1,12 +1,13 @@
 //! A program at work: the state's copy, the locals, and who sent the program.
 
 use crate::rights::{self, Assertion, Right, ADMIN};
-use crate::state::{State, Variables};
+use crate::state::{State, Variable, Variables, HEAVIEST};
 use crate::strings::{Maker, Strings};
 use crate::value::Value;
 
-/// Why a program is not completed.
-#[derive(Clone, Copy, PartialEq, Eq, Debug)]
+/// Why a program is not completed, in the order in which one goes before
+/// another.
+#[derive(Clone, Copy, PartialEq, Eq, PartialOrd, Ord, Debug)]
 pub enum Undone {
     Denied,
     Failed,
@@ -24,6 +25,10 @@ pub enum Place {
 pub struct Session<'a> {
     pub state: State<'a>,
     pub locals: Variables<'a>,
+    /// The names that live within an expression only: the y of a foreach or a
+    /// filtereach, and those of lets.
+    pub element: Option<Variable<'a>>,
+    pub bound: Variables<'a>,
     /// The sender's number.
     pub sender: u16,
     /// Makes strings that are no part of the state's text or of the program.
@@ -45,6 +50,8 @@ impl<'a> Session<'a> {
         Session {
             state,
             locals: Variables::default(),
+            element: None,
+            bound: Variables::default(),
             sender,
             maker: Maker::new(strings),
             known: Vec::new(),
@@ -65,7 +72,8 @@ impl<'a> Session<'a> {
         self.state.weight() + self.locals.weight()
     }
 
-    /// No name is shared and local at once.
+    /// Where the variable of this name is kept. No name is shared and local at
+    /// once.
     pub fn find(&self, name: &[u8]) -> Option<Place> {
         match self.state.variables.find(name) {
             Some(number) => Some(Place::Shared(number)),
@@ -80,8 +88,36 @@ impl<'a> Session<'a> {
         }
     }
 
+    /// What the name stands for; none where it is not defined. No name stands
+    /// for two things.
     pub fn read(&self, name: &[u8]) -> Option<&Value<'a>> {
-        self.find(name).map(|place| self.value(place))
+        match &self.element {
+            Some(element) if element.name == name => return Some(&element.value),
+            _ => {}
+        }
+        match self.bound.find(name) {
+            Some(number) => Some(&self.bound.get(number).value),
+            None => self.find(name).map(|place| self.value(place)),
+        }
+    }
+
+    pub fn is_defined(&self, name: &[u8]) -> bool {
+        self.read(name).is_some()
+    }
+
+    /// Binds the name of a let to what its first expression came to, unless
+    /// that is not done. FAILED where the name is defined; FULL where the names
+    /// that live would weigh too much.
+    pub fn bind(&mut self, name: &'a [u8], first: Result<Value<'a>, Undone>) -> Result<(), Undone> {
+        if first != Err(Undone::Denied) && self.is_defined(name) {
+            return Err(Undone::Failed);
+        }
+        let value = first?;
+        if self.bound.weight() + Variable::weighing(name, &value) > HEAVIEST {
+            return Err(Undone::Full);
+        }
+        self.bound.add(name, value);
+        Ok(())
     }
 
     pub fn store(&mut self, place: Place, value: Value<'a>) {

@@ -103,6 +103,13 @@ pub struct Variable<'a> {
     pub value: Value<'a>,
 }
 
+impl<'a> Variable<'a> {
+    /// What a variable of this name and value weighs.
+    pub fn weighing(name: &[u8], value: &Value<'a>) -> usize {
+        1 + name.len() + value.weight()
+    }
+}
+
 /// Variables, shared or local, in order of creation.
 #[derive(Clone, Default, Debug)]
 pub struct Variables<'a> {
@@ -139,9 +146,17 @@ impl<'a> Variables<'a> {
         }
         let number = self.count();
         self.numbers.insert(name, number);
-        self.weight += 1 + name.len() + value.weight();
+        self.weight += Variable::weighing(name, &value);
         self.entries.push(Variable { name, value });
         Some(number)
+    }
+
+    /// The newest goes.
+    pub fn remove_last(&mut self) {
+        if let Some(Variable { name, value }) = self.entries.pop() {
+            self.numbers.remove(name);
+            self.weight -= Variable::weighing(name, &value);
+        }
     }
 
     pub fn set(&mut self, number: u16, value: Value<'a>) {

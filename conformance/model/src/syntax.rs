@@ -27,15 +27,17 @@ pub enum Command<'a> {
     Set(&'a [u8], Expression<'a>),
     Append(&'a [u8], Expression<'a>),
     Local(&'a [u8], Expression<'a>),
-    Foreach(Foreach<'a>),
+    Foreach(Each<'a>),
+    Filtereach(Each<'a>),
     SetDelegation(Delegation<'a>),
     DeleteDelegation(Delegation<'a>),
     DefaultDelegator(&'a [u8]),
 }
 
-/// `foreach element in list replacewith expression`
+/// `foreach element in list replacewith expression`, or `filtereach element in
+/// list with expression`
 #[derive(Clone, PartialEq, Eq, Debug)]
-pub struct Foreach<'a> {
+pub struct Each<'a> {
     pub element: &'a [u8],
     pub list: &'a [u8],
     pub expression: Expression<'a>,
@@ -58,6 +60,24 @@ pub enum Target<'a> {
 
 #[derive(Clone, PartialEq, Eq, Debug)]
 pub enum Expression<'a> {
+    Plain(Plain<'a>),
+    Lets(Vec<Step<'a>>),
+}
+
+/// What evaluating an expression with lets in it does, in turn (02, M-106).
+/// `let x = e in f` is the steps of e, then x is bound to the value at hand,
+/// then come the steps of f, and x goes. Lets may be nested by the thousand, so
+/// they are kept as a row and not one inside the other.
+#[derive(Clone, PartialEq, Eq, Debug)]
+pub enum Step<'a> {
+    Evaluate(Plain<'a>),
+    Bind(&'a [u8]),
+    Unbind,
+}
+
+/// An expression without lets.
+#[derive(Clone, PartialEq, Eq, Debug)]
+pub enum Plain<'a> {
     Operand(Operand<'a>),
     EmptyList,
     /// Labels with operands, as written; a label may stand twice.
@@ -66,13 +86,22 @@ pub enum Expression<'a> {
     Call(Box<Call<Operand<'a>>>),
 }
 
-/// A function and what it is called with (001, String functions; 02, M-104).
+/// A function and what it is called with (001, String functions and Filtering
+/// lists; 02, M-104).
 #[derive(Clone, Copy, PartialEq, Eq, Debug)]
 pub enum Call<A> {
     Split(A, A),
     Concat(A, A),
     Tolower(A),
     Prices(Operation, A, A),
+    Compare(Comparison, A, A),
+}
+
+/// What is asked of two values (02, M-106).
+#[derive(Clone, Copy, PartialEq, Eq, Debug)]
+pub enum Comparison {
+    Equal,
+    Notequal,
 }
 
 /// What is done with two prices (02, M-104).
@@ -89,7 +118,8 @@ impl<A> Call<A> {
         let (first, second) = match self {
             Call::Split(first, second)
             | Call::Concat(first, second)
-            | Call::Prices(_, first, second) => (first, Some(second)),
+            | Call::Prices(_, first, second)
+            | Call::Compare(_, first, second) => (first, Some(second)),
             Call::Tolower(only) => (only, None),
         };
         iter::once(first).chain(second)
@@ -104,6 +134,9 @@ impl<A> Call<A> {
             Call::Tolower(only) => Call::Tolower(change(only)?),
             Call::Prices(operation, first, second) => {
                 Call::Prices(*operation, change(first)?, change(second)?)
+            }
+            Call::Compare(comparison, first, second) => {
+                Call::Compare(*comparison, change(first)?, change(second)?)
             }
         })
     }

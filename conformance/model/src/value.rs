@@ -5,7 +5,7 @@
 
 use std::rc::Rc;
 
-#[derive(Clone, Copy, PartialEq, Eq, Debug)]
+#[derive(Clone, Copy, PartialEq, Eq, PartialOrd, Ord, Debug)]
 pub struct Field<'a> {
     pub label: &'a [u8],
     pub text: &'a [u8],
@@ -39,6 +39,18 @@ impl<'a> Record<'a> {
             .find(|field| field.label == label)
             .map(|field| field.text)
     }
+
+    /// Whether both have the same labels with the same texts, in whatever order
+    /// written (02, M-106).
+    pub fn has_the_fields_of(&self, other: &Record<'a>) -> bool {
+        let sorted = |record: &Record<'a>| {
+            let mut fields = record.fields.to_vec();
+            fields.sort_unstable();
+            fields
+        };
+        self.fields == other.fields
+            || self.fields.len() == other.fields.len() && sorted(self) == sorted(other)
+    }
 }
 
 /// What a list may hold: a string or a record.
@@ -60,6 +72,16 @@ impl<'a> Item<'a> {
         match self {
             Item::Text(text) => Some(text),
             Item::Record(_) => None,
+        }
+    }
+
+    /// Whether both are the same string, or records with the same fields. A
+    /// string and a record are different.
+    pub fn equals(&self, other: &Item<'a>) -> bool {
+        match (self, other) {
+            (Item::Text(text), Item::Text(other)) => text == other,
+            (Item::Record(record), Item::Record(other)) => record.has_the_fields_of(other),
+            _ => false,
         }
     }
 

@@ -2,11 +2,10 @@
 
 mod common;
 
-use common::{
-    buffer, returning, shortest_names, statuses, Server, DIRT, FORMER_FRESH, FORMER_SESSION, FRESH,
-};
+use common::{buffer, returning, statuses, Server, DIRT, FORMER_FRESH, FORMER_SESSION, FRESH};
 use model::calls::{bring, Refusal};
 use model::engine::End;
+use model::replay::shortest_names;
 use model::text::{decode, decode_former, BUFFER};
 
 /// The session, brought over.

@@ -152,8 +152,6 @@ fn what_does_not_parse() {
         "Tolower(x)",
         "toLower(x)",
         "tolowers(x)",
-        "equal(x,y)",
-        "notequal(x,y)",
         "concat(x,y) concat(x,y)",
         "concat(x,y)x",
     ] {

@@ -4,9 +4,13 @@ mod common;
 
 use common::{program, Server};
 use model::engine::End;
+use model::observe::comparisons::COMPARISONS;
+use model::observe::filters::FILTERS;
+use model::observe::lets::{BOUND, ELEMENTS, LEFT, UNDONE};
 use model::observe::older::{older, Met, OLDER};
 use model::observe::prices::{FAILURES, ROUNDINGS};
-use model::observe::{self, FUNCTIONS, MISHAPS, PLACES, SHAPES};
+use model::observe::shapes::SHAPES;
+use model::observe::{self, FUNCTIONS, MISHAPS, PLACES};
 
 /// Bob may read the list l and the record r, and not the string s.
 fn server() -> Server {
@@ -20,7 +24,7 @@ fn server() -> Server {
 }
 
 fn told(lines: &[&str]) -> Vec<String> {
-    observe::calls(&server().state, program("bob", "b", lines).as_bytes())
+    observe::expressions(&server().state, program("bob", "b", lines).as_bytes())
 }
 
 #[test]
@@ -32,6 +36,7 @@ fn calls_that_are_done() {
             format!("append to l with {call}"),
             format!("local other = {call}"),
             format!("foreach y in l replacewith {call}"),
+            format!("filtereach y in l with {call}"),
             format!("return {call}"),
         ];
         let lines: Vec<&str> = lines.iter().map(String::as_str).collect();
@@ -39,7 +44,9 @@ fn calls_that_are_done() {
             .iter()
             .map(|place| format!("{function} in {place}"))
             .collect();
-        assert_eq!(told(&lines), expected);
+        let mut told = told(&lines);
+        told.retain(|words| !FILTERS.contains(&words.as_str()));
+        assert_eq!(told, expected);
     }
 }
 
@@ -86,7 +93,10 @@ fn other_ends() {
     ];
     assert_eq!(told(&lines), [""; 0]);
     let text = program("bob", "wrong", &["return tolower(s)"]);
-    assert_eq!(observe::calls(&server().state, text.as_bytes()), [""; 0]);
+    assert_eq!(
+        observe::expressions(&server().state, text.as_bytes()),
+        [""; 0]
+    );
 }
 
 #[test]
@@ -112,12 +122,221 @@ fn calls_that_do_not_parse() {
         ("(add(r.a,r.a))", Some(SHAPES[4])),
         ("concat(r.a,,\"x\")", Some(SHAPES[0])),
         ("\"", None),
+        ("equal(r.a)", Some(SHAPES[0])),
+        ("notequal(r,equal(r,r))", Some(SHAPES[1])),
+        ("{a=equal(r,r)}", Some(SHAPES[2])),
+        // A call behind another that is closed.
+        ("let a=concat(r.a,r.a) in tolower()", Some(SHAPES[0])),
+        ("concat(let a=\"x\" in a,\"b\")", Some(SHAPES[5])),
+        ("equal(\"b\",let a={x=\"\"} in a.x)", Some(SHAPES[5])),
+        ("{f=let a=\"x\" in concat(a,a),g=\"\"}", Some(SHAPES[6])),
+        ("(let a=\"x\" in a)", Some(SHAPES[4])),
+        ("let a=\"x\"", Some(SHAPES[7])),
+        ("let a=let b=\"x\" in b", Some(SHAPES[7])),
+        ("let a=\"x\" in", Some(SHAPES[8])),
+        ("let a.b=\"x\" in \"y\"", Some(SHAPES[9])),
+        ("let in=\"x\" in \"y\"", Some(SHAPES[9])),
+        ("let a=\"x\" in \"y\" in \"z\"", None),
+        ("let a=[\"x\"] in \"y\"", None),
     ] {
         let expected: Vec<&str> = shape.into_iter().collect();
         assert_eq!(told(&[&format!("return {written}")]), expected, "{written}");
         let lines = [&format!("set x = {written}"), "return \"\""];
         assert_eq!(told(&lines), expected, "{written}");
     }
+}
+
+#[test]
+fn commands_over_lists_that_do_not_parse() {
+    for (line, shape) in [
+        ("filtereach y in l replacewith y", Some(SHAPES[10])),
+        ("foreach y in l with y", Some(SHAPES[11])),
+        ("filtereach y in l y", None),
+        ("append to l replacewith y", None),
+    ] {
+        let expected: Vec<&str> = shape.into_iter().collect();
+        assert_eq!(told(&[line, "return \"\""]), expected, "{line}");
+    }
+}
+
+#[test]
+fn values_that_are_compared() {
+    for (call, kind) in [
+        ("equal(\"a\",\"a\")", 0),
+        ("notequal(\"a\",\"b\")", 1),
+        ("equal(r,r)", 2),
+        ("equal(r,q)", 3),
+        ("notequal(q,t)", 4),
+        ("equal(t,u)", 5),
+        ("equal(u,r)", 5),
+        ("equal(r,v)", 6),
+        ("notequal(v,r)", 6),
+        ("equal(v,\"1\")", 7),
+        ("equal(\"1\",r)", 7),
+    ] {
+        let function = call.split('(').next().unwrap();
+        let lines = [
+            "local q = {b=\"2\",a=\"1\"}",
+            "local t = {b=\"1\",a=\"1\"}",
+            "local u = {b=\"1\",c=\"1\"}",
+            "local v = {a=\"1\"}",
+            &format!("return {call}"),
+        ];
+        let expected = [
+            format!("{function} in return"),
+            COMPARISONS[kind].to_string(),
+        ];
+        assert_eq!(told(&lines), expected, "{call}");
+    }
+    for (call, mishap) in [
+        ("equal(r,s)", MISHAPS[0]),
+        ("equal(nosuch,r)", MISHAPS[1]),
+        ("notequal(r,r.nosuch)", MISHAPS[2]),
+        ("equal(r,l)", MISHAPS[3]),
+        (&format!("equal(\"{}\",r)", "a".repeat(8_193)), MISHAPS[6]),
+    ] {
+        assert_eq!(told(&[&format!("return {call}")]), [mishap], "{call}");
+    }
+}
+
+/// The list l has the element "x" and then {a="y"}.
+#[test]
+fn filters() {
+    let heavy = format!("filtereach y in l with \"{}\"", "b".repeat(8_193));
+    for (line, kinds) in [
+        ("filtereach y in l with \"\"", &[1][..]),
+        ("filtereach y in l with r.a", &[4, 3]),
+        ("filtereach y in l with r", &[5, 3]),
+        ("filtereach y in l with []", &[6, 3]),
+        ("filtereach y in s with \"\"", &[7]),
+        ("filtereach y in r with \"\"", &[7]),
+        ("filtereach y in l with s", &[8]),
+        ("filtereach y in nosuch with \"\"", &[9]),
+        ("filtereach y in nosuch with s", &[9, 14]),
+        ("filtereach r in l with \"\"", &[11]),
+        ("filtereach r in l with s", &[11, 14]),
+        ("filtereach y in l with y.a", &[12]),
+        (&heavy, &[13]),
+    ] {
+        let expected: Vec<&str> = kinds.iter().map(|&kind| FILTERS[kind]).collect();
+        assert_eq!(told(&[line, "return \"\""]), expected, "{line}");
+    }
+    let local = |value, line| told(&[&format!("local e = {value}"), line, "return \"\""]);
+    let line = "filtereach y in e with s";
+    assert_eq!(local("[]", line), [FILTERS[0]]);
+    assert_eq!(local("\"\"", line), [FILTERS[10], FILTERS[14]]);
+    let line = "filtereach y in l with equal(y,\"x\")";
+    let expected = ["equal in filtereach", COMPARISONS[0], COMPARISONS[7]];
+    let expected = [&expected[..], &[FILTERS[4], FILTERS[2]]].concat();
+    assert_eq!(told(&[line, "return \"\""]), expected);
+}
+
+/// What is told of a let that bob returns; he has a local name m.
+fn told_of_let(expression: &str) -> Vec<String> {
+    told(&["local m = \"\"", &format!("return {expression}")])
+}
+
+fn sorted(words: &[&str]) -> Vec<String> {
+    let mut words: Vec<String> = words.iter().map(|words| words.to_string()).collect();
+    words.sort();
+    words
+}
+
+#[test]
+fn lets_that_are_done() {
+    let done = "let in return";
+    for (expression, more) in [
+        ("let a=\"\" in a", &[BOUND[0]][..]),
+        ("let a=r in a", &[BOUND[1]]),
+        ("let a=[] in a", &[BOUND[2]]),
+        ("let a=let b=r in [] in a", &[BOUND[1], BOUND[2], BOUND[5]]),
+        ("let a=r in let b=[] in a", &[BOUND[1], BOUND[2], BOUND[6]]),
+        ("let a=let a=r in a in a", &[BOUND[1], BOUND[3], BOUND[5]]),
+        ("let a=r in tolower(a.a)", &[BOUND[1], "tolower in let"]),
+    ] {
+        let expected = sorted(&[&[done], more].concat());
+        assert_eq!(told_of_let(expression), expected, "{expression}");
+    }
+    for (line, place) in [
+        ("set new = let new=\"\" in new", "let in set"),
+        ("local new = let new=\"\" in new", "let in local"),
+    ] {
+        let expected = sorted(&[place, BOUND[0], BOUND[4]]);
+        assert_eq!(told(&[line, "return \"\""]), expected, "{line}");
+    }
+}
+
+#[test]
+fn lets_that_end_the_program() {
+    let long = |length: usize| "a".repeat(length);
+    let (full, most) = (long(8_193), long(8_191));
+    for (expression, expected) in [
+        ("let a=s in nosuch", &[UNDONE[0]][..]),
+        ("let a=nosuch in r", &[UNDONE[1]]),
+        ("let a=nosuch in s", &[UNDONE[1], UNDONE[14]]),
+        (&format!("let a=\"{full}\" in r"), &[UNDONE[2]]),
+        ("let a=\"\" in s", &[BOUND[0], UNDONE[3]]),
+        ("let a=\"\" in nosuch", &[BOUND[0], UNDONE[4]]),
+        (&format!("let a=r in \"{full}\""), &[BOUND[1], UNDONE[5]]),
+        ("let r=\"\" in r", &[UNDONE[6]]),
+        ("let r=\"\" in s", &[UNDONE[6], UNDONE[14]]),
+        ("let s=\"\" in r", &[UNDONE[7]]),
+        ("let m=\"\" in r", &[UNDONE[8]]),
+        ("let a=r in let a=r in a", &[BOUND[1], UNDONE[9]]),
+        (&format!("let m=\"{full}\" in r"), &[UNDONE[2], UNDONE[11]]),
+        (&format!("let a=\"{most}\" in r"), &[UNDONE[12]]),
+        (
+            &format!("let a=r in let b=\"{}\" in r", long(8_190)),
+            &[BOUND[1], UNDONE[13]],
+        ),
+        // The whole let is the first expression of another.
+        ("let a=let b=nosuch in r in s", &[UNDONE[1], UNDONE[14]]),
+        (
+            "let a=let b=\"\" in s in r",
+            &[BOUND[0], BOUND[5], UNDONE[3]],
+        ),
+        (
+            &format!("let r=let b=\"{most}\" in r in r"),
+            &[UNDONE[12], UNDONE[11]],
+        ),
+    ] {
+        assert_eq!(told_of_let(expression), sorted(expected), "{expression}");
+    }
+    let line = format!("local new = let a=r in \"{most}\"");
+    assert_eq!(told(&[&line, "return \"\""]), sorted(&[BOUND[1], LEFT]));
+    // What is not evaluated, or is not the reason.
+    for line in [
+        "set s = let a=nosuch in a",
+        "local r = let a=nosuch in a",
+        "append to nosuch with let a=nosuch in a",
+        "foreach r in l replacewith let a=nosuch in a",
+    ] {
+        assert_eq!(told(&[line, "return \"\""]), [""; 0], "{line}");
+    }
+}
+
+/// The list l has the element "x" and then {a="y"}.
+#[test]
+fn lets_for_elements() {
+    let wide = "a".repeat(8_192);
+    for (expression, kinds) in [
+        ("let a=y in \"\"", &[][..]),
+        ("let a=y.a in s", &[0]),
+        (&format!("let a=concat(y,\"{wide}\") in \"\""), &[3]),
+        ("let a=y in tolower(a)", &[2]),
+    ] {
+        for command in ["foreach y in l replacewith", "filtereach y in l with"] {
+            let place = command.split(' ').next().unwrap();
+            let mut told = told(&[&format!("{command} {expression}"), "return \"\""]);
+            told.retain(|words| words.starts_with(&format!("{place}: ")));
+            let expected = kinds
+                .iter()
+                .map(|&kind| format!("{place}: {}", ELEMENTS[kind]));
+            assert_eq!(told, expected.collect::<Vec<String>>(), "{expression}");
+        }
+    }
+    let line = "foreach y in l replacewith let y=\"\" in y";
+    assert_eq!(told(&[line, "return \"\""]), [UNDONE[10]]);
 }
 
 /// A call of a function on prices that is done is told with how its result

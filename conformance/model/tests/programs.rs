@@ -6,7 +6,7 @@ use common::{program, returning, Server, KEYWORDS, NEWER_KEYWORDS};
 use model::engine::End;
 use model::parse::parse;
 use model::rights::Right;
-use model::syntax::{Command, Delegation, Expression, Foreach, Last, Operand, Target};
+use model::syntax::{Command, Delegation, Each, Expression, Last, Operand, Plain, Target};
 
 const FIRST: &str = "as principal admin password \"desk\" do\n";
 
@@ -33,7 +33,7 @@ fn same(line: &str, expected: Command) {
 
 #[test]
 fn every_command() {
-    let x = || Expression::Operand(Operand::Variable(b"x"));
+    let x = || Expression::Plain(Plain::Operand(Operand::Variable(b"x")));
     let delegation = |target, right| Delegation {
         target,
         from: b"q",
@@ -50,7 +50,15 @@ fn every_command() {
     same("local v = x", Command::Local(b"v", x()));
     same(
         "foreach y in v replacewith x",
-        Command::Foreach(Foreach {
+        Command::Foreach(Each {
+            element: b"y",
+            list: b"v",
+            expression: x(),
+        }),
+    );
+    same(
+        "filtereach y in v with x",
+        Command::Filtereach(Each {
             element: b"y",
             list: b"v",
             expression: x(),
@@ -80,21 +88,21 @@ fn every_expression() {
     let text = Operand::Text(b"a _,;.?!-9");
     let field = Operand::Field(b"x", b"y");
     for (written, expected) in [
-        ("x", Expression::Operand(Operand::Variable(b"x"))),
-        ("x.y", Expression::Operand(field)),
-        ("x . y", Expression::Operand(field)),
-        ("\"a _,;.?!-9\"", Expression::Operand(text)),
-        ("\"\"", Expression::Operand(Operand::Text(b""))),
-        ("[]", Expression::EmptyList),
-        ("{a=x.y}", Expression::Record(vec![(b"a", field)])),
+        ("x", Plain::Operand(Operand::Variable(b"x"))),
+        ("x.y", Plain::Operand(field)),
+        ("x . y", Plain::Operand(field)),
+        ("\"a _,;.?!-9\"", Plain::Operand(text)),
+        ("\"\"", Plain::Operand(Operand::Text(b""))),
+        ("[]", Plain::EmptyList),
+        ("{a=x.y}", Plain::Record(vec![(b"a", field)])),
         (
             "{ a = \"a _,;.?!-9\" , a=x . y }",
-            Expression::Record(vec![(b"a", text), (b"a", field)]),
+            Plain::Record(vec![(b"a", text), (b"a", field)]),
         ),
     ] {
         let bytes = program("p", "", &[&format!("return {written}")]);
         let parsed = parse(bytes.as_bytes()).expect(written);
-        assert_eq!(parsed.last, Last::Return(expected));
+        assert_eq!(parsed.last, Last::Return(Expression::Plain(expected)));
         assert_eq!((parsed.principal, parsed.password), (&b"p"[..], &b""[..]));
         assert!(parsed.commands.is_empty());
     }
@@ -156,8 +164,7 @@ fn wrong_expressions() {
         "x=y",
         "x?",
         "x\ty",
-        "equal(x,y)",
-        "let x = y in x",
+        "let x = y",
         "\u{e9}",
         "\"\u{e9}\"",
         "x\0",
@@ -226,7 +233,7 @@ fn wrong_commands() {
         "delete delegation v q read -> all",
         "delete v q read -> p",
         "delete delegation v q read -> p q",
-        "filtereach y in x with y",
+        "filtereach y in x replacewith y",
         "exit",
         "return x",
         "as principal p password \"s\" do",

@@ -11,10 +11,14 @@ use common::{buffer, program, Server, DIRT, FRESH, SESSION};
 use model::calls;
 use model::engine::{self, End};
 use model::lines::Lines;
+use model::observe::comparisons::COMPARISONS;
+use model::observe::filters::FILTERS;
+use model::observe::lets::{BOUND, ELEMENTS, LEFT, UNDONE};
 use model::observe::logins::{logins, PARSED, UNPARSED};
 use model::observe::older::{older, Met, OLDER};
 use model::observe::prices::{FAILURES, ROUNDINGS};
-use model::observe::{self, COUNTS, FUNCTIONS, MISHAPS, PLACES, SHAPES};
+use model::observe::shapes::SHAPES;
+use model::observe::{self, COUNTS, FUNCTIONS, MISHAPS, PLACES};
 use model::strings::Strings;
 use model::text::{decode, encode, BUFFER};
 
@@ -38,6 +42,7 @@ fn peopled(weight: usize) -> Server {
         &heavy,
         "set x = {a=\"1\",b=\"-0.05\"}",
         "set p = \"12.50\"",
+        "set q = {b=\"-0.05\",a=\"1\"}",
         "set delegation u admin read -> anyone",
         "set delegation u admin delegate -> bob",
         "set delegation v admin delegate -> anyone",
@@ -156,15 +161,24 @@ fn login_decides(told: &str, end: End) {
     }
 }
 
-/// How often each form of a call, each mishap, each sort of login, each move of
-/// a count and each meeting with older names came: every one must. All names
-/// have a password here.
+/// How often each form of a call and of a let, each mishap, each sort of login,
+/// each move of a count and each meeting with older names came: every one must.
+/// All names have a password here.
 fn all_came(seen: &BTreeMap<String, usize>) {
-    let forms = FUNCTIONS.iter().flat_map(|function| {
+    let within = PLACES.iter().chain(&["let"]);
+    let calls = FUNCTIONS.iter().flat_map(|function| {
         let told = move |place: &&str| format!("{function} in {place}");
-        PLACES.iter().map(told)
+        within.clone().map(told)
     });
-    let others = MISHAPS.iter().chain(&SHAPES).chain(&COUNTS);
+    let lets = PLACES.iter().map(|place| format!("let in {place}"));
+    let elements = ["foreach", "filtereach"].into_iter().flat_map(|place| {
+        let told = move |words: &&str| format!("{place}: {words}");
+        ELEMENTS.iter().map(told)
+    });
+    let forms = calls.chain(lets).chain(elements);
+    let others = MISHAPS.iter().chain(&SHAPES).chain(&COUNTS).chain([&LEFT]);
+    let others = others.chain(&BOUND).chain(&UNDONE);
+    let others = others.chain(&FILTERS).chain(&COMPARISONS);
     let others = others.chain(&ROUNDINGS).chain(&FAILURES).chain(&OLDER);
     let others = others.chain(&PARSED[..3]).chain(&UNPARSED[..3]);
     for key in forms.chain(others.map(|key| key.to_string())) {
@@ -180,7 +194,7 @@ fn whole_programs() {
     let mut ends = [0; 5];
     let mut seen = BTreeMap::new();
     let (mut yes, mut no) = (0, 0);
-    for _ in 0..400 {
+    for _ in 0..700 {
         let weight = [70, HEAVY][numbers.below(2)];
         let text = recounted(&mut numbers, &peopled(weight).text());
         let mut server = Server::of_text(&with_older_names(&mut numbers, &text));
@@ -188,7 +202,7 @@ fn whole_programs() {
             let program = any_program(&mut numbers);
             let before = server.state.clone();
             weight_is_kept(&before, &program);
-            for told in observe::calls(&server.state, program.as_bytes()) {
+            for told in observe::expressions(&server.state, program.as_bytes()) {
                 *seen.entry(told).or_default() += 1;
             }
             let (end, output) = server.send(program.as_bytes());

@@ -4,9 +4,10 @@
 
 mod common;
 
-use common::{buffer, sheet_line, shortest_names, Server, DIRT, FORMER_SESSION, SESSION};
+use common::{buffer, sheet_line, Server, DIRT, FORMER_SESSION, SESSION};
 use model::calls::{bring, sheet, Listed, Refusal};
 use model::engine::End;
+use model::replay::shortest_names;
 use model::text::{decode, decode_former, BUFFER};
 
 /// Admin's rights and anyone's lack of them, which most sheets begin with.

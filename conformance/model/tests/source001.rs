@@ -3,7 +3,7 @@
 
 mod common;
 
-use common::{program, returning, statuses, Server};
+use common::{returning, statuses, Server};
 use model::engine::End;
 
 fn server() -> Server {
@@ -270,15 +270,53 @@ fn string_functions() {
 }
 
 #[test]
-fn other_optional_features_do_not_parse() {
-    for line in [
-        "filtereach rec in records with equal(rec.date,\"1-1-90\")",
-        "set y = equal(x,x)",
-        "set y = notequal(x,x)",
-        "set y = let z = concat(x.f1, \" \") in concat(z, x.f2)",
+fn filtering_lists() {
+    let mut server = server();
+    let (_, text) = server.send(
+        b"as principal admin password \"admin\" do
+    set records = []
+    append to records with { name = \"mike\", date = \"1-1-90\" }
+    append to records with { name = \"sandy\", date = \"1-1-90\" }
+    append to records with { name = \"dave\", date = \"1-1-85\" }
+    filtereach rec in records with equal(rec.date,\"1-1-90\")
+    return records
+***
+",
+    );
+    // 01 prints the fields in the order in which they are written.
+    let value =
+        "[{\"name\":\"mike\",\"date\":\"1-1-90\"},{\"name\":\"sandy\",\"date\":\"1-1-90\"}]";
+    let done = ["SET", "APPEND", "APPEND", "APPEND", "FILTEREACH"];
+    assert_eq!(text, statuses(&done) + &returning(value));
+    for (line, expected) in [
+        ("filtereach rec in nosuch with \"\"", End::Failed),
+        ("filtereach records in records with \"\"", End::Failed),
+        ("set x = equal(records,\"\")", End::Failed),
+        ("set x = notequal(\"\",records)", End::Failed),
+        ("set x = equal(\"\",\"\")", End::Returned),
     ] {
-        let text = program("admin", "admin", &["set x = \"hello\"", line, "return x"]);
-        let (end, _) = server().send(text.as_bytes());
-        assert_eq!(end, End::Failed);
+        let (end, _) = admin(&mut server, &[line, "return \"\""]);
+        assert_eq!(end, expected, "{line}");
+    }
+}
+
+#[test]
+fn recursive_expressions() {
+    let mut server = server();
+    let (_, text) = server.send(
+        b"as principal admin password \"admin\" do
+  set x = { f1 = \"hello\", f2 = \"there\" }
+  set y = let z = concat(x.f1, \" \") in concat(z, x.f2)
+  return y
+***
+",
+    );
+    assert_eq!(
+        text,
+        statuses(&["SET", "SET"]) + &returning("\"hello there\"")
+    );
+    for line in ["return z", "return let x = \"\" in \"\""] {
+        let (end, _) = admin(&mut server, &[line]);
+        assert_eq!(end, End::Failed, "{line}");
     }
 }

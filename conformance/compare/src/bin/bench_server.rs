@@ -12,11 +12,11 @@ use std::time::Duration;
 
 use compare::former::{former, padded, text};
 use compare::page;
-use compare::plans::shortest_names;
 use compare::server;
 use compare::timing::{time, Line};
 use model::calls;
 use model::parse::LONGEST_PROGRAM;
+use model::replay::shortest_names;
 use model::text::BUFFER;
 
 struct Buffers {
@@ -229,6 +229,90 @@ fn prices() -> Vec<Line> {
     lines
 }
 
+/// A state at the weight limit whose list l has as many elements as there can be: empty strings.
+fn longest_list() -> (Vec<u8>, usize) {
+    let count = 8_192 - 28 - 2;
+    let state = padded(format!("O\nP\tadmin\tdesk\t0\nN\tanyone\t0\nD\tanyone\nV\tl\tL\n{}", "S\t\n".repeat(count)).as_bytes());
+    assert_eq!(model::text::decode(&state).expect("well formed").0.weight(), 8_192);
+    (state, count)
+}
+
+/// What foreach and filtereach cost over the longest list, without a let and with one; the first is the plainest foreach and the second has a let.
+fn over_lists() -> Vec<Line> {
+    let (state, count) = longest_list();
+    let commands = [
+        "foreach e in l replacewith e",
+        "foreach e in l replacewith let z=e in z",
+        "filtereach e in l with e",
+        "filtereach e in l with \"0\"",
+        "filtereach e in l with equal(e,\"\")",
+        "filtereach e in l with let z=e in equal(z,\"\")",
+    ];
+    let line = |command: &&str| {
+        let text = program("admin", "desk", &[command.to_string(), "return \"\"".to_string()]);
+        run_line(&format!("list of {count}: `{command}`"), &state, &text)
+    };
+    let mut lines: Vec<Line> = commands.iter().map(line).collect();
+    let text = program("admin", "desk", &["filtereach e in list with equal(e.key,\"F00\")".to_string(), "return \"\"".to_string()]);
+    lines.push(run_line("state at the weight limit: filtereach over its 70 records", &heavy(), &text));
+    lines
+}
+
+/// A foreach whose expression has a hundred terms that the sender may read, by a chain of 61 steps, and at last one that it may not, over a list of a
+/// thousand elements none of which comes that far: each has to be tried, since one that came there would be DENIED.
+fn barred() -> Line {
+    let principals: String = (0..60).map(|at| format!("P\tp{at}\t\t0\n")).collect();
+    let from = |at: usize| if at == 0 { "admin".to_string() } else { format!("p{}", at - 1) };
+    let chain: String = (0..60).map(|at| format!("A\ta\t{}\tr\tp{at}\n", from(at))).collect();
+    let state = padded(
+        format!(
+            "O\nP\tadmin\tdesk\t0\nN\tanyone\t0\nP\trosa\tr1\t0\n{principals}D\tanyone\nV\ta\tS\t\nV\tsecret\tS\t\nV\tl\tL\n{}\
+             {chain}A\ta\tp59\tr\trosa\nA\tl\tadmin\tr\trosa\nA\tl\tadmin\tw\trosa\n",
+            "S\t\n".repeat(1_000)
+        )
+        .as_bytes(),
+    );
+    let lets: String = (0..100).map(|at| format!("let z{at}=a in ")).collect();
+    let text = program("rosa", "r1", &[format!("foreach e in l replacewith {lets}let w=e.k in secret"), "return \"\"".to_string()]);
+    run_line("list of 1000: a foreach with 100 lets, FAILED before what may not be read", &state, &text)
+}
+
+/// Programs of one expression that is as many lets as fit: each in the second expression of the one before it, with a name of its own, and each in the
+/// first expression of the one before it.
+fn lets() -> Vec<Line> {
+    let fresh = server_after(&[]);
+    let living: String = shortest_names(1_365).iter().map(|name| format!("let {name}=\"\"in ")).collect();
+    let deep = 1_630;
+    [("1365 lets, all names living", living + "\"\""), ("1630 lets, each in the first of another", format!("{}\"\"{}", "let a=".repeat(deep), "in\"\"".repeat(deep)))]
+        .into_iter()
+        .map(|(name, expression)| {
+            let text = program("admin", "desk", &[format!("return {expression}")]);
+            assert!(text.len() <= LONGEST_PROGRAM && text.len() > 16_350, "a program of {} bytes", text.len());
+            run_line(name, &fresh, &text)
+        })
+        .collect()
+}
+
+/// Two records x and y of so many fields with labels of two letters and empty texts, y with the fields of x in the opposite order.
+fn records(count: usize) -> Vec<u8> {
+    let labels = shortest_names(52 + count).split_off(52);
+    let record = |labels: &[String]| labels.iter().map(|label| format!("F\t{label}\t\n")).collect::<String>();
+    let turned: Vec<String> = labels.iter().rev().cloned().collect();
+    let variables: String = [("x", &labels), ("y", &turned)].iter().map(|(name, labels)| format!("V\t{name}\tR\n{}", record(labels))).collect();
+    let state = padded(format!("O\nP\tadmin\tdesk\t0\nN\tanyone\t0\nD\tanyone\n{variables}").as_bytes());
+    assert!(model::text::decode(&state).is_some(), "two records of {count} fields");
+    state
+}
+
+/// What comparing two records costs: as many fields as fit, written alike and in the opposite order, and half as many.
+fn comparisons() -> Vec<Line> {
+    let line = |count: usize, call: &str, what: &str| {
+        let text = program("admin", "desk", &[format!("return {call}")]);
+        run_line(&format!("two records of {count} fields, {what}: `{call}`"), &records(count), &text)
+    };
+    vec![line(1_360, "equal(x,x)", "written alike"), line(680, "equal(x,y)", "in the opposite order"), line(1_360, "equal(x,y)", "in the opposite order")]
+}
+
 /// What it costs to bring states over: the session's, the venue's, and one that then stands at the weight limit.
 fn bringing() -> Vec<Line> {
     let (fresh, programs) = session();
@@ -333,6 +417,13 @@ fn sheets() -> Vec<SheetLine> {
     ]
 }
 
+/// How foreach with a let stands to the plainest foreach.
+fn relation_of_let(lines: &[Line]) -> String {
+    let (plain, with) = (&lines[0], &lines[1]);
+    let times = with.proved.as_secs_f64() / plain.proved.as_secs_f64();
+    format!("A foreach with a let takes {times:.2} times one without.")
+}
+
 /// How the line of a function stands to that of the plain `set`, which is the first.
 fn relation(name: &str, lines: &[Line], at: usize) -> String {
     let (plain, called) = (&lines[0], &lines[at]);
@@ -352,11 +443,11 @@ fn table(lines: &[Line], clear: Duration) -> String {
 
 /// The ratios as bars, on a logarithmic scale from 1/16 to 16.
 fn plot(lines: &[Line]) -> String {
-    let (left, width, step) = (330.0, 420.0, 22.0);
+    let (left, width, step) = (450.0, 420.0, 22.0);
     let height = step * (lines.len() as f64 + 2.0);
     let place = |ratio: f64| left + width * ((ratio.log2() + 4.0) / 8.0).clamp(0.0, 1.0);
     let mut text = format!(
-        "<svg xmlns=\"http://www.w3.org/2000/svg\" width=\"800\" height=\"{height}\" font-family=\"sans-serif\" font-size=\"12\">\n\
+        "<svg xmlns=\"http://www.w3.org/2000/svg\" width=\"920\" height=\"{height}\" font-family=\"sans-serif\" font-size=\"12\">\n\
          <rect width=\"100%\" height=\"100%\" fill=\"white\"/>\n"
     );
     for power in [-4, -2, 0, 2, 4] {
@@ -381,8 +472,11 @@ fn main() {
     let mut lines = measured();
     let small = lines[0].proved.as_secs_f64() / clear.as_secs_f64();
     let (functions, prices) = (functions(), prices());
-    let relation = format!("{} {}", relation("concat", &functions, 1), relation("times", &prices, 3));
-    lines.extend(functions.into_iter().chain(prices));
+    let over_lists = over_lists();
+    let relation = format!("{} {} {}", relation("concat", &functions, 1), relation("times", &prices, 3), relation_of_let(&over_lists));
+    lines.extend(functions.into_iter().chain(prices).chain(over_lists));
+    lines.push(barred());
+    lines.extend(lets().into_iter().chain(comparisons()));
     lines.extend(bringing());
     let sheets = sheets();
     let relations: String = sheets.iter().map(|sheet| format!("- {}\n", sheet.relation())).collect();

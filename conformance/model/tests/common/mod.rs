@@ -6,9 +6,8 @@ pub mod generator;
 
 use model::calls::{self, Listed, Refusal, Report};
 use model::engine::End;
-use model::names::keyword;
 use model::parse::parse;
-use model::syntax::{Call, Command, Expression, Foreach, Last, Operand};
+use model::syntax::{Call, Command, Each, Expression, Last, Operand, Plain};
 use model::text::{decode, BUFFER};
 
 /// What a byte of a lent buffer is before the call, where it does not matter.
@@ -52,17 +51,18 @@ pub fn program(name: &str, password: &str, lines: &[&str]) -> String {
 /// That a call, so written, is read as this one wherever an expression may
 /// stand.
 pub fn is_read(written: &str, expected: Call<Operand>) {
-    let call = || Expression::Call(Box::new(expected));
+    let call = || Expression::Plain(Plain::Call(Box::new(expected)));
     let lines = [
         format!("set v = {written}"),
         format!("append to v with {written}"),
         format!("local v={written}"),
         format!("foreach y in v replacewith {written} // x"),
+        format!("filtereach y in v with {written}"),
         format!("return {written}"),
     ];
     let bytes = program("p", "", &lines.each_ref().map(String::as_str));
     let parsed = parse(bytes.as_bytes()).expect(written);
-    let foreach = Foreach {
+    let each = || Each {
         element: b"y",
         list: b"v",
         expression: call(),
@@ -71,7 +71,8 @@ pub fn is_read(written: &str, expected: Call<Operand>) {
         Command::Set(b"v", call()),
         Command::Append(b"v", call()),
         Command::Local(b"v", call()),
-        Command::Foreach(foreach),
+        Command::Foreach(each()),
+        Command::Filtereach(each()),
     ];
     assert_eq!(parsed.commands, commands);
     assert_eq!(parsed.last, Last::Return(call()));
@@ -267,20 +268,6 @@ impl Server {
         assert_eq!(text, expected);
         text
     }
-}
-
-/// So many names, the shortest that there are.
-pub fn shortest_names(count: usize) -> Vec<String> {
-    let letters: Vec<char> = ('a'..='z').chain('A'..='Z').collect();
-    let more = letters.iter().copied().chain('0'..='9').chain(['_']);
-    let second: Vec<char> = more.collect();
-    let pairs = letters.iter().flat_map(|first| {
-        let pair = move |second: &char| format!("{first}{second}");
-        second.iter().map(pair)
-    });
-    let names = letters.iter().map(char::to_string).chain(pairs);
-    let names = names.filter(|name| keyword(name.as_bytes()).is_none());
-    names.take(count).collect()
 }
 
 /// A line of a sheet, by the words of M-102.
