@@ -1,4 +1,6 @@
 // The commands about principals and what they delegate, and exit: each is done by its function, and has its status.
+#![tactic(auto)]
+
 ghost use Rattle.std.specs.Prelude.{◌≡◌, ◌≤◌, length};
 ghost use Rattle.std.proofs.Math.Option.{some};
 ghost use Rattle.language.specs.Text.{Text};

@@ -1,4 +1,6 @@
 // Who sends a program, or why it is refused before its first command. Document 01, "A run".
+#![tactic(auto)]
+
 ghost use Rattle.std.specs.Prelude.{List, ℕ};
 ghost use Rattle.language.specs.State.{Store};
 ghost use Rattle.validate.specs.Checked.{Represents};
@@ -11,7 +13,7 @@ use refusal::Refusal;
 use validate::Parts;
 
 // Refused; or the sender's number, and where the commands start.
-#[derive(Drop)]
+#[derive(Clone, Copy)]
 pub enum Admission {
     Refused(Refusal),
     Sender(usize, usize),

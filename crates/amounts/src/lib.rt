@@ -1,4 +1,6 @@
 // Signed arithmetic on whole hundredths, request M-104.
+#![tactic(auto)]
+
 ghost use Rattle.std.specs.Prelude.{◌≡◌, ◌≤◌, nat_abs};
 ghost use Rattle.language.specs.Syntax as Syntax;
 ghost use Rattle.language.specs.Prices as Prices;
@@ -8,7 +10,7 @@ mod rounding; // the rounded quotient
 pub mod signed; // one signed operation a function
 
 // What a text or an operation comes to: an amount in hundredths, or none.
-#[derive(Drop)]
+#[derive(Clone, Copy)]
 pub enum Amount {
     Of(i64),
     No,

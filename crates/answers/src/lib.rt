@@ -1,9 +1,10 @@
 // What the functions open to the host answer. Which number and values of document 01 each case says: specs/Answers.antt.
+#![tactic(auto)]
 
 use refusal::Refusal;
 
 // How a program ended.
-#[derive(Drop)]
+#[derive(Clone, Copy)]
 pub enum Kind {
     Returned,
     Exited,
@@ -11,14 +12,14 @@ pub enum Kind {
 }
 
 // A program's result: the kind of end, and the lines and bytes of its output.
-#[derive(Drop)]
+#[derive(Clone, Copy)]
 pub struct Finish {
     pub kind: Kind,
     pub lines: usize,
     pub bytes: usize,
 }
 
-#[derive(Drop)]
+#[derive(Clone, Copy)]
 pub enum Answer {
     // A wrong call, by its number.
     Wrong(u8),

@@ -1,5 +1,7 @@
 // The functions of expressions, applied to strings that were found in values or in the program. An argument that is no string is found out
 // before one that is too heavy.
+#![tactic(auto)]
+
 ghost use Rattle.std.specs.Prelude.{◌≡◌, ◌≤◌, T, nat_abs, length};
 ghost use Rattle.std.proofs.Math.Option.{some};
 ghost use Rattle.language.specs.Syntax as Syntax;

@@ -1,5 +1,7 @@
 // Asks whether a principal has a right. Like the other functions open to the host it asks nothing of its caller: a wrong call is answered
 // with its number. Document 01, "Who gets which number".
+#![tactic(auto)]
+
 mod question; // whether a principal has a right, on a state that was checked
 
 ghost use Rattle.std.specs.Prelude.{◌≡◌};

@@ -1,5 +1,7 @@
 // An assertion as numbers: `variable from right -> to`, a record of four numbers, and the one number in which it is kept
 // (specs/Packed.antt). Principals and variables are numbered by order of creation.
+#![tactic(auto)]
+
 ghost use Rattle.std.specs.Prelude.{◌≡◌, ◌<◌, ◌^◌};
 ghost use Rattle.assertion.specs.Packed.{fields, key, pack, upper};
 
@@ -12,7 +14,7 @@ pub const APPEND: u16 = 2;
 
 pub const DELEGATE: u16 = 3;
 
-#[derive(Drop)]
+#[derive(Clone, Copy)]
 pub struct Assertion {
     pub variable: u16,
     pub from: u16,

@@ -1,4 +1,6 @@
 // The assertions of a state text, one in each line (A), read as numbers. Document 01, "State text".
+#![tactic(auto)]
+
 ghost use Rattle.std.specs.Prelude.{◌≡◌, List, ◌+◌, ◌≤◌, ◌<◌, length, take, get_or, eqb};
 ghost use Rattle.language.specs.Text.{any};
 ghost use Rattle.text.specs.Parts.{part};
@@ -11,7 +13,7 @@ use record_fields::Section;
 use references::{Known, known_at};
 
 // Where the principals and the variables stand, and how many there are.
-#[derive(Drop)]
+#[derive(Clone, Copy)]
 pub struct Roll {
     pub principals_from: usize,
     pub principals_to: usize,
@@ -22,7 +24,7 @@ pub struct Roll {
 }
 
 // An assertion's number, where its line ends, and what is weighed with it.
-#[derive(Drop)]
+#[derive(Clone, Copy)]
 pub enum AssertionRead {
     At(u64, usize, usize),
     No,

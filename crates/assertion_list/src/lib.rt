@@ -1,4 +1,6 @@
 // The assertions that stand: numbers in order of entry, the first `n` of a lent array, each an assertion's four numbers in one.
+#![tactic(auto)]
+
 ghost use Rattle.std.specs.Prelude.{◌≡◌, ◌++◌, ◌+◌, ◌-◌, ◌≤◌, ◌<◌, length, take, drop};
 ghost use Rattle.assertion_list.specs.Asserting.{stands_in, enter_number, withdraw_number};
 ghost use Rattle.assertion_list.specs.Shapes.{FirstAt, closed};

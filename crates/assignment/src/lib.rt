@@ -1,4 +1,6 @@
 // A variable holds a value: a local of that name, or else a shared variable, or else one that is made.
+#![tactic(auto)]
+
 mod grants; // what the maker of a variable is granted
 
 ghost use Rattle.std.specs.Prelude.{◌≡◌, false, List, ℕ, ◌≤◌, T};
@@ -18,7 +20,7 @@ use session::Layout;
 use store::index::{Found, find};
 use variable_text::{Put, add, replace};
 
-#[derive(Drop)]
+#[derive(Clone, Copy)]
 pub enum Assigned {
     Full,
     Done(Layout),

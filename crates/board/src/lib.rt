@@ -1,5 +1,7 @@
 // The board of a search by rounds (specs/Board.antt): who is reached, and the assertions that a round goes over, linked by who hands on. Here
 // they are entered on it, once for a search.
+#![tactic(auto)]
+
 ghost use Rattle.std.specs.Prelude.{◌≡◌, ◌≤◌, ◌<◌, length, replicate, take};
 ghost use Rattle.board.specs.Board.{board_size, entered, Filed};
 ghost use Rattle.search_steps.specs.Steps.{unreached};

@@ -1,5 +1,7 @@
 // Brings a state over whose text is in the former lines. Like the other functions open to the host it asks nothing of its caller: a wrong
 // call is answered with its number, and nothing lent is changed. Document 02, M-101.
+#![tactic(auto)]
+
 mod rewrite; // the state's text of now
 
 ghost use Rattle.std.specs.Prelude.{◌≡◌};

@@ -1,4 +1,6 @@
 // Readers of calls: a function or a comparison, and as many values as it takes.
+#![tactic(auto)]
+
 ghost use Rattle.std.specs.Prelude.{◌≡◌, ◌≤◌, ◌∷◌, length, drop};
 ghost use Rattle.language.specs.Text.{bytes};
 ghost use Rattle.language.specs.Tokens.{lex, sign};
@@ -33,7 +35,7 @@ fn lowered(text: &[u8], at: usize) -> TermRead
 }
 
 // The two values that a function or a comparison takes, and the place past them.
-#[derive(Drop)]
+#[derive(Clone, Copy)]
 enum PairRead {
     Found(Operand, Operand, usize),
     No,
@@ -68,7 +70,7 @@ fn two_values(text: &[u8], at: usize) -> PairRead
     PairRead::Found(v, w, n)
 }
 
-#[derive(Drop)]
+#[derive(Clone, Copy)]
 enum OperationRead {
     Found(Operation),
     No,
@@ -94,7 +96,7 @@ fn operation_of(text: &[u8], word: Span) -> OperationRead
     OperationRead::No
 }
 
-#[derive(Drop)]
+#[derive(Clone, Copy)]
 enum FunctionRead {
     Found(Function),
     No,
@@ -118,7 +120,7 @@ fn function_of(text: &[u8], word: Span) -> FunctionRead
     FunctionRead::Found(Function::Arithmetic(o))
 }
 
-#[derive(Drop)]
+#[derive(Clone, Copy)]
 enum ComparisonRead {
     Found(Comparison),
     No,

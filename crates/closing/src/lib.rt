@@ -1,4 +1,6 @@
 // The last bytes of a run: its result, zeros after the output's lines, and the work buffer zero. Document 01, "A run".
+#![tactic(auto)]
+
 ghost use Rattle.std.specs.Prelude.{◌≡◌, ◌≤◌, length, take};
 ghost use Rattle.language.specs.Text.{if◌then◌else◌};
 ghost use Rattle.language.specs.Run as Run;

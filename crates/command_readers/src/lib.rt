@@ -1,4 +1,6 @@
 // Readers of commands, each from the place past its first word. Every answer holds places in the text, and no copy of it.
+#![tactic(auto)]
+
 ghost use Rattle.std.specs.Prelude.{◌≡◌, ◌≤◌, ◌∷◌, length, drop};
 ghost use Rattle.language.specs.Text.{bytes};
 ghost use Rattle.language.specs.Tokens.{lex, sign};
@@ -13,7 +15,7 @@ use tokens::reader::{Found, Next};
 use tokens::token::Token;
 
 // A command about principals and what they delegate, or the exit.
-#[derive(Drop)]
+#[derive(Clone, Copy)]
 pub enum Administration {
     CreatePrincipal(Span, Span),
     ChangePassword(Span, Span),
@@ -24,7 +26,7 @@ pub enum Administration {
 }
 
 // A command about variables, or the return of a value.
-#[derive(Drop)]
+#[derive(Clone, Copy)]
 pub enum VariableCommand {
     Set(Span, Expr),
     Append(Span, Expr),
@@ -35,13 +37,13 @@ pub enum VariableCommand {
 }
 
 // A command by its places in the text. It is one of two groups, each of which has one function that does it.
-#[derive(Drop)]
+#[derive(Clone, Copy)]
 pub enum Command {
     Administer(Administration),
     Variable(VariableCommand),
 }
 
-#[derive(Drop)]
+#[derive(Clone, Copy)]
 pub enum CommandRead {
     Found(Command, usize),
     No,

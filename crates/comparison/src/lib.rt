@@ -1,4 +1,6 @@
 // Whether two records kept as text are equal, in whatever order their fields are written (document 02, M-106).
+#![tactic(auto)]
+
 ghost use Rattle.std.specs.Prelude.{◌≡◌, true, List, ◌≤◌};
 ghost use Rattle.language.specs.Text.{any};
 ghost use Rattle.language.specs.State.{Field};

@@ -1,4 +1,6 @@
 // What a record holds: a principal's password and count, a variable's value, and the value of a name; a name's number, and what a principal's name weighs.
+#![tactic(auto)]
+
 ghost use Rattle.std.specs.Prelude.{◌≡◌, List, ◌≤◌, ◌<◌, length, take, get_or};
 ghost use Rattle.language.specs.Text.{◌or_else◌};
 ghost use Rattle.language.specs.State.{Principal, Variable, value_in};
@@ -12,7 +14,7 @@ use store::index::{Found, find, nth};
 use text::Span;
 
 // Where a password stands.
-#[derive(Drop)]
+#[derive(Clone, Copy)]
 pub enum Password {
     Kept { start: usize, end: usize },
     Absent,

@@ -1,4 +1,6 @@
 // A principal's count of completed programs, read from the text.
+#![tactic(auto)]
+
 ghost use Rattle.std.specs.Prelude.{◌≡◌, List, ◌<◌, T};
 ghost use Rattle.language.specs.Text.{all};
 ghost use Rattle.language.specs.State.{Principal};
@@ -10,7 +12,7 @@ use contents::count_at;
 use lines::{Number, number_at};
 
 // A count, and the places where its digits start and end.
-#[derive(Drop)]
+#[derive(Clone, Copy)]
 pub struct Count {
     pub value: u64,
     pub start: usize,

@@ -1,4 +1,6 @@
 // A principal is created: added last, and then given what the default delegator may delegate.
+#![tactic(auto)]
+
 ghost use Rattle.std.specs.Prelude.{◌≤◌, ◌<◌, length, get_or};
 ghost use Rattle.language.specs.Programs.{longest};
 ghost use Rattle.language.specs.Syntax.{Name, delegate, rights};

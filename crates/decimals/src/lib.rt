@@ -1,4 +1,6 @@
 // The decimal digits of a number, as a count of programs or a price has them.
+#![tactic(auto)]
+
 ghost use Rattle.std.specs.Prelude.{ℕ, ◌+◌, ◌≤◌, length};
 ghost use Rattle.language.specs.Text.{digits, decimal};
 ghost use Rattle.value_text.specs.Writing.{Written};

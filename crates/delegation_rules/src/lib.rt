@@ -1,4 +1,6 @@
 // What a delegation names, who may send it, and which variables it is about.
+#![tactic(auto)]
+
 ghost use Rattle.std.specs.Prelude.{◌≡◌, ◌&&◌, not, List, [], ◌∷◌, map, ℕ, ◌≤◌, T, length, take};
 ghost use Rattle.language.specs.Text.{Text, all};
 ghost use Rattle.language.specs.Syntax.{Name, delegate, set_delegation, delete_delegation};
@@ -23,14 +25,14 @@ use session::Layout;
 use text::Span;
 
 // What a delegation is about: every variable on which the giver has delegate, or the one of a number.
-#[derive(Drop)]
+#[derive(Clone, Copy)]
 pub enum Aim {
     All,
     One(usize),
 }
 
 // The numbers of what a delegation names. A name that is missing has the number after the last.
-#[derive(Drop)]
+#[derive(Clone, Copy)]
 pub struct Ask {
     pub aim: Aim,
     pub giver: usize,

@@ -1,4 +1,6 @@
 // Delegations in a running session: assertions entered and withdrawn, and the two commands.
+#![tactic(auto)]
+
 ghost use Rattle.std.specs.Prelude.{List, ◌≤◌, length};
 ghost use Rattle.language.specs.Syntax.{Name, set_delegation, delete_delegation};
 ghost use Rattle.language.specs.Syntax as Syntax;

@@ -1,11 +1,13 @@
 // The program of document 01, "Desk sessions": it makes a server with the password `desk`, reads programs from standard input, each ended by its
 // `***` line, and prints their lines. It stops after EXITING or at the end of the input, where an unfinished program is dropped.
+#![tactic(auto)]
+
 use answers::{Answer, Kind};
 use libc::{SEEK_CUR, STDIN_FILENO, STDOUT_FILENO};
 use stream::Reading;
 
 // The reading after some of the input was taken, and whether to go on.
-#[derive(Drop)]
+#[derive(Clone, Copy)]
 struct Taken {
     reading: Reading,
     goes_on: bool,

@@ -1,4 +1,6 @@
 // The end of a performed program: its result, and the state that it leaves. Document 01, "A run".
+#![tactic(auto)]
+
 ghost use Rattle.std.specs.Prelude.{◌≡◌, ◌-◌, ◌≤◌, length, drop, replicate};
 ghost use Rattle.std.proofs.Math.Option.{Option};
 ghost use Rattle.language.specs.Text.{Text};

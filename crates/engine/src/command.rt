@@ -16,7 +16,7 @@ use session::Layout;
 use status::{Acted, print};
 
 // Refused, or done: the session after it, and where the output ends.
-#[derive(Drop)]
+#[derive(Clone, Copy)]
 pub enum Outcome {
     Refused(Refusal),
     Done(Layout, usize),

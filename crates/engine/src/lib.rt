@@ -1,4 +1,6 @@
 // Whole programs on a running session. Document 01, "A run".
+#![tactic(auto)]
+
 pub mod command; // one command, and the line that it prints
 
 ghost use Rattle.std.specs.Prelude.{◌≡◌, ◌≤◌, length};

@@ -1,5 +1,7 @@
 // What `equal` and `notequal` answer of two values that were found (document 02, M-106). An argument that is missing or a list is found out
 // before one that is too heavy.
+#![tactic(auto)]
+
 ghost use Rattle.std.specs.Prelude.{◌≡◌, List, ◌≤◌, length};
 ghost use Rattle.std.proofs.Math.Option.{Option, some};
 ghost use Rattle.language.specs.State.{Field, Element, string, fields, Value};
@@ -21,7 +23,7 @@ use values::{Found, Kind};
 
 // What an operand is to a comparison: a string, which stands at a place of its source; a record, whose text the source is; or neither,
 // since it has no value or is a list.
-#[derive(Drop)]
+#[derive(Clone, Copy)]
 pub enum Compared {
     Text(Span),
     Record,

@@ -16,14 +16,14 @@ use store::index::Found as Label;
 use values::Found;
 
 // How far a record is written, how many fields it has, and what they weigh. Of fields that are too heavy only the labels are written.
-#[derive(Drop)]
+#[derive(Clone, Copy)]
 pub struct Draft {
     pub end: usize,
     pub count: usize,
     pub weight: usize,
 }
 
-#[derive(Drop)]
+#[derive(Clone, Copy)]
 pub enum Added {
     Done(Draft),
     No,

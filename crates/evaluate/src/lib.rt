@@ -1,4 +1,6 @@
 // The value of a term of a program, over a session whose variables are texts.
+#![tactic(auto)]
+
 mod call; // the value of a function
 mod compare; // the value of a comparison
 mod draft; // a record that is written field by field

@@ -1,4 +1,6 @@
 // The reader of an expression: a term, or a `let`. Lets may nest as deep as a program is long, so that no function here calls itself.
+#![tactic(auto)]
+
 ghost use Rattle.std.specs.Prelude.{◌≡◌, ◌≤◌, length, drop};
 ghost use Rattle.language.specs.Tokens.{lex};
 ghost use Rattle.language.specs.Grammar.{any_expression};
@@ -12,7 +14,7 @@ use text::Span;
 use tokens::reader::{Found, Next};
 
 // The name that a `let` binds, and the place past the mark after it, where its first expression starts.
-#[derive(Drop)]
+#[derive(Clone, Copy)]
 pub enum LetRead {
     Found(Span, usize),
     No,

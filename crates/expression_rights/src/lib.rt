@@ -1,5 +1,7 @@
 // Which terms of an expression the sender may read, tried or not. What evaluates an expression for each element of a list finds that out once,
 // and asks for no element.
+#![tactic(auto)]
+
 ghost use Rattle.std.specs.Prelude.{◌≡◌, [], ◌∷◌};
 ghost use Rattle.std.proofs.Math.Option.{some};
 ghost use Rattle.language.specs.Syntax as Syntax;

@@ -1,4 +1,6 @@
 // A list gets more elements: a list of that name among the locals, or else among the shared variables.
+#![tactic(auto)]
+
 ghost use Rattle.std.specs.Prelude.{◌≡◌, List, ◌++◌, ℕ, ◌≤◌, T};
 ghost use Rattle.std.proofs.Math.Option.{none, some};
 ghost use Rattle.language.specs.Text.{Text};
@@ -18,7 +20,7 @@ use values::Kind;
 use variable_text::{Put, extend};
 
 // Where the text of the elements starts that a value adds to a list, and what they weigh there.
-#[derive(Drop)]
+#[derive(Clone, Copy)]
 pub struct Elements {
     pub from: usize,
     pub weight: usize,

@@ -1,4 +1,6 @@
 // `filtereach y in x with e` (request M-106): of a list those elements stay for which an expression comes to the empty string.
+#![tactic(auto)]
+
 ghost use Rattle.std.specs.Prelude.{◌≡◌};
 ghost use Rattle.std.proofs.Math.Option.{some};
 ghost use Rattle.language.specs.Syntax as Syntax;

@@ -1,4 +1,6 @@
 // `foreach y in x replacewith e`: each element of a list is replaced by the value of an expression.
+#![tactic(auto)]
+
 ghost use Rattle.std.specs.Prelude.{◌≡◌};
 ghost use Rattle.std.proofs.Math.Option.{some};
 ghost use Rattle.language.specs.Syntax as Syntax;

@@ -1,4 +1,6 @@
 // foreach and filtereach: what becomes of each element of a list is put in its place.
+#![tactic(auto)]
+
 ghost use Rattle.std.specs.Prelude.{◌≡◌, false, List, T};
 ghost use Rattle.std.proofs.Math.Option.{some};
 ghost use Rattle.language.specs.Text.{Text};

@@ -1,4 +1,6 @@
 // What foreach and filtereach leave of one element: the expression is evaluated with y, last among the locals, for it.
+#![tactic(auto)]
+
 ghost use Rattle.std.specs.Prelude.{◌≡◌, ◌≤◌, length};
 ghost use Rattle.language.specs.Syntax as Syntax;
 ghost use Rattle.language.specs.State.{Element, single};

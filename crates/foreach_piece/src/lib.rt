@@ -1,4 +1,6 @@
 // What foreach and filtereach leave in the place of one element, by the value that the expression has for it.
+#![tactic(auto)]
+
 ghost use Rattle.std.specs.Prelude.{◌≡◌, ◌≤◌, length, List};
 ghost use Rattle.language.specs.Syntax.{Name};
 ghost use Rattle.language.specs.State.{Element, Value, single};
@@ -15,14 +17,14 @@ use evaluated::Answered;
 
 // Elements that are written in the first `len` bytes that were lent for them, one after the other, or as a list; and what they weigh as
 // one. Of what weighs more than 8,192 only that is kept: the weight is then 8,193, and the bytes say nothing.
-#[derive(Drop)]
+#[derive(Clone, Copy)]
 pub struct Draft {
     pub len: usize,
     pub weight: usize,
 }
 
 // Denied: the sender may not read what is evaluated. No: there is no value, or none that may stand there.
-#[derive(Drop)]
+#[derive(Clone, Copy)]
 pub enum Made {
     Denied,
     No,
@@ -30,7 +32,7 @@ pub enum Made {
 }
 
 // What is done with each element: foreach puts the value in its place, filtereach leaves it where the value is the empty string.
-#[derive(Drop)]
+#[derive(Clone, Copy)]
 pub enum Way {
     Replace,
     Filter,

@@ -1,4 +1,6 @@
 // Room in which the elements are tried: a copy of the locals behind which y has room, and the names of a `let` where there is one.
+#![tactic(auto)]
+
 ghost use Rattle.std.specs.Prelude.{◌≡◌, List, ◌≤◌, length};
 ghost use Rattle.language.specs.Syntax as Syntax;
 ghost use Rattle.language.specs.State.{Element, list};

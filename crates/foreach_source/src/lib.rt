@@ -1,4 +1,6 @@
 // The list that foreach and filtereach go through, and whether the sender may send them.
+#![tactic(auto)]
+
 ghost use Rattle.std.specs.Prelude.{◌≡◌, not, ◌≤◌, length};
 ghost use Rattle.std.proofs.Math.Option.{some};
 ghost use Rattle.language.specs.Syntax as Syntax;
@@ -17,7 +19,7 @@ use syntax::Expr;
 use text::Span;
 
 // Where a list's text was copied to the front of a buffer, its length.
-#[derive(Drop)]
+#[derive(Clone, Copy)]
 pub enum Source {
     List(usize),
     No,
@@ -25,7 +27,7 @@ pub enum Source {
 
 // What is known before the first element is tried: that the sender may not read and write the list; that there is none; or its text's
 // length, and what is known of the terms of the expression.
-#[derive(Drop)]
+#[derive(Clone, Copy)]
 pub enum Prepared {
     Denied,
     Failed,

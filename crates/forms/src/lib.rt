@@ -1,4 +1,6 @@
 // Readers of what several commands have in common: a name with a string, one or two names with an expression, and a delegation.
+#![tactic(auto)]
+
 ghost use Rattle.std.specs.Prelude.{◌≡◌, ◌≤◌, length, drop};
 ghost use Rattle.language.specs.Text.{Text};
 ghost use Rattle.language.specs.Tokens.{lex};
@@ -13,7 +15,7 @@ use tokens::reader::{Found, Next};
 use tokens::token::Token;
 
 // A name and a string.
-#[derive(Drop)]
+#[derive(Clone, Copy)]
 pub enum AccountRead {
     Found(Span, Span, usize),
     No,
@@ -54,7 +56,7 @@ pub fn value_at(text: &[u8], at: usize, word: &[u8]) -> ExprRead
 }
 
 // A name and an expression.
-#[derive(Drop)]
+#[derive(Clone, Copy)]
 pub enum AssignRead {
     Found(Span, Expr, usize),
     No,
@@ -78,7 +80,7 @@ pub fn assign_at(text: &[u8], at: usize, word: &[u8]) -> AssignRead
 }
 
 // Two names and an expression.
-#[derive(Drop)]
+#[derive(Clone, Copy)]
 pub enum EachRead {
     Found(Span, Span, Expr, usize),
     No,
@@ -105,7 +107,7 @@ pub fn each_at(text: &[u8], at: usize, word: &[u8]) -> EachRead
     EachRead::Found(y, x, e, n)
 }
 
-#[derive(Drop)]
+#[derive(Clone, Copy)]
 pub enum Right {
     Read,
     Write,
@@ -113,7 +115,7 @@ pub enum Right {
     Delegate,
 }
 
-#[derive(Drop)]
+#[derive(Clone, Copy)]
 pub enum RightRead {
     Found(Right, usize),
     No,
@@ -144,13 +146,13 @@ fn right_at(text: &[u8], at: usize) -> RightRead
 }
 
 // What a delegation is about: every variable, or one.
-#[derive(Drop)]
+#[derive(Clone, Copy)]
 pub enum Target {
     All,
     Only(Span),
 }
 
-#[derive(Drop)]
+#[derive(Clone, Copy)]
 pub enum TargetRead {
     Found(Target, usize),
     No,
@@ -177,7 +179,7 @@ fn target_at(text: &[u8], at: usize) -> TargetRead
 }
 
 // A target, who delegates, the right, and to whom.
-#[derive(Drop)]
+#[derive(Clone, Copy)]
 pub enum DelegationRead {
     Found(Target, Span, Right, Span, usize),
     No,

@@ -1,11 +1,13 @@
 // The frame of a state text: its first line, and the zeros behind its last. Document 01, "State text".
+#![tactic(auto)]
+
 ghost use Rattle.std.specs.Prelude.{◌≡◌, ◌≤◌, length, drop};
 ghost use Rattle.frame.specs.Edges.{HeadMeant, FormerHeadMeant, is_zero};
 
 use lines::Number;
 
 // Open or closed, and where the line ends.
-#[derive(Drop)]
+#[derive(Clone, Copy)]
 pub enum Head {
     At(bool, usize),
     No,

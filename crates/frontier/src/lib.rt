@@ -1,5 +1,7 @@
 // The steps of a search by rounds, on its board (`board`): a round goes over those assertions only that lead on from somebody who was
 // reached in the round before.
+#![tactic(auto)]
+
 ghost use Rattle.std.specs.Prelude.{◌≡◌, ◌⊎◌, ◌+◌, ◌*◌, ◌≤◌, ◌<◌, get_or, length, replicate, set, take};
 ghost use Rattle.board.specs.Board.{board_size, first_from, following, last_from, next_round, nothing, pushed, Ready, Spread, Stepped};
 ghost use Rattle.search_steps.specs.Steps.{unreached};

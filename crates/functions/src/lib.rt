@@ -1,4 +1,6 @@
 // The functions on strings, requests M-100 and M-104: each writes the text of its result.
+#![tactic(auto)]
+
 ghost use Rattle.std.specs.Prelude.{◌≡◌, ◌++◌, map, ◌+◌, ◌≤◌, length, take, drop, nat_abs};
 ghost use Rattle.language.specs.Text.{Text};
 ghost use Rattle.language.specs.State.{string};

@@ -1,4 +1,6 @@
 // Whether a word is a keyword, for every crate that reads names: of programs, or of document 01, whose keywords no state text holds.
+#![tactic(auto)]
+
 ghost use Rattle.std.specs.Prelude.{◌≡◌};
 ghost use Rattle.language.specs.Text.{member, parts};
 ghost use Rattle.language.specs.Identifiers.{base_keywords, price_keywords, keywords};

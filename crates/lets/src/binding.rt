@@ -12,7 +12,7 @@ use crate::frames::{is_taken, large, name_of, small};
 
 // A defined name cannot be bound, and names that live at once may weigh 8,192. Done: where the locals end then, how many there are, and what
 // the names of `let` weigh.
-#[derive(Drop)]
+#[derive(Clone, Copy)]
 pub enum Bound {
     Defined,
     Heavy,

@@ -1,5 +1,7 @@
 // The answer for an expression with `let` (request M-106). Lets nest as deep as a program is long, so that nothing here calls itself: a loop
 // goes through the text, and the lets whose first expression is evaluated are frames in lent slices.
+#![tactic(auto)]
+
 mod binding; // a name bound
 mod frames; // the frames of lets
 mod place; // how far the evaluation has come

@@ -4,7 +4,7 @@ use permits::Known;
 
 // The place in the program's text, how many frames there are, where the locals end with the names of `let` behind them, how many they are,
 // what the names of `let` weigh, and what is known of the terms from there on.
-#[derive(Drop)]
+#[derive(Clone, Copy)]
 pub struct Place {
     pub p: usize,
     pub depth: usize,
@@ -14,7 +14,7 @@ pub struct Place {
     pub known: Known,
 }
 
-#[derive(Drop)]
+#[derive(Clone, Copy)]
 pub enum Step {
     On(Place),
     Done(Answered),

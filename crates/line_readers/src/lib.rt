@@ -1,4 +1,6 @@
 // What a whole line holds: the login, a command, or an ending, and nothing but the line's end after it.
+#![tactic(auto)]
+
 ghost use Rattle.std.specs.Prelude.{◌≡◌, ◌≤◌, length, drop};
 ghost use Rattle.language.specs.Tokens.{lex};
 ghost use Rattle.language.specs.Programs.{login_line, command_line, ending_line};
@@ -26,7 +28,7 @@ fn ends_at(text: &[u8], at: usize) -> bool
 }
 
 // A line that is a command.
-#[derive(Drop)]
+#[derive(Clone, Copy)]
 pub enum LineRead {
     Found(Command),
     No,
@@ -63,7 +65,7 @@ pub fn ending_line(text: &[u8], at: usize) -> LineRead
 }
 
 // The line that names the sender and gives the password.
-#[derive(Drop)]
+#[derive(Clone, Copy)]
 pub enum LoginRead {
     Found(Span, Span),
     No,

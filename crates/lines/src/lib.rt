@@ -1,4 +1,6 @@
 // The fields of one line of the state text: names, strings and counts of programs.
+#![tactic(auto)]
+
 ghost use Rattle.std.specs.Prelude.{◌≡◌, Bool, true, false, ◌+◌, ◌≤◌, ◌<◌, T, length, drop, get_or};
 ghost use Rattle.language.specs.Text.{all, front};
 ghost use Rattle.language.specs.Bytes.{class, is_letter, word_byte};
@@ -9,14 +11,14 @@ ghost use Rattle.lines.specs.Cuts.{CutMeant, NumberMeant, is_digit, Worth};
 use text::{Alphabet, Class};
 
 // Where a field ends.
-#[derive(Drop)]
+#[derive(Clone, Copy)]
 pub enum Cut {
     At(usize),
     No,
 }
 
 // A number, and where it ends.
-#[derive(Drop)]
+#[derive(Clone, Copy)]
 pub enum Number {
     At(u64, usize),
     No,

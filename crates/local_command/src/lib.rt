@@ -1,4 +1,6 @@
 // The command local on a running session.
+#![tactic(auto)]
+
 ghost use Rattle.std.specs.Prelude.{◌≡◌};
 ghost use Rattle.std.proofs.Math.Option.{some};
 ghost use Rattle.language.specs.Syntax as Syntax;

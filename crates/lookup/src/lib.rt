@@ -1,4 +1,6 @@
 // What a running session says of a name and of an expression, by its buffers and its layout.
+#![tactic(auto)]
+
 ghost use Rattle.std.specs.Prelude.{◌≡◌, ◌||◌};
 ghost use Rattle.std.proofs.Math.Option.{Option, some};
 ghost use Rattle.language.specs.Text.{present};

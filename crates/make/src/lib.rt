@@ -1,5 +1,7 @@
 // Makes a server. Like the other functions open to the host it asks nothing of its caller: a wrong call is answered with its number, and
 // nothing lent is changed. Document 01, "Who gets which number".
+#![tactic(auto)]
+
 mod fresh; // the state of a server just made
 
 ghost use Rattle.std.specs.Prelude.{◌≡◌};

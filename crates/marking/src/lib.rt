@@ -1,4 +1,6 @@
 // Everyone's shortest chain at once: the rounds of the search, gone through once for all principals.
+#![tactic(auto)]
+
 ghost use Rattle.std.specs.Prelude.{◌≡◌, map, ◌≤◌, ◌<◌, length};
 ghost use Rattle.assertion.specs.Packed.{fields};
 ghost use Rattle.chains.specs.Chain.{asked};

@@ -1,4 +1,6 @@
 // Whether a principal has a right, asked by numbers and answered for names. What the engine knows of chains it knows from here.
+#![tactic(auto)]
+
 ghost use Rattle.std.specs.Prelude.{◌≡◌, map, ◌≤◌, ◌<◌, T, length};
 ghost use Rattle.language.specs.Syntax.{Name, Right};
 ghost use Rattle.language.specs.State.{Store};

@@ -1,4 +1,6 @@
 // The start of a run: who sends the program, and the session that it works on, a copy of the state's texts.
+#![tactic(auto)]
+
 ghost use Rattle.std.specs.Prelude.{◌≡◌, List, ℕ, ◌<◌, T};
 ghost use Rattle.language.specs.Syntax.{Program};
 ghost use Rattle.language.specs.State.{Principal, Store};
@@ -21,7 +23,7 @@ use validate::Parts;
 use value_text::copy_in;
 
 // The number of the principal; or mistaken: the name is missing, the password is another, or none is kept.
-#[derive(Drop)]
+#[derive(Clone, Copy)]
 pub enum Login {
     Mistaken,
     Right(usize),

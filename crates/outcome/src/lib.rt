@@ -1,4 +1,6 @@
 // How a program's commands end. Document 01, "A run".
+#![tactic(auto)]
+
 ghost use Rattle.std.specs.Prelude.{◌≡◌};
 ghost use Rattle.language.specs.Text.{present};
 ghost use Rattle.parser.specs.Bodies.{rest_from};
@@ -10,7 +12,7 @@ use session::Layout;
 
 // The text turned out to be no program; or the program is refused, or completed with the session that it leaves, the bytes that it prints and
 // the number of their lines.
-#[derive(Drop)]
+#[derive(Clone, Copy)]
 pub enum Performed {
     Broken,
     Refused(Refusal),

@@ -1,4 +1,6 @@
 // Whole programs: the login of a text, its commands in turn, and whether they are those of a program to its end.
+#![tactic(auto)]
+
 ghost use Rattle.std.specs.Prelude.{◌≡◌, ◌≤◌, length};
 ghost use Rattle.language.specs.Text.{present};
 ghost use Rattle.language.specs.Programs.{parse};
@@ -11,7 +13,7 @@ use program_lines::Step;
 use text::Span;
 
 // The login of a text: who sends it, the password, and where its commands start.
-#[derive(Drop)]
+#[derive(Clone, Copy)]
 pub enum Head {
     Login {
         sender: Span,
@@ -48,14 +50,14 @@ pub fn login(text: &[u8]) -> Head
 }
 
 // What follows a command: further lines from a place on, or nothing, for it ends the program.
-#[derive(Drop)]
+#[derive(Clone, Copy)]
 pub enum Rest {
     At(usize),
     End,
 }
 
 // A command and what follows it; or lines that are not the rest of a program.
-#[derive(Drop)]
+#[derive(Clone, Copy)]
 pub enum Read {
     Command(Command, Rest),
     Broken,

@@ -1,4 +1,6 @@
 // What a program's text says, for programs in other languages: whether it parses, how many commands it has, and of which kind each is.
+#![tactic(auto)]
+
 ghost use Rattle.std.specs.Prelude.{◌≡◌, List, ◌≤◌, length};
 ghost use Rattle.std.proofs.Math.Option.{some};
 ghost use Rattle.language.specs.Syntax as Syntax;

@@ -1,4 +1,6 @@
 // Change password on a running session, and what a password weighs.
+#![tactic(auto)]
+
 ghost use Rattle.std.specs.Prelude.{◌≡◌, List, ◌≤◌, ◌<◌, T, length, take};
 ghost use Rattle.language.specs.Syntax.{change_password};
 ghost use Rattle.language.specs.Programs.{longest};

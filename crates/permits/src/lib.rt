@@ -1,4 +1,6 @@
 // Whether the sender of a program may do something with a name, and may read all that a term evaluates.
+#![tactic(auto)]
+
 ghost use Rattle.std.specs.Prelude.{◌≡◌, not, List, ◌++◌};
 ghost use Rattle.std.proofs.Math.Option.{some};
 ghost use Rattle.language.specs.Tokens.{Token};
@@ -17,7 +19,7 @@ use syntax::{FieldRead, Operand, Term};
 
 // What is known of the terms of an expression, in the order in which they stand: that the sender may read all of them; that it may read so
 // many, and the next one not; or nothing.
-#[derive(Drop)]
+#[derive(Clone, Copy)]
 pub enum Known {
     All,
     Until(usize),

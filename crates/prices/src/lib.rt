@@ -1,4 +1,6 @@
 // The text of a price, request M-104: written, and read by writing it again.
+#![tactic(auto)]
+
 ghost use Rattle.std.specs.Prelude.{◌≡◌, ◌+◌, ◌*◌, ◌-◌, ◌≤◌, nat_abs, length};
 ghost use Rattle.language.specs.Text.{if◌then◌else◌, ◌==◌};
 ghost use Rattle.language.specs.Bytes.{between};

@@ -1,4 +1,6 @@
 // The principals of a state text, in the lines of now or in the former ones.
+#![tactic(auto)]
+
 ghost use Rattle.std.specs.Prelude.{◌≡◌, not, ◌+◌, ◌*◌, ◌≤◌, length, drop, get_or};
 ghost use Rattle.principal_lines.specs.Principals.{form_meant, stop_of, base_of, least_of, TailMeant, SecretMeant, PrincipalMeant, PrincipalsMeant, off_principal, in_place};
 
@@ -8,7 +10,7 @@ use record_fields::{Entry, Item, Section};
 use text::Alphabet;
 
 // The lines of now, in which a principal's line ends with its count; and those before them, in which it ends with its name or password.
-#[derive(Drop)]
+#[derive(Clone, Copy)]
 pub enum Form {
     Current,
     Former,

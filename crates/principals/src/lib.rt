@@ -1,4 +1,6 @@
 // Create principal on a running session.
+#![tactic(auto)]
+
 ghost use Rattle.std.specs.Prelude.{◌≡◌, ◌≤◌, T, length};
 ghost use Rattle.language.specs.Syntax.{create_principal};
 ghost use Rattle.language.specs.Programs.{longest};

@@ -1,4 +1,6 @@
 // The lines of a program text in a row: comments are passed over, and `***` ends them.
+#![tactic(auto)]
+
 ghost use Rattle.std.specs.Prelude.{◌≡◌, ◌≤◌, length};
 ghost use Rattle.language.specs.Programs.{is_comment};
 ghost use Rattle.program_lines.specs.Lines.{written_from, line_meant, LinePlaced, step_meant, StepPlaced};
@@ -22,7 +24,7 @@ fn is_comment(line: &[u8]) -> bool
 }
 
 // The line that starts at a place: a comment, `***` with a right end after it, or tokens, and where the next line starts.
-#[derive(Drop)]
+#[derive(Clone, Copy)]
 pub enum Line {
     Comment(usize),
     Stars,
@@ -53,7 +55,7 @@ fn line_at(text: &[u8], at: usize) -> Line
 }
 
 // Past comments: the place of a line with tokens and that of the line after it, or how the text ends.
-#[derive(Drop)]
+#[derive(Clone, Copy)]
 pub enum Step {
     Tokens(usize, usize),
     Stars,

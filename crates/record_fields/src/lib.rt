@@ -1,4 +1,6 @@
 // The fields of a record of the state text, each read from a place on, or shown not to stand there; and names entered, each once.
+#![tactic(auto)]
+
 ghost use Rattle.std.specs.Prelude.{◌≡◌, List, ◌+◌, ◌-◌, ◌≤◌, length, get_or};
 ghost use Rattle.text.specs.Parts.{part};
 ghost use Rattle.store.specs.Rows.{Row, Rows};
@@ -10,21 +12,21 @@ use store::index::Found;
 use text::Alphabet;
 
 // A record: where it ends, and what is weighed with it.
-#[derive(Drop)]
+#[derive(Clone, Copy)]
 pub enum Item {
     Good(usize, usize),
     Bad,
 }
 
 // A record with a name: where the name ends, where the record ends, and what is weighed with it.
-#[derive(Drop)]
+#[derive(Clone, Copy)]
 pub enum Entry {
     Good(usize, usize, usize),
     Bad,
 }
 
 // Records one after the other: where they end, how many, and what is weighed with them.
-#[derive(Drop)]
+#[derive(Clone, Copy)]
 pub enum Section {
     Good(usize, usize, usize),
     Bad,

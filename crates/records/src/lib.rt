@@ -1,4 +1,6 @@
 // The records of the state text: elements, values and variables, each read from a place on, or shown not to stand there.
+#![tactic(auto)]
+
 ghost use Rattle.std.specs.Prelude.{◌≡◌, not, ◌≤◌, drop, get_or};
 ghost use Rattle.record_fields.specs.Sections.{Safe};
 ghost use Rattle.records.specs.Values.{off_element, ElementMeant, ElementsMeant, ValueMeant, VariableMeant};

@@ -1,4 +1,6 @@
 // Names in lines of a state text that refer to principals and variables, which stand elsewhere in it; the default delegator's line.
+#![tactic(auto)]
+
 ghost use Rattle.std.specs.Prelude.{List, ◌≤◌, length};
 ghost use Rattle.text.specs.Parts.{part};
 ghost use Rattle.store.specs.Rows.{Row, Rows, SomeRows, row_names};
@@ -9,7 +11,7 @@ use store::index::Found;
 use text::Alphabet;
 
 // A record's number, and where the name ends.
-#[derive(Drop)]
+#[derive(Clone, Copy)]
 pub enum Known {
     At(usize, usize),
     No,

@@ -1,5 +1,7 @@
 // Why a command, and with it its program, is refused. Document 01, "Commands".
-#[derive(Drop)]
+#![tactic(auto)]
+
+#[derive(Clone, Copy)]
 pub enum Refusal {
     Denied,
     Failed,

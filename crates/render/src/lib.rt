@@ -1,2 +1,4 @@
 // Text written from values: the lines that a program prints.
+#![tactic(auto)]
+
 pub mod output;

@@ -17,7 +17,7 @@ use value_text::{copy_in, put_byte};
 use values::field_ends;
 
 // How far a text was read, and how far the output is written.
-#[derive(Drop)]
+#[derive(Clone, Copy)]
 pub struct Moved {
     pub read: usize,
     pub wrote: usize,

@@ -1,4 +1,6 @@
 // The ending `return e`: the value that the program prints.
+#![tactic(auto)]
+
 ghost use Rattle.std.specs.Prelude.{◌≡◌, ◌≤◌, length};
 ghost use Rattle.std.proofs.Math.Option.{some};
 ghost use Rattle.language.specs.Syntax as Syntax;
@@ -15,7 +17,7 @@ use session::Layout;
 use syntax::Expr;
 
 // How the ending goes: refused, or done with the value's text in the first bytes that were lent for it.
-#[derive(Drop)]
+#[derive(Clone, Copy)]
 pub enum Returned {
     Denied,
     Failed,

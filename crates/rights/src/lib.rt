@@ -1,5 +1,7 @@
 // Whether a chain of delegation leads from admin to a principal, and how many steps the shortest has. Nothing but numbers: principal 0
 // is admin, 1 is anyone, and an assertion is a record of four numbers, which a caller hands over in one (`assertion`).
+#![tactic(auto)]
+
 ghost use Rattle.std.specs.Prelude.{◌≡◌, map, ◌≤◌, ◌<◌, get_or, length, replicate, take};
 ghost use Rattle.assertion.specs.Packed.{fields};
 ghost use Rattle.board.specs.Board.{board_size, Ready};
@@ -13,7 +15,7 @@ use frontier::{first, next, prepare, spread, step};
 use search_steps::{UNREACHED, gather};
 
 // What a search says, and how many rounds were begun for it.
-#[derive(Drop)]
+#[derive(Clone, Copy)]
 pub struct Outcome {
     pub answer: Answer,
     pub rounds: usize,

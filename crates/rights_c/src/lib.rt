@@ -1,5 +1,7 @@
 // The search of `rights` for programs in other languages. It asks nothing of its caller but what the types say: what the search does not
 // take is refused with a number.
+#![tactic(auto)]
+
 ghost use Rattle.rights_c.specs.Reported.{Reported};
 
 use chains::Answer;

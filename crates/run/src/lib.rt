@@ -1,5 +1,7 @@
 // Runs a program on lent buffers. Like the other functions open to the host it asks nothing of its caller: a wrong call is answered with its
 // number, and nothing lent is changed. Document 01, "Who gets which number".
+#![tactic(auto)]
+
 ghost use Rattle.std.specs.Prelude.{◌≡◌};
 ghost use Rattle.language.specs.Calls.{run_call};
 ghost use Rattle.answers.specs.Answers.{replied};

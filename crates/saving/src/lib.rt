@@ -1,4 +1,6 @@
 // The state text that a completed program leaves: written anew from the session's parts, line by line, and zeros after it.
+#![tactic(auto)]
+
 mod packed; // the assertions' lines
 mod number; // what a number stands for: a record's name, a right's letter
 

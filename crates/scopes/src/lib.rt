@@ -1,4 +1,6 @@
 // Whether a name is defined, by the texts of the shared variables and of the locals.
+#![tactic(auto)]
+
 ghost use Rattle.std.specs.Prelude.{◌≡◌};
 ghost use Rattle.language.specs.Values.{Session, is_defined};
 ghost use Rattle.scopes.specs.Scopes.{Scope, SomeScope};

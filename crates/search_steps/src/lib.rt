@@ -1,5 +1,7 @@
 // The steps of the search for a shortest chain (`rights`): the assertions that it goes over, gathered once, and what a round does with one
 // of them.
+#![tactic(auto)]
+
 ghost use Rattle.std.specs.Prelude.{◌≡◌, map, ◌≤◌, ◌<◌, length, take};
 ghost use Rattle.assertion.specs.Packed.{fields};
 ghost use Rattle.search_steps.specs.Steps.{delegations, handed, marked, Marks};
@@ -12,7 +14,7 @@ pub mod tables; // what a marking of everyone begins and ends with
 pub const UNREACHED: u16 = 65535;
 
 // A list of assertions: the first `count` of the array.
-#[derive(Drop)]
+#[derive(Clone, Copy)]
 pub struct Gathered {
     pub list: [Assertion; 2048],
     pub count: usize,

@@ -1,5 +1,7 @@
 // The functions open to the host for programs in other languages, each answer as one number (crates/wire/specs/Wire.antt). They ask nothing
 // of their caller but what the types say.
+#![tactic(auto)]
+
 ghost use Rattle.std.specs.Prelude.{◌≡◌};
 ghost use Rattle.language.specs.Calls.{make_call, run_call, ask_call, bring_call, sheet_call};
 ghost use Rattle.wire.specs.Wire.{wire};

@@ -1,4 +1,6 @@
 // What admin alone does to the server as a whole, on a running session: exit, and the default delegator.
+#![tactic(auto)]
+
 ghost use Rattle.std.specs.Prelude.{T};
 ghost use Rattle.language.specs.Syntax.{default_delegator, exit};
 ghost use Rattle.language.specs.Values.{Session};

@@ -1,9 +1,10 @@
 // A running program: where the parts of its session stand, and how a command of it ends.
+#![tactic(auto)]
 
 // The principals, the shared variables and the locals are texts at the starts of lent buffers, each with a length and a number of records;
 // the assertions are the first `asserted` of a list of numbers. The default delegator and the sender are numbers of principals. The weight
 // is that of the state with its locals.
-#[derive(Drop)]
+#[derive(Clone, Copy)]
 pub struct Layout {
     pub principals_len: usize,
     pub principals: usize,
@@ -19,7 +20,7 @@ pub struct Layout {
 }
 
 // How a command ends: refused, or done with the session after it. A refusal ends the program and drops its session.
-#[derive(Drop)]
+#[derive(Clone, Copy)]
 pub enum Verdict {
     Denied,
     Failed,

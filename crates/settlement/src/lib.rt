@@ -1,4 +1,6 @@
 // What the answer for an expression leaves of a command that stores its value (set, append, local), and how such a command ends.
+#![tactic(auto)]
+
 ghost use Rattle.std.specs.Prelude.{◌≡◌};
 ghost use Rattle.settlement.specs.Commands.{verdict_of, settlement};
 
@@ -7,7 +9,7 @@ use evaluated::Answered;
 use session::Verdict;
 
 // What an answer for an expression leaves of a command: it is over, or there is a value to store.
-#[derive(Drop)]
+#[derive(Clone, Copy)]
 pub enum Settled {
     Over(Verdict),
     Value { len: usize, weight: usize },

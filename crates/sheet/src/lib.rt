@@ -1,5 +1,7 @@
 // Prints the sheet of a shared variable: who may do what to it. Like the other functions open to the host it asks nothing of its caller: a
 // wrong call is answered with its number, and nothing lent is changed. Document 02, M-102.
+#![tactic(auto)]
+
 mod listing; // the sheet, on a state that was checked
 
 ghost use Rattle.std.specs.Prelude.{◌≡◌};

@@ -1,4 +1,6 @@
 // A principal's line of a sheet: its name in 34 columns, and a letter for each right that it has.
+#![tactic(auto)]
+
 ghost use Rattle.std.specs.Prelude.{[], ◌∷◌, ◌+◌, ◌≤◌, ◌<◌, length, replicate};
 ghost use Rattle.language.specs.Text.{if◌then◌else◌};
 ghost use Rattle.language.specs.Sheet.{space, shown_name, shown_line};
@@ -8,7 +10,7 @@ ghost use Rattle.sheet_lines.specs.Rights.{had_by};
 use value_text::{copy_in, put_byte};
 
 // Which rights a principal has on a variable.
-#[derive(Drop)]
+#[derive(Clone, Copy)]
 pub struct Had {
     pub read: bool,
     pub write: bool,

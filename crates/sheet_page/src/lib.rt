@@ -1,5 +1,7 @@
 // The sheet of a shared variable: the lines of all principals, in order of creation. Lists of marks say which rights each has: how long its
 // shortest chain is, or UNREACHED.
+#![tactic(auto)]
+
 ghost use Rattle.std.specs.Prelude.{◌≡◌, List, ◌+◌, ◌≤◌, ◌<◌, length};
 ghost use Rattle.language.specs.Text.{present};
 ghost use Rattle.language.specs.Syntax.{Name};

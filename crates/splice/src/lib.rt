@@ -1,4 +1,6 @@
 // Bytes put in the place of others, and slots moved with them.
+#![tactic(auto)]
+
 ghost use Rattle.std.specs.Prelude.{◌≡◌, ℕ, ◌+◌, ◌-◌, ◌≤◌, ◌<◌, length, get_or};
 ghost use Rattle.text.specs.Parts.{part};
 ghost use Rattle.splice.specs.Splices.{over, spliced, shifted};

@@ -1,4 +1,6 @@
 // The figures of a state whose parts are known, written in the lent room.
+#![tactic(auto)]
+
 ghost use Rattle.std.specs.Prelude.{◌≡◌, ◌++◌, ◌+◌, ◌≤◌, length, take, drop};
 ghost use Rattle.splice.specs.Splices.{over};
 ghost use Rattle.state_lookups.specs.Looks.{Says, found};

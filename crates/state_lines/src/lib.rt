@@ -1,4 +1,6 @@
 // The lines of a state text, written from their parts, and the zeros after it.
+#![tactic(auto)]
+
 ghost use Rattle.std.specs.Prelude.{◌≡◌, [], ◌∷◌, ◌++◌, ◌+◌, ◌-◌, ◌≤◌, length, take, replicate};
 ghost use Rattle.language.specs.Text.{bytes, if◌then◌else◌};
 ghost use Rattle.language.specs.Encode.{head_text, delegator_text};

@@ -1,4 +1,6 @@
 // Look-ups among the principals or the variables of a text. Each answers with a number; a text that it found it writes in the lent room.
+#![tactic(auto)]
+
 ghost use Rattle.std.specs.Prelude.{◌≡◌, List, ◌+◌, ◌*◌, ◌≤◌, ◌<◌, T, length};
 ghost use Rattle.language.specs.Text.{all};
 ghost use Rattle.language.specs.State.{Principal, Variable};

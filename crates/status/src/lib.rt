@@ -1,4 +1,6 @@
 // What one command did, and the status that it prints.
+#![tactic(auto)]
+
 ghost use Rattle.std.specs.Prelude.{◌+◌, ◌≤◌, length};
 ghost use Rattle.language.specs.Text.{Text};
 ghost use Rattle.language.specs.Values.{Session};
@@ -15,7 +17,7 @@ use returning::Returned;
 use session::{Layout, Verdict};
 
 // The status of a command that was done.
-#[derive(Drop)]
+#[derive(Clone, Copy)]
 pub enum Status {
     CreatePrincipal,
     ChangePassword,
@@ -32,7 +34,7 @@ pub enum Status {
 
 // Refused; or done, with the session after it and the status to print; or a value that the program returns, in the first bytes of the
 // buffer that is lent for it.
-#[derive(Drop)]
+#[derive(Clone, Copy)]
 pub enum Acted {
     Refused(Refusal),
     Done(Layout, Status),

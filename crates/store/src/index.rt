@@ -10,7 +10,7 @@ ghost use Rattle.store.specs.Scans.{FirstHit, HitMeant};
 use text::Alphabet;
 
 // Where a record stands: its number, and its text from `start` up to `end`.
-#[derive(Drop)]
+#[derive(Clone, Copy)]
 pub enum Found {
     At {
         number: usize,
@@ -21,7 +21,7 @@ pub enum Found {
 }
 
 // A record of a known number: its text from `start` up to `end`; its name from `start + 2` up to `mid`.
-#[derive(Drop)]
+#[derive(Clone, Copy)]
 pub struct Place {
     pub start: usize,
     pub mid: usize,

@@ -1,11 +1,13 @@
 // Programs, cut out of a stream of bytes: each ends with a line that says `***`. The bytes go into a buffer that the caller lends; what finds no room
 // there is dropped, and one byte more room than the longest program needs is enough to know that a program is too long.
+#![tactic(auto)]
+
 ghost use Rattle.std.specs.Prelude.{◌≤◌, ◌≡◌, [], ◌∷◌, ◌++◌, length, take};
 ghost use Rattle.language.specs.Text.{Text};
 ghost use Rattle.stream.specs.Stream.{Stars, Reads, last_line, is_last};
 
 // How many bytes of the program so far the buffer has; and of its last line how many stars it is, 4 where it is not up to three stars and nothing else.
-#[derive(Drop)]
+#[derive(Clone, Copy)]
 pub struct Reading {
     pub len: usize,
     pub stars: usize,

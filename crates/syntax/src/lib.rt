@@ -1,5 +1,7 @@
 // What the readers of expressions answer, and those of values and of the fields of a record. Every answer holds places in the text, and no
 // copy of it.
+#![tactic(auto)]
+
 ghost use Rattle.std.specs.Prelude.{◌≡◌, ℕ, ◌≤◌, ◌<◌, length, drop};
 ghost use Rattle.language.specs.Tokens.{lex};
 ghost use Rattle.language.specs.Grammar.{any_operand, field_or_variable};
@@ -12,14 +14,14 @@ use tokens::reader::{Found, Next};
 use tokens::token::Token;
 
 // A value: x, x.y or a string.
-#[derive(Drop)]
+#[derive(Clone, Copy)]
 pub enum Operand {
     Name(Span),
     Field(Span, Span),
     Quoted(Span),
 }
 
-#[derive(Drop)]
+#[derive(Clone, Copy)]
 pub enum OperandRead {
     Found(Operand, usize),
     No,
@@ -59,7 +61,7 @@ pub fn operand_at(text: &[u8], at: usize) -> OperandRead
 }
 
 // A field of a record: its label, its value, whether another field follows, and the place past the comma or the brace.
-#[derive(Drop)]
+#[derive(Clone, Copy)]
 pub enum FieldRead {
     Found(Span, Operand, bool, usize),
     No,
@@ -116,7 +118,7 @@ pub fn record_end(text: &[u8], at: usize) -> Next
 }
 
 // An operation on two prices.
-#[derive(Drop)]
+#[derive(Clone, Copy)]
 pub enum Operation {
     Add,
     Sub,
@@ -125,7 +127,7 @@ pub enum Operation {
 }
 
 // A function of two strings.
-#[derive(Drop)]
+#[derive(Clone, Copy)]
 pub enum Function {
     Split,
     Concat,
@@ -133,7 +135,7 @@ pub enum Function {
 }
 
 // Whether two values are the same.
-#[derive(Drop)]
+#[derive(Clone, Copy)]
 pub enum Comparison {
     Equal,
     NotEqual,
@@ -141,7 +143,7 @@ pub enum Comparison {
 
 // A term: a value, `[]`, a record, whose fields stand past the place of its brace, or a function or a comparison with its values. These
 // are one or two, and stand in the answer: nothing is read again where they are evaluated.
-#[derive(Drop)]
+#[derive(Clone, Copy)]
 pub enum Term {
     Single(Operand),
     Empty,
@@ -151,20 +153,20 @@ pub enum Term {
     Compare(Comparison, Operand, Operand),
 }
 
-#[derive(Drop)]
+#[derive(Clone, Copy)]
 pub enum TermRead {
     Found(Term, usize),
     No,
 }
 
 // An expression: a term, or a `let`, which stands from a place on and is read again where it is evaluated: it may be as long as the text.
-#[derive(Drop)]
+#[derive(Clone, Copy)]
 pub enum Expr {
     Term(Term),
     Let(usize),
 }
 
-#[derive(Drop)]
+#[derive(Clone, Copy)]
 pub enum ExprRead {
     Found(Expr, usize),
     No,

@@ -1,4 +1,6 @@
 // The answer for a term: whether the sender may read what it evaluates, and then what it comes to.
+#![tactic(auto)]
+
 ghost use Rattle.std.specs.Prelude.{◌≡◌, not, ◌≤◌, length};
 ghost use Rattle.std.proofs.Math.Option.{some};
 ghost use Rattle.language.specs.Syntax as Syntax;

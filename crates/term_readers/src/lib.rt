@@ -1,4 +1,6 @@
 // The reader of a term: a value, `[]`, a record or a call.
+#![tactic(auto)]
+
 ghost use Rattle.std.specs.Prelude.{◌≡◌, ℕ, ◌≤◌, ◌<◌, ◌∷◌, length, drop};
 ghost use Rattle.language.specs.Tokens.{lex, sign};
 ghost use Rattle.language.specs.Grammar.{any_term};

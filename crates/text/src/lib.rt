@@ -1,18 +1,20 @@
 // Bytes and texts, for every crate that reads one: the class of a byte, the end of a run, places and equal texts.
+#![tactic(auto)]
+
 ghost use Rattle.std.specs.Prelude.{◌≡◌, ◌+◌, ◌≤◌, length, drop};
 ghost use Rattle.language.specs.Text.{◌==◌, front};
 ghost use Rattle.language.specs.Bytes.{class, word_byte, string_byte, comment_byte};
 ghost use Rattle.text.specs.Meaning.{class_meant, in_alphabet, is_not};
 
 // The place of a part of a text: from `start` up to, and without, `end`.
-#[derive(Drop)]
+#[derive(Clone, Copy)]
 pub struct Span {
     pub start: usize,
     pub end: usize,
 }
 
 // Every byte belongs to one class; each mark is a class by itself.
-#[derive(Drop)]
+#[derive(Clone, Copy)]
 pub enum Class {
     Letter,
     Digit,
@@ -54,7 +56,7 @@ pub fn class_of(b: u8) -> Class
 }
 
 // The alphabets of identifiers after their first letter, of strings and of comments.
-#[derive(Drop)]
+#[derive(Clone, Copy)]
 pub enum Alphabet {
     Word,
     Text,

@@ -10,14 +10,14 @@ use crate::token::Token;
 use text::Span;
 
 // What was read says nothing but that it was there.
-#[derive(Drop)]
+#[derive(Clone, Copy)]
 pub enum Next {
     At(usize),
     No,
 }
 
 // What was read stands at a place.
-#[derive(Drop)]
+#[derive(Clone, Copy)]
 pub enum Found {
     At(Span, usize),
     No,

@@ -6,7 +6,7 @@ ghost use Rattle.tokens.specs.Scanning.{Found};
 
 use crate::token::Token;
 
-#[derive(Drop)]
+#[derive(Clone, Copy)]
 pub struct Scanner<'a> {
     pub text: &'a [u8],
     pub at: usize,

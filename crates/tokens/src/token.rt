@@ -7,7 +7,7 @@ ghost use Rattle.tokens.specs.Tokens.{tokens_meant, Placed};
 use text::{Alphabet, Class, Span};
 
 // The first token of a text: where it stands, and the place past it. A string stands between its quotes.
-#[derive(Drop)]
+#[derive(Clone, Copy)]
 pub enum Token {
     // the line ends, perhaps after a comment
     End,

@@ -1,5 +1,7 @@
 // A program as a transaction on a state that was checked and is open: it works on a copy, and the state's bytes change only when it is
 // completed. Document 01, "A run".
+#![tactic(auto)]
+
 ghost use Rattle.std.specs.Prelude.{◌≡◌, length};
 ghost use Rattle.language.specs.Programs.{parse};
 ghost use Rattle.language.specs.Run as Run;

@@ -1,4 +1,6 @@
 // Whether a buffer is the text of a valid state, where its parts stand, and the tables that a run needs. Document 01, "State text".
+#![tactic(auto)]
+
 mod shared; // the variables
 mod body; // all but the first line
 
@@ -10,7 +12,7 @@ use principal_lines::Form;
 
 // Where the parts of a state's text stand: the principals, the variables, how many there are of each and of assertions; the number of the
 // default delegator, the weight, and how many bytes the whole text has: from there on all are 0.
-#[derive(Drop)]
+#[derive(Clone, Copy)]
 pub struct Parts {
     pub open: bool,
     pub principals_from: usize,
@@ -25,7 +27,7 @@ pub struct Parts {
     pub used: usize,
 }
 
-#[derive(Drop)]
+#[derive(Clone, Copy)]
 pub enum Checked {
     Bad,
     Good(Parts),

@@ -1,5 +1,7 @@
 // The check of a state's buffer and the look-ups in it, for programs in other languages. They ask nothing of their caller but what the
 // types say: a buffer of another size than 65,536 bytes, and a room that is too small, are refused with a number.
+#![tactic(auto)]
+
 ghost use Rattle.language.specs.State.{Store};
 ghost use Rattle.named_rights.specs.Numbers.{principals_of, variables};
 ghost use Rattle.state_lookups.specs.Looks.{found, name_of, principal_of, variable_of};

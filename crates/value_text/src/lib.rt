@@ -1,4 +1,6 @@
 // The writing of a value's text, piece by piece.
+#![tactic(auto)]
+
 ghost use Rattle.std.specs.Prelude.{[], ◌∷◌, ◌+◌, ◌≤◌, ◌<◌, length};
 ghost use Rattle.language.specs.Text.{bytes};
 ghost use Rattle.language.specs.State.{string};

@@ -1,4 +1,6 @@
 // A value kept as text: its kind, its weight, what it holds and where.
+#![tactic(auto)]
+
 ghost use Rattle.std.specs.Prelude.{◌≡◌, List, ◌+◌, ◌≤◌, length};
 ghost use Rattle.language.specs.Text.{Text, joined};
 ghost use Rattle.language.specs.State.{Field, Element, Value, list};
@@ -12,7 +14,7 @@ ghost use Rattle.values.specs.Answers.{kind_of, text_at, Placed, field_of, Nexts
 
 use text::{Span, same_bytes, until};
 
-#[derive(Drop)]
+#[derive(Clone, Copy)]
 pub enum Kind {
     Text,
     Record,
@@ -20,21 +22,21 @@ pub enum Kind {
 }
 
 // Where a text stands, or that there is none.
-#[derive(Drop)]
+#[derive(Clone, Copy)]
 pub enum Found {
     At(Span),
     Missing,
 }
 
 // The place of the next element of a list, or the list's end.
-#[derive(Drop)]
+#[derive(Clone, Copy)]
 pub enum Next {
     Element(Span),
     End,
 }
 
 // Where the label and the text of a field end.
-#[derive(Drop)]
+#[derive(Clone, Copy)]
 pub struct Ends {
     pub label: usize,
     pub text: usize,

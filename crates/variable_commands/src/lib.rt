@@ -1,4 +1,6 @@
 // The commands about variables, and return: each is done by its function, and has its status or its value.
+#![tactic(auto)]
+
 ghost use Rattle.std.specs.Prelude.{◌≡◌, ◌≤◌, length};
 ghost use Rattle.std.proofs.Math.Option.{some};
 ghost use Rattle.language.specs.Programs.{longest};

@@ -1,4 +1,6 @@
 // Changes of the variables in one text, the shared ones' or the locals'. The session's weight after a change is known before a byte moves.
+#![tactic(auto)]
+
 ghost use Rattle.std.specs.Prelude.{◌≡◌, List, ◌++◌, ◌+◌, ◌≤◌, ◌<◌, T};
 ghost use Rattle.std.proofs.Math.Option.{none, some};
 ghost use Rattle.language.specs.Text.{all};
@@ -18,7 +20,7 @@ use edits::add::add_variable;
 use edits::change::{append_value, set_value};
 
 // The text's new length, and the session's new weight.
-#[derive(Drop)]
+#[derive(Clone, Copy)]
 pub enum Put {
     Full,
     Done { len: usize, weight: usize },

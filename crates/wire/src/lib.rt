@@ -1,4 +1,6 @@
 // An answer to the host as one number, for programs in other languages (specs/Wire.antt).
+#![tactic(auto)]
+
 ghost use Rattle.std.specs.Prelude.{◌≡◌, ◌<◌};
 ghost use Rattle.answers.specs.Answers.{kind_meant, answer_meant};
 ghost use Rattle.wire.specs.Wire.{coded, end_code, wire, Fits};

@@ -1,1 +1,2 @@
 // The crate is its computed values (specs/).
+#![tactic(auto)]

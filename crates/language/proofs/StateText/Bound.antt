@@ -132,7 +132,7 @@ rest_bound : (t : Store) → Shape t
 rest_bound t g =
     let d : length t.delegator ≤ 255 = (name_length t.delegator (principal_name t.delegator t.principals g.principals_valid g.delegator_known)).1 in
     let vs : length (variables_text t.variables) ≤ 4 * sum variable_weight t.variables = variables_bound t.variables g.variables_valid in
-    let ls : length (assertions_text t.assertions) ≤ 5 * sum assertion_weight t.assertions = joined_bound 5 _ _ spelled assertion_bound t.assertions (assertions_spelled t g) in
+    let ls : length (assertions_text t.assertions) ≤ 5 * sum assertion_weight t.assertions = joined_bound 5 assertion_text assertion_weight spelled assertion_bound t.assertions (assertions_spelled t g) in
     omega (arith, d, vs, ls, line_length_lem (bytes "D") (t.delegator ∷ []))
 
 -- at most 5 * 8,192 + 260 bytes
