@@ -45,9 +45,110 @@ def plain(name):
     return name.replace("-", "_")
 
 
+CLAUSES = {}
+
+
+def clauses(crate):
+    """The clauses of each function of a crate by kind, as (name of the function, file) to {'requires': names, 'ensures': names}."""
+    if crate in CLAUSES:
+        return CLAUSES[crate]
+    found = {}
+    for folder, _, files in os.walk(f"crates/{crate}/src"):
+        for f in files:
+            if not f.endswith(".rt"):
+                continue
+            with open(os.path.join(folder, f), encoding="utf-8") as it:
+                text = it.read()
+            for m in re.finditer(r"\bfn (\w+)\b.*?(?=\n *\{\n|\{\n|;\n|\Z)", text, re.S):
+                # from the name to the body, which begins a line
+                head = re.match(r".*?(?=\n *\{ *(?:\n|\}))", text[m.start():] + "\n{\n", re.S).group(0)
+                row = {"requires": [], "ensures": []}
+                for kind, name in re.findall(r"\b(requires|ensures)\b *(\w*) *\{", head):
+                    row[kind].append(name)
+                found.setdefault(m.group(1), row)
+                found[(m.group(1), f[:-3])] = row
+    CLAUSES[crate] = found
+    return found
+
+
+def contract(path):
+    """The clauses of crate::module::function."""
+    parts = path.split("::")
+    rows = clauses(parts[0])
+    return rows.get((parts[-1], parts[-2])) or rows.get(parts[-1]) or {"requires": [], "ensures": []}
+
+
+def ending(body):
+    """A body as its leading lets and what follows them."""
+    at = 0
+    while True:
+        m = re.match(r"\s*let\b", body[at:])
+        if not m:
+            break
+        depth, i = 0, at + m.end()
+        lets = 1
+        while i < len(body):
+            ch = body[i]
+            if ch in "([{":
+                depth += 1
+            elif ch in ")]}":
+                depth -= 1
+            elif depth == 0 and re.match(r"(?<=\s)let\b(?=\s)", body[i:]) and body[i - 1].isspace():
+                lets += 1
+            elif depth == 0 and body[i - 1].isspace() and re.match(r"in(?=\s)", body[i:]):
+                lets -= 1
+                if lets == 0:
+                    break
+            i += 1
+        else:
+            break
+        at = i + 2
+    return body[:at], body[at:]
+
+
+def parts(text):
+    """The members of a tuple, or None."""
+    t = text.strip()
+    if not (t.startswith("(") and t.endswith(")")):
+        return None
+    depth, out, start = 0, [], 1
+    for i, ch in enumerate(t):
+        if ch in "([{":
+            depth += 1
+        elif ch in ")]}":
+            depth -= 1
+            if depth == 0 and i != len(t) - 1:
+                return None
+        elif ch == "," and depth == 1:
+            out.append(t[start:i])
+            start = i + 1
+    out.append(t[start:-1])
+    out = [o.strip() for o in out]
+    if out and not out[-1]:
+        out.pop()
+    return out
+
+
+def by_clause(body, names):
+    """The answer to a goal of several clauses, by their names."""
+    if len(names) < 2 or "" in names:
+        return body
+    lead, last = ending(body)
+    members = parts(last)
+    if members is None:
+        if re.match(r"\s*(?:search|grind|omega|elim|λ|record|absurd|cc|rw|simp|subst)\b", last):
+            return body
+        return lead + (" " if lead else "") + "let both = " + last.strip() + " in record { " + "; ".join(f"{n} = both.{i}" for i, n in enumerate(names)) + " }"
+    if len(members) != len(names):
+        return body
+    return lead + (" " if lead else "") + "record {\n      " + ";\n      ".join(f"{n} = {x}" for n, x in zip(names, members)) + ";\n    }"
+
+
 class Function:
-    def __init__(self, info):
+    def __init__(self, info, crate, where):
         self.info = info
+        self.own = contract("::".join([crate, *where.split(".")]))
+        self.callees = {}
         self.needs = {}
         for old, new in info["needs"]:
             self.needs[plain(old)] = new
@@ -61,6 +162,8 @@ class Function:
             self.fields.setdefault(plain(old), []).append(new)
             for a, b in subs:
                 self.sub.setdefault((plain(old), a), b)
+            if callee:
+                self.callees[new + "-requires"] = callee
             c = info["clauses"][i]
             if c and c.get("fields"):
                 self.clause[plain(old)] = c["fields"]
@@ -85,6 +188,8 @@ class Function:
             return []
         first = plain(segs[0])
         rest = segs[1:]
+        if first == "requires" and rest and rest[0].isdigit() and len(self.own["requires"]) > 1:
+            return ["requires", self.own["requires"][int(rest[0])], *rest[1:]]
         for n in range(len(rest), 0, -1):
             hit = self.arm.get((first, tuple(rest[:n])))
             if hit:
@@ -188,7 +293,7 @@ def main(argv):
         with open(os.path.join(folder, "Proof.antt"), encoding="utf-8") as f:
             text = f.read()
         try:
-            done = turn(text, Function(table[key]), crate, where)
+            done = turn(text, Function(table[key], crate, where), crate, where)
         except Left as e:
             print(f"left: {crate}: {where}: {e}")
             continue
@@ -362,11 +467,17 @@ def turn(text, fn, crate, where):
         if TRIVIAL.match(body):
             continue
         body, used = body_of(name, body)
+        if re.match(r"returns(-|$)", new):
+            body = by_clause(body, fn.own["ensures"])
+        elif new in fn.callees or re.sub(r"-\d+$", "", new) in fn.callees:
+            body = by_clause(body, contract(fn.callees.get(new) or fn.callees[re.sub(r"-\d+$", "", new)])["requires"])
         more, body = with_lets(body, used)
         if more:
             body = "\n" + "\n".join(more) + "\n    " + body.strip()
         elif "\n" in body.strip():
-            body = "\n" + body.strip("\n") if body.startswith("\n") else body
+            body = "\n    " + body.strip()
+        else:
+            body = body.strip()
         unfolds = m.group(1) + "".join(lets[h][4].group(0) + "\n" for h in used if lets[h][4])
         goals.append((new, comments, unfolds, body))
 
