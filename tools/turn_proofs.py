@@ -183,7 +183,7 @@ class Function:
 
     def path(self, segs):
         """What stands behind 'c', turned."""
-        segs = [s for s in segs if s != "before"]
+        segs = ["type_inv" if s == "type-inv" else s for s in segs if s != "before"]
         if not segs:
             return []
         first = plain(segs[0])
@@ -464,7 +464,7 @@ def turn(text, fn, crate, where):
             notes.append(f"{new} uses κs")
         if args and args[0] not in ("c", "_"):
             body = PATH.sub(lambda p: "c" + p.group(2) if p.group(1) == args[0] else p.group(0), body)
-        if TRIVIAL.match(body):
+        if TRIVIAL.match(body) and not m.group(1):
             continue
         body, used = body_of(name, body)
         if re.match(r"returns(-|$)", new):
@@ -491,11 +491,8 @@ def turn(text, fn, crate, where):
         if not row or not m:
             raise Left(f"no loop {loop}")
         new, variables, changed = row
-        want = []
-        for v, ch in zip(variables, changed):
-            if ch:
-                want.append(f"l.initial.{v}")
-            want.append(f"l.{v}")
+        want = [f"l.initial.{v}" if ch else f"l.{v}" for v, ch in zip(variables, changed)]
+        want += [f"l.{v}" for v, ch in zip(variables, changed) if ch]
         args = m.group(3).split()
         if len(args) != len(want):
             raise Left(f"the invariant of {new} takes {args}, and the loop has {want}")

@@ -10,7 +10,7 @@ use Rattle.value_text.proofs.Pieces.{copy_written}
 use Rattle.value_text.proofs.copy_in.Given as goal
 
 abbrev pub invariant-loop-i : goal.invariant-loop-i
-invariant-loop-i l =    (l.i ≤ length l.at) × (l.initial.i ≡ paste l.initial.out l.out l.at l.i) × (length l.initial.i ≡ length l.initial.out)
+invariant-loop-i l =    (l.i ≤ length l.src) × (l.out ≡ paste l.initial.out l.at l.src l.i) × (length l.out ≡ length l.initial.out)
 
 abbrev pub decreases-loop-i : goal.decreases-loop-i
-decreases-loop-i l =    length l.at - l.i
+decreases-loop-i l =    length l.src - l.i
