@@ -46,6 +46,7 @@ def plain(name):
 
 
 CLAUSES = {}
+SEGMENTS = {"type-inv": "type_inv", "well-formed": "well_formed"}
 
 
 def clauses(crate):
@@ -183,7 +184,7 @@ class Function:
 
     def path(self, segs):
         """What stands behind 'c', turned."""
-        segs = ["type_inv" if s == "type-inv" else s for s in segs if s != "before"]
+        segs = [SEGMENTS.get(s, s) for s in segs if s != "before"]
         if not segs:
             return []
         first = plain(segs[0])
@@ -323,6 +324,7 @@ def turn(text, fn, crate, where):
     shifts = set()
     for name, block in blocks(text):
         code = "\n".join(l for l in block.split("\n") if not l.startswith("--"))
+        code = re.sub(r"(tie\.[^\s()]+)((?: (?:invariant|decreases)[^\s(),]*)+)", r"\1", code)
         comments = [l for l in block.split("\n") if l.startswith("--")]
         if name is None:
             head += comments
@@ -367,16 +369,14 @@ def turn(text, fn, crate, where):
                 raise Left(f"{name} names a place without a signature")
             rest.append((name, comments, code))
             continue
-        m = re.match(rf"\(({NAME}) *: *tie\.({NAME})\) *→ *(.*)$", type_, re.S) or re.match(rf"tie\.({NAME})()()? *→ *(.*)$", type_, re.S)
-        clauses = re.findall(rf"^{re.escape(name)}(?: .*?)?=(?= |\n)", code, re.M)
+        m = re.match(rf"\(({NAME}) *: *tie\.({NAME})\)\s*(?:→)?\s*(.*)$", type_, re.S) or re.match(rf"()tie\.({NAME})\s*→\s*(.*)$", type_, re.S)
+        equations = code[code.index(type_[-30:]) + len(type_[-30:]):]
+        clauses = re.findall(rf"^{re.escape(name)}(?: .*?)?=(?= |\n)", equations, re.M)
         if not m or len(clauses) != 1:
-            raise Left(f"{name} is a helper over a place that cannot be a let")
-        if m.re.pattern.startswith(r"\("):
-            var, result = m.group(1), m.group(3)
-        else:
-            var, result = "c", m.group(4)
-        body = re.split(rf"^{re.escape(name)}(?: .*?)?=(?= |\n)", code, flags=re.M)[1]
-        args = re.search(rf"^{re.escape(name)}( .*?)?=(?= |\n)", code, re.M).group(1).split()
+            raise Left(f"{name} is a helper over a place that cannot be a let: {type_[:80]!r} {len(clauses)} clauses")
+        var, result = m.group(1) or "c", m.group(3)
+        body = re.split(rf"^{re.escape(name)}(?: .*?)?=(?= |\n)", equations, flags=re.M)[1]
+        args = re.search(rf"^{re.escape(name)}( .*?)?=(?= |\n)", equations, re.M).group(1).split()
         if args and args[0] != var:
             body = PATH.sub(lambda p: var + p.group(2) if p.group(1) == args[0] else p.group(0), body)
         if re.search(r"\bwhere\b", body):
@@ -458,8 +458,7 @@ def turn(text, fn, crate, where):
         body = m.group(3).strip("\n")
         if "κs" in args:
             args.remove("κs")
-        if len(args) > 1:
-            notes.append(f"{new} takes {args}")
+        extra = "".join(" " + a for a in args[1:])
         if re.search(r"\bκs\b", body):
             notes.append(f"{new} uses κs")
         if args and args[0] not in ("c", "_"):
@@ -468,7 +467,10 @@ def turn(text, fn, crate, where):
             continue
         body, used = body_of(name, body)
         if re.match(r"returns(-|$)", new):
-            body = by_clause(body, fn.own["ensures"])
+            if extra and len(fn.own["ensures"]) > 1:
+                notes.append(f"{new} takes {args} and has several clauses")
+            else:
+                body = by_clause(body, fn.own["ensures"])
         elif new in fn.callees or re.sub(r"-\d+$", "", new) in fn.callees:
             body = by_clause(body, contract(fn.callees.get(new) or fn.callees[re.sub(r"-\d+$", "", new)])["requires"])
         more, body = with_lets(body, used)
@@ -479,7 +481,7 @@ def turn(text, fn, crate, where):
         else:
             body = body.strip()
         unfolds = m.group(1) + "".join(lets[h][4].group(0) + "\n" for h in used if lets[h][4])
-        goals.append((new, comments, unfolds, body))
+        goals.append((new, comments, unfolds, body, extra))
 
     inv = []
     for kind, loop, comments, code in invariants:
@@ -529,8 +531,9 @@ def turn(text, fn, crate, where):
         invariants_text = file([], uses, [f"use {full}.Given as goal"], decls)
     if goals:
         decls = ["\n".join([*c, code]) for n, c, code in local]
-        for new, comments, unfolds, body in goals:
-            decls.append("\n".join([*comments, f"pub {new} : goal.{new}", f"{unfolds}{new} c ={body}" if body.startswith(("\n", " ")) else f"{unfolds}{new} c = {body}"]))
+        for new, comments, unfolds, body, extra in goals:
+            head_ = f"{unfolds}{new} c{extra} ="
+            decls.append("\n".join([*comments, f"pub {new} : goal.{new}", head_ + body if body.startswith(("\n", " ")) else f"{head_} {body}"]))
         more = [f"use {full}.Goals as goal"]
         if shared:
             more.insert(0, f"use {full}.Invariants.{{{', '.join(n for n, _, _ in shared)}}}")

@@ -13,3 +13,7 @@ use Rattle.amounts.proofs.add.Goals as goal
 pub sum-requires : goal.sum-requires
 sum-requires c = (omega (arith, ap nat_abs (to_z-of_z c.ranges.a), c.requires.0), omega (arith, ap nat_abs (to_z-of_z c.ranges.b), c.requires.1))
 
+pub returns : goal.returns
+returns c =
+    let held : to_z w64 (of_z w64 c.sum.result) ≡ ◌+ℤ◌ c.args.a c.args.b = again c.sum.type_inv ∙ c.sum.ensures ∙ read_both ◌+ℤ◌ c.args.a c.args.b c.ranges.a c.ranges.b in
+    c.ranged.ensures ∙ ap Prices.ranged held

@@ -26,3 +26,19 @@ returns-then-magnitude-eq0 c =
     let size : c.magnitude.result ≡ nat_abs c.args.b = c.magnitude.ensures ∙ ap nat_abs (to_z-of_z c.ranges.b) in
     ap (answered c.args.a c.args.b) (sym (eq-eqb (nat_abs c.args.b) 0 (sym size ∙ c.if-magnitude-eq0.true)))
 
+pub rounded-requires : goal.rounded-requires
+rounded-requires c =
+    let size : c.magnitude.result ≡ nat_abs c.args.b = c.magnitude.ensures ∙ ap nat_abs (to_z-of_z c.ranges.b) in
+    let not_zero : nat_abs c.args.b ≡ 0 → ⊥ = λ e. c.if-magnitude-eq0.false (size ∙ e) in
+    let multiplied : to_z w64 (of_z w64 c.product.result) ≡ c.args.a *ℤ pos 100 = again c.product.type_inv ∙ c.product.ensures ∙ ap (λ (v : ℤ). v *ℤ pos 100) (to_z-of_z c.ranges.a) in
+    let e : nat_abs (to_z w64 (of_z w64 c.args.b)) ≡ nat_abs c.args.b = ap nat_abs (to_z-of_z c.ranges.b) in
+    let p : 0 < nat_abs c.args.b = pos_of_ne-zero not_zero in
+    (omega (arith, ap nat_abs multiplied, product_small c.args.a (pos 100) c.requires.0 (lit≤ tt)), omega (arith, e, p), omega (arith, e, c.requires.1))
+
+pub returns : goal.returns
+returns c =
+    let size : c.magnitude.result ≡ nat_abs c.args.b = c.magnitude.ensures ∙ ap nat_abs (to_z-of_z c.ranges.b) in
+    let not_zero : nat_abs c.args.b ≡ 0 → ⊥ = λ e. c.if-magnitude-eq0.false (size ∙ e) in
+    let multiplied : to_z w64 (of_z w64 c.product.result) ≡ c.args.a *ℤ pos 100 = again c.product.type_inv ∙ c.product.ensures ∙ ap (λ (v : ℤ). v *ℤ pos 100) (to_z-of_z c.ranges.a) in
+    let divided : to_z w64 (of_z w64 c.rounded.result) ≡ Prices.rounded (c.args.a *ℤ pos 100) c.args.b = again c.rounded.type_inv ∙ c.rounded.ensures ∙ ap₂ Prices.rounded multiplied (to_z-of_z c.ranges.b) in
+    c.ranged.ensures ∙ ap Prices.ranged divided ∙ ap (answered c.args.a c.args.b) (sym (ne_eqb (nat_abs c.args.b) 0 not_zero))

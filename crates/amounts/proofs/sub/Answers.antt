@@ -13,3 +13,7 @@ use Rattle.amounts.proofs.sub.Goals as goal
 pub difference-requires : goal.difference-requires
 difference-requires c = (omega (arith, ap nat_abs (to_z-of_z c.ranges.a), c.requires.0), omega (arith, ap nat_abs (to_z-of_z c.ranges.b), c.requires.1))
 
+pub returns : goal.returns
+returns c =
+    let held : to_z w64 (of_z w64 c.difference.result) ≡ ◌-ℤ◌ c.args.a c.args.b = again c.difference.type_inv ∙ c.difference.ensures ∙ read_both ◌-ℤ◌ c.args.a c.args.b c.ranges.a c.ranges.b in
+    c.ranged.ensures ∙ ap Prices.ranged held

@@ -1,0 +1,33 @@
+-- `application::call` meets its contract. One arm for each function on strings, and one for the operations on prices.
+-- Assumes nothing.
+use mathlib.Core.Path.{sym, subst}
+use mathlib.Core.Option.{some}
+use Rattle.syntax.specs.declared.Function.{Function}
+use Rattle.syntax.specs.Values.{function_meant}
+use Rattle.evaluated.specs.Results.{Valued}
+use Rattle.application.specs.Applied.{applied_to}
+use borrow.Author.Rules.{rules}
+use Rattle.application.proofs.call.Reads as reads
+use Rattle.application.proofs.call.Lts as lts
+use Rattle.application.proofs.concat.Reads as concat-reads
+use Rattle.application.proofs.priced.Reads as priced-reads
+use Rattle.application.proofs.split.Reads as split-reads
+use Rattle.application.proofs.call.Goals as goal
+
+pub returns-in-Split : goal.returns-in-Split
+returns-in-Split c =
+    let a = c.args in
+    subst (λ (g : Function). Valued c.split.result (applied_to (function_meant g) (some a.first.now) (some a.second.now)) c.split.new.1.1.0)
+    (sym c.in-Split.is) c.split.ensures
+
+pub returns-in-Concat : goal.returns-in-Concat
+returns-in-Concat c =
+    let a = c.args in
+    subst (λ (g : Function). Valued c.concat.result (applied_to (function_meant g) (some a.first.now) (some a.second.now)) c.concat.new.1.1.0)
+    (sym c.in-Concat.is) c.concat.ensures
+
+pub returns-in-Arithmetic : goal.returns-in-Arithmetic
+returns-in-Arithmetic c =
+    let a = c.args in
+    subst (λ (g : Function). Valued c.priced.result (applied_to (function_meant g) (some a.first.now) (some a.second.now)) c.priced.new.1.1.1.0)
+    (sym c.in-Arithmetic.is) c.priced.ensures

@@ -1,0 +1,21 @@
+-- `ask::question::right_code` meets its contract. A letter's right, and no right for any other byte.
+-- Assumes nothing.
+use borrow.Author.Tests.{ne_eqb}
+use Rattle.ask.proofs.question.right_code.Goals as goal
+
+pub returns-in-114 : goal.returns-in-114
+returns-in-114 c = rw c.in-114.is
+
+pub returns-in-119 : goal.returns-in-119
+returns-in-119 c = rw c.in-119.is
+
+pub returns-in-97 : goal.returns-in-97
+returns-in-97 c = rw c.in-97.is
+
+pub returns-in-100 : goal.returns-in-100
+returns-in-100 c = rw c.in-100.is
+
+pub returns-in_default : goal.returns-in_default
+returns-in_default c =
+    let b = c.args.b in
+    rw (ne_eqb b 114 c.in-114.rest.0.0.0.1, ne_eqb b 119 c.in-114.rest.0.0.1, ne_eqb b 97 c.in-114.rest.0.1, ne_eqb b 100 c.in-114.rest.1)

@@ -1,0 +1,32 @@
+-- `ask::right` meets its contract. A buffer that the check takes is decoded, and the question is put to what it holds.
+-- Assumes nothing.
+use mathlib.Core.Path.{subst}
+use Rattle.validate.specs.Checked.{Understood, CheckedMeant}
+use Rattle.validate.specs.declared.Checked.{Checked}
+use Rattle.answers.specs.Answers.{answer_meant}
+use Rattle.ask.proofs.Refusals.{ask_size, ask_form, ask_done}
+use borrow.Author.Rules.{rules}
+use Rattle.ask.proofs.right.Goals as goal
+
+pub returns-then-state-ne65536 : goal.returns-then-state-ne65536
+returns-then-state-ne65536 c = ask_size c.args.state.now c.args.name.now c.args.variable.now c.args.right c.if-state-ne65536.true
+
+pub returns-in_default : goal.returns-in_default
+returns-in_default c =
+    let meant : Checked → Type 0 = λ r. CheckedMeant c.args.state.now c.check-checked.new.1.0 c.check-checked.new.1.1.0 c.check-checked.new.1.1.1.0 r in
+    ask_form c.args.state.now c.args.name.now c.args.variable.now c.args.right c.if-state-ne65536.false
+    (subst meant.in_default.is c.check-checked.ensures)
+
+pub decide-requires : goal.decide-requires
+decide-requires c =
+    let meant : Checked → Type 0 = λ r. CheckedMeant c.args.state.now c.check-checked.new.1.0 c.check-checked.new.1.1.0 c.check-checked.new.1.1.1.0 r in
+    let understood : Understood c.args.state.now c.check-checked.new.1.0 c.check-checked.new.1.1.0 c.check-checked.new.1.1.1.0 c.in-Good.parts = subst meant.in-Good.is c.check-checked.ensures in
+    understood
+
+pub returns : goal.returns
+returns c =
+    let meant : Checked → Type 0 = λ r. CheckedMeant c.args.state.now c.check-checked.new.1.0 c.check-checked.new.1.1.0 c.check-checked.new.1.1.1.0 r in
+    let understood : Understood c.args.state.now c.check-checked.new.1.0 c.check-checked.new.1.1.0 c.check-checked.new.1.1.1.0 c.in-Good.parts = subst meant.in-Good.is c.check-checked.ensures in
+    let u = understood in
+    ask_done c.args.state.now c.args.name.now c.args.variable.now c.args.right c.if-state-ne65536.false
+    u.state u.decoded (answer_meant c.decide.result) (c.decide.ensures u)

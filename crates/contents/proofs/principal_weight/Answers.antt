@@ -1,0 +1,25 @@
+use mathlib.Core.Path.{ap, ◌∙◌}
+use Prim.Native.Nat.{◌+◌}
+use native.Mathlib.Omega.{arith}
+use Rattle.language.specs.Weight.{name_weight}
+use Rattle.store.proofs.Places.{Lies, lies}
+use Rattle.store.proofs.NameWeights.{name_is}
+use borrow.Author.Rules.{rules}
+use Rattle.contents.proofs.principal_weight.Goals as goal
+
+pub overflow_add-from : goal.overflow_add-from
+overflow_add-from c =
+    let lying : Lies c.args.principals.now c.nth-place.result = let a = c.args in
+    lies c.requires.0.rows a.principals.now a.count a.slots.now c.requires.0.held a.number c.requires.1 c.nth-place.result (c.nth-place.ensures c.requires.0.rows c.requires.0.held) in
+    let l = lying in omega (arith, l.first, l.middle, l.last)
+
+pub slice_bounds-name_weight-count : goal.slice_bounds-name_weight-count
+slice_bounds-name_weight-count c =
+    let lying : Lies c.args.principals.now c.nth-place.result = let a = c.args in
+    lies c.requires.0.rows a.principals.now a.count a.slots.now c.requires.0.held a.number c.requires.1 c.nth-place.result (c.nth-place.ensures c.requires.0.rows c.requires.0.held) in
+    let l = lying in omega (arith, l.first, l.middle, l.last)
+
+pub returns : goal.returns
+returns c rows H =
+    let a = c.args in
+    c.name_weight_lem.ensures ∙ ap name_weight (name_is rows a.principals.now a.count a.slots.now H a.number c.requires.1 c.nth-place.result (c.nth-place.ensures rows H) (c.nth-place.result.start + 2) (omega arith))

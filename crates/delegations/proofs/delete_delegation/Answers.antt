@@ -1,0 +1,117 @@
+use mathlib.Core.Path.{◌≡◌, refl, sym, ◌∙◌}
+use mathlib.Core.Bool.{true}
+use Prim.Native.Nat.{◌≤◌}
+use native.Mathlib.Omega.{arith}
+use borrow.Author.Tests.{not-true, not-false}
+use lib.ListN.{length}
+use Rattle.language.specs.Syntax.{Name, Right, Target, Command, delete_delegation}
+use Rattle.language.specs.Values.{Session}
+use Rattle.language.specs.Commands.{targets, denied}
+use Rattle.text.specs.Meaning.{part}
+use Rattle.forms.specs.Forms.{right_meant, target_meant}
+use Rattle.store.proofs.Holders.{some_principals, some_variables}
+use Rattle.session.specs.Sessions.{Slices, slices, Running}
+use Rattle.session.proofs.Steps.{is_denied}
+use Rattle.delegations.specs.Delegates.{Delegates}
+use Rattle.delegation_rules.specs.Asking.{Names}
+use Rattle.delegation_rules.proofs.Existing.{complete}
+use Rattle.session.proofs.Weighed.{ends_done}
+use Rattle.delegations.proofs.Ending.{delete_fails, deleting, delete_goes, giver_there, delegates}
+use Rattle.named_rights.specs.Numbers.{variables}
+use Rattle.delegation_rules.proofs.Denials.{aim_few}
+use Rattle.delegation_rules.proofs.Fitting.{few_variables}
+use borrow.Author.Rules.{rules}
+use Rattle.delegations.proofs.delete_delegation.Goals as goal
+
+pub asked-k-requires : goal.asked-k-requires
+asked-k-requires c =
+    let R = c.requires.some_running.running in
+    let s = c.requires.some_running.session in
+    let h = c.requires.target_within in
+    ((R.principals_within, some_principals s.store.principals _ _ _ R.principals), ((R.vars_within, some_variables s.store.variables _ _ _ R.variables), (h.0, h.1, h.2)))
+
+pub delete_denied-requires : goal.delete_denied-requires
+delete_denied-requires c =
+    let lent : Slices = let a = c.args in slices a.principals.now a.principal_slots.now a.vars.now a.variable_slots.now a.locals.now a.local_slots.now a.assertions.now in
+    let P = c.requires.some_running in record { session = P.session; buffers = lent; runs = record { running = P.running; stood = refl } }
+
+pub returns-then-delete_denied : goal.returns-then-delete_denied
+returns-then-delete_denied c s R =
+    let target-of : Target = target_meant c.args.text.now c.args.target in
+    let from-of : Name = part c.args.text.now c.args.q in
+    let right_of : Right = right_meant c.args.right in
+    let to-of : Name = part c.args.text.now c.args.p in
+    let command : Command = delete_delegation target-of from-of right_of to-of in
+    let lent : Slices = let a = c.args in slices a.principals.now a.principal_slots.now a.vars.now a.variable_slots.now a.locals.now a.local_slots.now a.assertions.now in
+    let named : (s : Session) → Running s c.args.l lent → Names s target-of from-of to-of.asked-k.result = λ s R. let a = c.args in c.asked-k.ensures s a.locals.now a.local_slots.now a.assertions.now R in
+    let judged : (s : Session) → Running s c.args.l lent → c.delete_denied.result ≡ denied s command = λ s R. c.delete_denied.ensures s lent target-of from-of right_of to-of (record { running = R; stood = refl }) (named s R) in
+    is_denied s command (sym (judged s R) ∙ c.if-delete_denied.true)
+
+pub returns-then-missing : goal.returns-then-missing
+returns-then-missing c s R =
+    let lent : Slices = let a = c.args in slices a.principals.now a.principal_slots.now a.vars.now a.variable_slots.now a.locals.now a.local_slots.now a.assertions.now in
+    let target-of : Target = target_meant c.args.text.now c.args.target in
+    let from-of : Name = part c.args.text.now c.args.q in
+    let right_of : Right = right_meant c.args.right in
+    let to-of : Name = part c.args.text.now c.args.p in
+    let named : (s : Session) → Running s c.args.l lent → Names s target-of from-of to-of.asked-k.result = λ s R. let a = c.args in c.asked-k.ensures s a.locals.now a.local_slots.now a.assertions.now R in
+    let command : Command = delete_delegation target-of from-of right_of to-of in
+    let judged : (s : Session) → Running s c.args.l lent → c.delete_denied.result ≡ denied s command = λ s R. c.delete_denied.ensures s lent target-of from-of right_of to-of (record { running = R; stood = refl }) (named s R) in
+    delete_fails s target-of from-of right_of to-of (sym (judged s R) ∙ c.if-delete_denied.false)
+    (not-true _ (sym (c.missing.ensures s lent target-of from-of to-of R (named s R)) ∙ c.if-missing.true))
+
+pub choose-count-requires : goal.choose-count-requires
+choose-count-requires c =
+    let lent : Slices = let a = c.args in slices a.principals.now a.principal_slots.now a.vars.now a.variable_slots.now a.locals.now a.local_slots.now a.assertions.now in
+    let target-of : Target = target_meant c.args.text.now c.args.target in
+    let from-of : Name = part c.args.text.now c.args.q in
+    let to-of : Name = part c.args.text.now c.args.p in
+    let named : (s : Session) → Running s c.args.l lent → Names s target-of from-of to-of.asked-k.result = λ s R. let a = c.args in c.asked-k.ensures s a.locals.now a.local_slots.now a.assertions.now R in
+    let P = c.requires.some_running in (
+      record { session = P.session; buffers = lent; runs = record { running = P.running; stood = refl } },
+      c.requires.target_within.3,
+      aim_few (variables P.session.store) target-of _
+          (few_variables P.session _ _ P.running) (named P.session P.running).aim_is,
+    )
+
+pub withdraw_all-after-requires : goal.withdraw_all-after-requires
+withdraw_all-after-requires c =
+    let lent : Slices = let a = c.args in slices a.principals.now a.principal_slots.now a.vars.now a.variable_slots.now a.locals.now a.local_slots.now a.assertions.now in
+    let target-of : Target = target_meant c.args.text.now c.args.target in
+    let from-of : Name = part c.args.text.now c.args.q in
+    let right_of : Right = right_meant c.args.right in
+    let to-of : Name = part c.args.text.now c.args.p in
+    let named : (s : Session) → Running s c.args.l lent → Names s target-of from-of to-of.asked-k.result = λ s R. let a = c.args in c.asked-k.ensures s a.locals.now a.local_slots.now a.assertions.now R in
+    let whole : (s : Session) → Running s c.args.l lent → complete s target-of from-of to-of ≡ true = λ s R. not-false _ (sym (c.missing.ensures s lent target-of from-of to-of R (named s R)) ∙ c.if-missing.false) in
+    let delegating : (s : Session) → Running s c.args.l lent → Delegates s c.args.l lent.choose-count.new.1.1.1.0 c.choose-count.result c.asked-k.result.giver c.right_code_lem.result c.asked-k.result.taker (targets s.store target-of from-of) from-of right_of to-of = λ s R. let z : length c.choose-count.new.1.1.1.0 ≡ length c.args.targets.now = c.choose-count.auto.1.1.1.0 in
+    let w : c.choose-count.result ≤ length c.choose-count.new.1.1.1.0 = omega (arith, z, c.choose-count.ensures.within, c.requires.target_within.3) in
+    let N = named s R in
+    let k = whole s R in
+    delegates s target-of from-of right_of to-of.args.l lent.asked-k.result c.choose-count.new.1.1.1.0 c.choose-count.result c.right_code_lem.result R N k w
+    (c.choose-count.ensures.are s lent target-of from-of to-of (record { running = R; stood = refl }) N (giver_there s target-of from-of right_of to-of k))
+    c.right_code_lem.ensures in
+    let P = c.requires.some_running in
+    record { session = P.session; variables_named = _; from = _; of_right = _; to = _; delegates = delegating P.session P.running }
+
+pub returns : goal.returns
+returns c s R =
+    let target-of : Target = target_meant c.args.text.now c.args.target in
+    let from-of : Name = part c.args.text.now c.args.q in
+    let right_of : Right = right_meant c.args.right in
+    let to-of : Name = part c.args.text.now c.args.p in
+    let command : Command = delete_delegation target-of from-of right_of to-of in
+    let lent : Slices = let a = c.args in slices a.principals.now a.principal_slots.now a.vars.now a.variable_slots.now a.locals.now a.local_slots.now a.assertions.now in
+    let named : (s : Session) → Running s c.args.l lent → Names s target-of from-of to-of.asked-k.result = λ s R. let a = c.args in c.asked-k.ensures s a.locals.now a.local_slots.now a.assertions.now R in
+    let judged : (s : Session) → Running s c.args.l lent → c.delete_denied.result ≡ denied s command = λ s R. c.delete_denied.ensures s lent target-of from-of right_of to-of (record { running = R; stood = refl }) (named s R) in
+    let whole : (s : Session) → Running s c.args.l lent → complete s target-of from-of to-of ≡ true = λ s R. not-false _ (sym (c.missing.ensures s lent target-of from-of to-of R (named s R)) ∙ c.if-missing.false) in
+    let delegating : (s : Session) → Running s c.args.l lent → Delegates s c.args.l lent.choose-count.new.1.1.1.0 c.choose-count.result c.asked-k.result.giver c.right_code_lem.result c.asked-k.result.taker (targets s.store target-of from-of) from-of right_of to-of = λ s R. let z : length c.choose-count.new.1.1.1.0 ≡ length c.args.targets.now = c.choose-count.auto.1.1.1.0 in
+    let w : c.choose-count.result ≤ length c.choose-count.new.1.1.1.0 = omega (arith, z, c.choose-count.ensures.within, c.requires.target_within.3) in
+    let N = named s R in
+    let k = whole s R in
+    delegates s target-of from-of right_of to-of.args.l lent.asked-k.result c.choose-count.new.1.1.1.0 c.choose-count.result c.right_code_lem.result R N k w
+    (c.choose-count.ensures.are s lent target-of from-of to-of (record { running = R; stood = refl }) N (giver_there s target-of from-of right_of to-of k))
+    c.right_code_lem.ensures in
+    let t = target-of in
+    ends_done s command (deleting s t from-of right_of to-of)
+    (sym (judged s R) ∙ c.if-delete_denied.false) (delete_goes s t from-of right_of to-of (whole s R)) _ _
+    (c.withdraw_all_lem.ensures s _ _ _ _ (delegating s R))

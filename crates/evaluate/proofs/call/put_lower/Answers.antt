@@ -1,0 +1,37 @@
+-- `evaluate::call::put_lower` meets its contract. The string that the argument is, in small letters.
+-- Assumes nothing.
+use mathlib.Core.Path.{sym, subst}
+use Rattle.language.specs.Outcomes.{Outcome}
+use Rattle.language.specs.State.{Value}
+use Rattle.syntax.specs.Values.{operand_meant}
+use Rattle.evaluated.specs.Results.{MaybeString, Valued}
+use Rattle.application.specs.Applied.{lowered_to}
+use mathlib.Core.Option.{Option}
+use Rattle.language.specs.Text.{Text}
+use Rattle.evaluate.proofs.Calling.{lower_is, source_string}
+use borrow.Author.Rules.{rules}
+use Rattle.evaluate.proofs.call.put_lower.Reads as reads
+use Rattle.evaluate.proofs.call.put_lower.Lts as lts
+use Rattle.application.proofs.lower.Reads as lower-reads
+use Rattle.evaluate.proofs.source.source.Reads as source-reads
+use Rattle.evaluate.proofs.source.string_in.Reads as string-in-reads
+use Rattle.evaluate.proofs.call.put_lower.Goals as goal
+
+pub string_in-i-requires : goal.string_in-i-requires
+string_in-i-requires c =
+    let P = c.requires in
+    (record { session = P.0.session; held = c.source-a.ensures P.0.session P.0.scope }, P.1.0.0)
+
+pub lower-requires : goal.lower-requires
+lower-requires c =
+    let P = c.requires in
+    let a = c.args in
+    let H = c.source-a.ensures P.0.session P.0.scope in
+    (c.string_in-i.ensures.placed, subst MaybeString (sym (c.string_in-i.ensures.meant P.0.session H)) (source_string P.0.session a.text.now c.source-a.result.now a.v H P.1.0.1), P.1.1)
+
+pub returns : goal.returns
+returns c s S =
+    let a = c.args in
+    let H = c.source-a.ensures s S in
+    subst (λ (o : Outcome Value). Valued c.lower.result o c.lower.new.1.1.0) (sym (lower_is s (operand_meant a.text.now a.v)))
+    (subst (λ (o : Option Text). Valued c.lower.result (lowered_to o) c.lower.new.1.1.0) (c.string_in-i.ensures.meant s H) c.lower.ensures)

@@ -1,0 +1,55 @@
+-- `evaluate::compare::put_comparison` meets its contract. What the arguments are, and the comparison of them.
+-- Assumes nothing.
+use mathlib.Core.Path.{sym, subst}
+use Rattle.language.specs.Outcomes.{Outcome}
+use Rattle.language.specs.State.{Value}
+use Rattle.syntax.specs.Values.{operand_meant, comparison_meant}
+use Rattle.evaluated.specs.Results.{Valued}
+use Rattle.equality.specs.Elements.{element_of}
+use Rattle.language.specs.Values.{operand_value}
+use Rattle.evaluate.proofs.Comparing.{compare_is}
+use borrow.Author.Rules.{rules}
+use Rattle.evaluate.proofs.compare.put_comparison.Reads as reads
+use Rattle.evaluate.proofs.compare.put_comparison.Lts as lts
+use Rattle.equality.proofs.compare.Reads as compare-reads
+use Rattle.evaluate.proofs.compare.element_at.Reads as element-at-reads
+use Rattle.evaluate.proofs.source.source.Reads as source-reads
+use Rattle.evaluate.proofs.compare.put_comparison.Goals as goal
+
+pub source-a-requires : goal.source-a-requires
+source-a-requires c = (c.requires.some_scope, c.requires.operand_within.0)
+
+pub element_at-i-requires : goal.element_at-i-requires
+element_at-i-requires c =
+    let P = c.requires in
+    (record { session = P.0.session; held = c.source-a.ensures P.0.session P.0.scope }, P.1.0)
+
+pub source-b-requires : goal.source-b-requires
+source-b-requires c = (c.requires.some_scope, c.requires.operand_within.1)
+
+pub element_at-j-requires : goal.element_at-j-requires
+element_at-j-requires c =
+    let P = c.requires in
+    (record { session = P.0.session; held = c.source-b.ensures P.0.session P.0.scope }, P.1.1)
+
+pub compare-requires : goal.compare-requires
+compare-requires c =
+    let P = c.requires in
+    let a = c.args in
+    let s = P.0.session in
+    let F = c.element_at-i.ensures s (c.source-a.ensures s P.0.scope) in
+    let G = c.element_at-j.ensures s (c.source-b.ensures s P.0.scope) in (
+      record { element = element_of (operand_value s (operand_meant a.text.now a.v)); stands = F },
+      record { element = element_of (operand_value s (operand_meant a.text.now a.w)); stands = G },
+      P.1.2,
+    )
+
+pub returns : goal.returns
+returns c s S =
+    let a = c.args in
+    let o = operand_meant a.text.now a.v in
+    let p = operand_meant a.text.now a.w in
+    let F = c.element_at-i.ensures s (c.source-a.ensures s S) in
+    let G = c.element_at-j.ensures s (c.source-b.ensures s S) in
+    subst (λ (r : Outcome Value). Valued c.compare.result r c.compare.new.1.1.1.1.1.0) (sym (compare_is s (comparison_meant a.c) o p))
+    (c.compare.ensures (element_of (operand_value s o)) (element_of (operand_value s p)) F G)

@@ -1,0 +1,143 @@
+-- `extension::join` meets its contract. A local list of that name gets the elements; where there is none, a shared list does.
+-- Assumes nothing.
+use mathlib.Core.Path.{◌≡◌, sym, subst}
+use mathlib.Core.List.{map, List, ◌++◌}
+use native.Mathlib.Omega.{arith}
+use lib.ListN.{take}
+use lib.Seq.{length-take-le}
+use Rattle.language.specs.State.{put, value_in, Element, list}
+use Rattle.language.specs.Values.{Session}
+use Prim.Native.Nat.{◌<◌}
+use Rattle.language.specs.Weight.{limit}
+use Rattle.language.specs.Commands.{assign, session_weight}
+use Rattle.store.specs.Rows.{variable_row, place}
+use Rattle.store.proofs.Holders.{variables_rows, some_variables}
+use Rattle.session.specs.declared.Layout.{Layout}
+use Rattle.session.specs.Sessions.{slices, Running}
+use Rattle.variable_text.proofs.Weighing.{both_valid, put_full, put_done}
+use Rattle.extension.proofs.Extending.{extend_adds, in_first, in_second}
+use Rattle.extension.specs.Extensions.{added_by, Adds}
+use Rattle.assignment.specs.Assignments.{Assigns}
+use Rattle.assignment.proofs.Assigning.{there, not_there, there_below, locals_lie, local_full, local_done}
+use borrow.Author.Rules.{rules}
+use Rattle.extension.proofs.join.Goals as goal
+
+pub elements_of-more-requires : goal.elements_of-more-requires
+elements_of-more-requires c = c.requires.t.1
+
+pub slice_bounds-find-end-2 : goal.slice_bounds-find-end-2
+slice_bounds-find-end-2 c = sym (length-take-le _ _ c.requires.some_list.running.locals_within)
+
+pub find-found-requires : goal.find-found-requires
+find-found-requires c =
+    let a = c.args in
+    let S = c.requires.some_list in
+    some_variables S.session.locals (take a.l.locals_len a.locals.now) a.l.locals a.local_slots.now S.running.local_variables
+
+pub slice_bounds-join_shared-count : goal.slice_bounds-join_shared-count
+slice_bounds-join_shared-count c =
+    let its_own : Adds c.requires.t.1.value c.args.value.now c.elements_of-more.result.from c.elements_of-more.result.weight = c.elements_of-more.ensures c.pre.1.1.value c.pre.1.1.is_value in
+    omega (arith, its_own.within)
+
+pub join_shared-requires : goal.join_shared-requires
+join_shared-requires c =
+    let looked-up : let a = c.args in (s : Session) → Running s a.l (slices a.principals.now a.principal_slots.now a.vars.now a.variable_slots.now a.locals.now a.local_slots.now a.assertions.now) → c.find-found.result ≡ place (map variable_row s.locals) a.name.now = λ s R. let a = c.args in
+    c.find-found.ensures (map variable_row s.locals) (variables_rows s.locals (take a.l.locals_len a.locals.now) a.l.locals a.local_slots.now R.local_variables) in
+    let its_own : Adds c.requires.t.1.value c.args.value.now c.elements_of-more.result.from c.elements_of-more.result.weight = c.elements_of-more.ensures c.pre.1.1.value c.pre.1.1.is_value in
+    let a = c.args in
+    let S = c.requires.some_list in
+    let A = its_own in
+    let n = not_there S.session.locals (take a.l.locals_len a.locals.now) a.l.locals a.local_slots.now S.running.local_variables a.name.now c.find-found.result (looked-up S.session S.running)
+    c.in_default.is in (
+      record {
+        some_shared = record { session = S.session; locals = a.locals.now; local_slots = a.local_slots.now; running = S.running };
+        elements = S.elements;
+        more = added_by c.requires.t.1.value;
+        is_list = in_second (value_in S.session.locals a.name.now) (value_in S.session.store.variables a.name.now) n S.is_list;
+        extra = A.extra;
+      },
+      c.requires.t.0,
+      A.small,
+    )
+
+pub returns-in_default : goal.returns-in_default
+returns-in_default c s v es R i W =
+    let looked-up : let a = c.args in (s : Session) → Running s a.l (slices a.principals.now a.principal_slots.now a.vars.now a.variable_slots.now a.locals.now a.local_slots.now a.assertions.now) → c.find-found.result ≡ place (map variable_row s.locals) a.name.now = λ s R. let a = c.args in
+    c.find-found.ensures (map variable_row s.locals) (variables_rows s.locals (take a.l.locals_len a.locals.now) a.l.locals a.local_slots.now R.local_variables) in
+    let a = c.args in
+    let n = not_there s.locals (take a.l.locals_len a.locals.now) a.l.locals a.local_slots.now R.local_variables a.name.now c.find-found.result (looked-up s R) c.in_default.is in
+    subst (λ (z : List Element). Assigns c.join_shared.result (assign s a.name.now (list z)) (slices a.principals.now a.principal_slots.now c.join_shared.new.1.1.0 c.join_shared.new.1.1.1.0 a.locals.now a.local_slots.now a.assertions.now))
+    (extend_adds es v) (c.join_shared.ensures s a.locals.now a.local_slots.now es (added_by v) R n (in_second (value_in s.locals a.name.now) (value_in s.store.variables a.name.now) n i) (c.elements_of-more.ensures v W).extra)
+
+pub slice_bounds-extend-count : goal.slice_bounds-extend-count
+slice_bounds-extend-count c =
+    let its_own : Adds c.requires.t.1.value c.args.value.now c.elements_of-more.result.from c.elements_of-more.result.weight = c.elements_of-more.ensures c.pre.1.1.value c.pre.1.1.is_value in
+    omega (arith, its_own.within)
+
+pub extend-put-requires : goal.extend-put-requires
+extend-put-requires c =
+    let looked-up : let a = c.args in (s : Session) → Running s a.l (slices a.principals.now a.principal_slots.now a.vars.now a.variable_slots.now a.locals.now a.local_slots.now a.assertions.now) → c.find-found.result ≡ place (map variable_row s.locals) a.name.now = λ s R. let a = c.args in
+    c.find-found.ensures (map variable_row s.locals) (variables_rows s.locals (take a.l.locals_len a.locals.now) a.l.locals a.local_slots.now R.local_variables) in
+    let its_own : Adds c.requires.t.1.value c.args.value.now c.elements_of-more.result.from c.elements_of-more.result.weight = c.elements_of-more.ensures c.pre.1.1.value c.pre.1.1.is_value in
+    let a = c.args in
+    let S = c.requires.some_list in
+    let A = its_own in
+    let b = slices a.principals.now a.principal_slots.now a.vars.now a.variable_slots.now a.locals.now a.local_slots.now a.assertions.now in
+    let q = looked-up S.session S.running in
+    let t = take a.l.locals_len a.locals.now in
+    let F = there S.session.locals t a.l.locals a.local_slots.now S.running.local_variables a.name.now c.find-found.result q c.in-At.number c.in-At.start c.in-At.end c.in-At.is in (
+      record {
+        variables = S.session.locals;
+        name = a.name.now;
+        elements = S.elements;
+        more = added_by c.requires.t.1.value;
+        lies = locals_lie S.session a.l b S.running;
+        below = there_below S.session.locals t a.l.locals a.local_slots.now S.running.local_variables a.name.now c.find-found.result q c.in-At.number c.in-At.start c.in-At.end c.in-At.is;
+        is_number = F.number;
+        is_list = in_first (value_in S.session.locals a.name.now) (value_in S.session.store.variables a.name.now) F.is_value S.is_list;
+        extra = A.extra;
+      },
+      S.running.light,
+      A.small,
+    )
+
+pub returns-in_default-put : goal.returns-in_default-put
+returns-in_default-put c s v es R i W =
+    let looked-up : let a = c.args in (s : Session) → Running s a.l (slices a.principals.now a.principal_slots.now a.vars.now a.variable_slots.now a.locals.now a.local_slots.now a.assertions.now) → c.find-found.result ≡ place (map variable_row s.locals) a.name.now = λ s R. let a = c.args in
+    c.find-found.ensures (map variable_row s.locals) (variables_rows s.locals (take a.l.locals_len a.locals.now) a.l.locals a.local_slots.now R.local_variables) in
+    let a = c.args in
+    let b = slices a.principals.now a.principal_slots.now a.vars.now a.variable_slots.now a.locals.now a.local_slots.now a.assertions.now in
+    let t = take a.l.locals_len a.locals.now in
+    let q = looked-up s R in
+    let fs = added_by v in
+    let X = (c.elements_of-more.ensures v W).extra in
+    let k = there_below s.locals t a.l.locals a.local_slots.now R.local_variables a.name.now c.find-found.result q c.in-At.number c.in-At.start c.in-At.end c.in-At.is in
+    let F = there s.locals t a.l.locals a.local_slots.now R.local_variables a.name.now c.find-found.result q c.in-At.number c.in-At.start c.in-At.end c.in-At.is in
+    let j = in_first (value_in s.locals a.name.now) (value_in s.store.variables a.name.now) F.is_value i in
+    let L = locals_lie s a.l b R in
+    let h = both_valid L a.name.now c.in-At.number k F.number es fs j _ _ X in
+    subst (λ (z : List Element). limit < session_weight (assign s a.name.now (list z))) (extend_adds es v)
+    (local_full s a.l b R a.name.now (list (es ++ fs)) h (list es) j
+    (put_full s.locals (put a.name.now (list (es ++ fs)) s.locals) a.l.weight c.extend-put.result c.extend-put.new.0 a.l.locals c.extend-put.new.1.1.0
+    (c.extend-put.ensures s.locals a.name.now es fs L F.number j X) c.in_default-put.is))
+
+pub returns : goal.returns
+returns c s v es R i W =
+    let looked-up : let a = c.args in (s : Session) → Running s a.l (slices a.principals.now a.principal_slots.now a.vars.now a.variable_slots.now a.locals.now a.local_slots.now a.assertions.now) → c.find-found.result ≡ place (map variable_row s.locals) a.name.now = λ s R. let a = c.args in
+    c.find-found.ensures (map variable_row s.locals) (variables_rows s.locals (take a.l.locals_len a.locals.now) a.l.locals a.local_slots.now R.local_variables) in
+    let a = c.args in
+    let b = slices a.principals.now a.principal_slots.now a.vars.now a.variable_slots.now a.locals.now a.local_slots.now a.assertions.now in
+    let t = take a.l.locals_len a.locals.now in
+    let q = looked-up s R in
+    let fs = added_by v in
+    let X = (c.elements_of-more.ensures v W).extra in
+    let k = there_below s.locals t a.l.locals a.local_slots.now R.local_variables a.name.now c.find-found.result q c.in-At.number c.in-At.start c.in-At.end c.in-At.is in
+    let F = there s.locals t a.l.locals a.local_slots.now R.local_variables a.name.now c.find-found.result q c.in-At.number c.in-At.start c.in-At.end c.in-At.is in
+    let j = in_first (value_in s.locals a.name.now) (value_in s.store.variables a.name.now) F.is_value i in
+    let L = locals_lie s a.l b R in
+    let h = both_valid L a.name.now c.in-At.number k F.number es fs j _ _ X in
+    subst (λ (z : List Element). Running (assign s a.name.now (list z)) c.with_locals.result (slices a.principals.now a.principal_slots.now a.vars.now a.variable_slots.now c.extend-put.new.0 c.extend-put.new.1.1.0 a.assertions.now)) (extend_adds es v)
+    (subst (λ (k : Layout). Running (assign s a.name.now (list (es ++ fs))) k (slices a.principals.now a.principal_slots.now a.vars.now a.variable_slots.now c.extend-put.new.0 c.extend-put.new.1.1.0 a.assertions.now)) (sym c.with_locals.ensures)
+    (local_done s a.l b R a.name.now (list (es ++ fs)) h (list es) j c.extend-put.new.0 c.extend-put.new.1.1.0 c.in-Done.n c.in-Done.w c.extend-put.auto.0
+    (put_done s.locals (put a.name.now (list (es ++ fs)) s.locals) a.l.weight c.extend-put.result c.extend-put.new.0 a.l.locals c.extend-put.new.1.1.0
+    (c.extend-put.ensures s.locals a.name.now es fs L F.number j X) c.in-Done.n c.in-Done.w c.in-Done.is)))

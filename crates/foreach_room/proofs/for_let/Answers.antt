@@ -1,0 +1,50 @@
+-- `foreach_room::for_let` meets its contract. The copies hold the same locals, and have room for the names of every let.
+-- Assumes nothing.
+use mathlib.Core.Path.{sym, ◌∙◌}
+use Prim.Native.Nat.{ℕ}
+use native.Mathlib.Omega.{arith}
+use lib.ListN.{length-replicate}
+use lib.Seq.{length-take-le}
+use Rattle.language.specs.Syntax.{Expr}
+use Rattle.language.specs.Values.{Session}
+use Rattle.lets.specs.Reaching.{texts}
+use Rattle.foreach_element.specs.Turning.{Turning}
+use Rattle.foreach_room.proofs.Aside.{copied_front, elsewhere, some_elsewhere, let_room}
+use borrow.Author.Rules.{rules}
+use Rattle.foreach_room.proofs.for_let.Goals as goal
+
+pub slice_bounds-copy-end-2 : goal.slice_bounds-copy-end-2
+slice_bounds-copy-end-2 c = sym (length-take-le _ _ c.requires.some_turning.turning.asked.in_scope)
+
+pub copy-requires : goal.copy-requires
+copy-requires c = omega (arith, length-take-le c.args.len c.args.locals.now c.requires.some_turning.turning.asked.in_scope, c.requires.some_turning.locals_short, length-replicate {A = ℕ} 90373 0)
+
+pub slice_bounds-copy_slots-end-2 : goal.slice_bounds-copy_slots-end-2
+slice_bounds-copy_slots-end-2 c = sym (length-take-le _ _ (omega (arith, c.requires.some_turning.slots_room)))
+
+pub copy_slots-requires : goal.copy_slots-requires
+copy_slots-requires c = omega (arith, length-take-le c.args.number c.args.local_slots.now (omega (arith, c.requires.some_turning.slots_room)), c.requires.some_turning.few, length-replicate {A = ℕ} 8192 0)
+
+pub make_all-requires : goal.make_all-requires
+make_all-requires c =
+    let Turns : Session → Expr → Type 0 = λ s x. let a = c.args in
+    Turning s x a.text.now (texts a.shared.now a.slots.now a.count a.locals.now a.local_slots.now) a.len a.number a.y a.e a.assertions.now a.n a.principals a.sender a.known in
+    let aside : (s : Session) (x : Expr) → Turns s x → let a = c.args in Turning s x a.text.now (texts a.shared.now a.slots.now a.count c.copy.new.0 c.copy_slots.new.0) a.len a.number a.y a.e a.assertions.now a.n a.principals a.sender a.known = λ s x I. let a = c.args in
+    elsewhere I c.copy.last.0 c.copy_slots.new.0 (copied_front _ a.locals.now a.len I.asked.in_scope c.copy.last.0 c.copy.ensures)
+    (omega (arith, c.copy.kept.0, length-replicate {A = ℕ} 90373 0, c.pre.0.locals_short)) (copied_front _ a.local_slots.now a.number (omega (arith, c.pre.0.slots_room)) c.copy_slots.new.0 c.copy_slots.ensures) in
+    let P = c.requires in
+    let p = c.copy.auto.0 ∙ length-replicate {A = ℕ} 90373 0 in
+    let q = c.copy_slots.auto.0 ∙ length-replicate {A = ℕ} 8192 0 in
+    let f = length-replicate {A = ℕ} 4096 0 in (
+      some_elsewhere P.0 c.copy.new.0 c.copy_slots.new.0 (aside P.0.session P.0.expression P.0.turning) (omega (arith, q, P.0.few)),
+      (let_room c.args.e _ _ _ _ _ _ _ _ _ c.args.number p q f f f f P.0.few, P.1),
+    )
+
+pub returns : goal.returns
+returns c s x es I h =
+    let Turns : Session → Expr → Type 0 = λ s x. let a = c.args in
+    Turning s x a.text.now (texts a.shared.now a.slots.now a.count a.locals.now a.local_slots.now) a.len a.number a.y a.e a.assertions.now a.n a.principals a.sender a.known in
+    let aside : (s : Session) (x : Expr) → Turns s x → let a = c.args in Turning s x a.text.now (texts a.shared.now a.slots.now a.count c.copy.new.0 c.copy_slots.new.0) a.len a.number a.y a.e a.assertions.now a.n a.principals a.sender a.known = λ s x I. let a = c.args in
+    elsewhere I c.copy.last.0 c.copy_slots.new.0 (copied_front _ a.locals.now a.len I.asked.in_scope c.copy.last.0 c.copy.ensures)
+    (omega (arith, c.copy.kept.0, length-replicate {A = ℕ} 90373 0, c.pre.0.locals_short)) (copied_front _ a.local_slots.now a.number (omega (arith, c.pre.0.slots_room)) c.copy_slots.new.0 c.copy_slots.ensures) in
+    (c.make_all.ensures s x es (aside s x I) h).0

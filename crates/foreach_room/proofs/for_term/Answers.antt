@@ -1,0 +1,41 @@
+-- `foreach_room::for_term` meets its contract. The copy holds the same locals, and what it leaves of their slots holds for them too.
+-- Assumes nothing.
+use mathlib.Core.Path.{refl, sym, ◌∙◌}
+use Prim.Native.Nat.{ℕ}
+use native.Mathlib.Omega.{arith}
+use lib.ListN.{length-replicate}
+use lib.Seq.{length-take-le}
+use Rattle.language.specs.Syntax.{Expr}
+use Rattle.language.specs.Values.{Session}
+use Rattle.lets.specs.Reaching.{texts}
+use Rattle.foreach_element.specs.Turning.{Turning}
+use Rattle.foreach_room.proofs.Aside.{copied_front, elsewhere, brought_back, some_elsewhere, term_room}
+use borrow.Author.Rules.{rules}
+use Rattle.foreach_room.proofs.for_term.Goals as goal
+
+pub slice_bounds-copy-end-2 : goal.slice_bounds-copy-end-2
+slice_bounds-copy-end-2 c = sym (length-take-le _ _ c.requires.some_turning.turning.asked.in_scope)
+
+pub copy-requires : goal.copy-requires
+copy-requires c = omega (arith, length-take-le c.args.len c.args.locals.now c.requires.some_turning.turning.asked.in_scope, c.requires.some_turning.locals_short, length-replicate {A = ℕ} 57605 0)
+
+pub make_all-requires : goal.make_all-requires
+make_all-requires c =
+    let Turns : Session → Expr → Type 0 = λ s x. let a = c.args in
+    Turning s x a.text.now (texts a.shared.now a.slots.now a.count a.locals.now a.local_slots.now) a.len a.number a.y a.e a.assertions.now a.n a.principals a.sender a.known in
+    let aside : (s : Session) (x : Expr) → Turns s x → let a = c.args in Turning s x a.text.now (texts a.shared.now a.slots.now a.count c.copy.new.0 a.local_slots.now) a.len a.number a.y a.e a.assertions.now a.n a.principals a.sender a.known = λ s x I. let a = c.args in
+    elsewhere I c.copy.new.0 a.local_slots.now (copied_front _ a.locals.now a.len I.asked.in_scope c.copy.new.0 c.copy.ensures)
+    (omega (arith, c.copy.auto.0, length-replicate {A = ℕ} 57605 0, c.pre.0.locals_short)) refl in
+    let P = c.requires in (
+      some_elsewhere P.0 c.copy.new.0 c.args.local_slots.now (aside P.0.session P.0.expression P.0.turning) P.0.slots_room,
+      (term_room c.args.e P.1.1 _ _ c.args.number (c.copy.auto.0 ∙ length-replicate {A = ℕ} 57605 0), P.1.0),
+    )
+
+pub returns : goal.returns
+returns c s x es I h =
+    let Turns : Session → Expr → Type 0 = λ s x. let a = c.args in
+    Turning s x a.text.now (texts a.shared.now a.slots.now a.count a.locals.now a.local_slots.now) a.len a.number a.y a.e a.assertions.now a.n a.principals a.sender a.known in
+    let aside : (s : Session) (x : Expr) → Turns s x → let a = c.args in Turning s x a.text.now (texts a.shared.now a.slots.now a.count c.copy.new.0 a.local_slots.now) a.len a.number a.y a.e a.assertions.now a.n a.principals a.sender a.known = λ s x I. let a = c.args in
+    elsewhere I c.copy.new.0 a.local_slots.now (copied_front _ a.locals.now a.len I.asked.in_scope c.copy.new.0 c.copy.ensures)
+    (omega (arith, c.copy.auto.0, length-replicate {A = ℕ} 57605 0, c.pre.0.locals_short)) refl in
+    let r = c.make_all.ensures s x es (aside s x I) h in (r.0, brought_back I c.make_all.new.1.1.1.0 c.make_all.new.1.1.1.1.1.0 r.1)

@@ -1,0 +1,15 @@
+-- `foreach_room::make_aside` meets its contract. By whether there is a let.
+-- Assumes nothing.
+use mathlib.Core.Path.{subst, sym}
+use Rattle.foreach_room.specs.Terms.{WithoutLet}
+use borrow.Author.Rules.{rules}
+use Rattle.foreach_room.proofs.make_aside.Goals as goal
+
+pub for_term-requires : goal.for_term-requires
+for_term-requires c = (c.requires.some_turning, (c.requires.some_list, subst WithoutLet (sym c.in-Term.is) tt))
+
+pub for_let-requires : goal.for_let-requires
+for_let-requires c = let both = c.requires in record { some_turning = both.0; some_list = both.1 }
+
+pub returns-in-Let : goal.returns-in-Let
+returns-in-Let c s x es I h = (c.for_let.ensures s x es I h, I)

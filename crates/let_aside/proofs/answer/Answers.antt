@@ -1,0 +1,66 @@
+use mathlib.Core.Path.{sym, ap, ◌∙◌}
+use Prim.Native.Nat.{ℕ}
+use native.Mathlib.Omega.{arith}
+use lib.ListN.{length, take, length-replicate}
+use lib.Seq.{length-take-le}
+use Rattle.language.specs.Syntax.{Expr}
+use Rattle.language.specs.Values.{Session}
+use Rattle.lets.specs.Reaching.{texts}
+use Rattle.lets.specs.Giving.{Starts}
+use Rattle.let_aside.proofs.Copies.{slots_enough, slots_front, starts_aside}
+use borrow.Author.Rules.{rules}
+use Rattle.let_aside.proofs.answer.Reads as reads
+use Rattle.let_aside.proofs.answer.Lts as lts
+use Rattle.splice.proofs.Splicing.{over_front}
+use Rattle.splice.proofs.copy_slots.Reads as copy-slots-reads
+use Rattle.lets.proofs.answer.Reads as answer-reads
+use Rattle.splice.proofs.copy.Reads as copy-reads
+use Rattle.let_aside.proofs.answer.Goals as goal
+
+pub copy-requires : goal.copy-requires
+copy-requires c = omega (arith, c.requires.some_aside.short, length-replicate {A = ℕ} 65536 0)
+
+pub slice_bounds-copy_slots-end-2 : goal.slice_bounds-copy_slots-end-2
+slice_bounds-copy_slots-end-2 c = sym (length-take-le _ _ (slots_enough c.requires.some_aside.starts))
+
+pub copy_slots-requires : goal.copy_slots-requires
+copy_slots-requires c =
+    let P = c.requires.some_aside in
+    let a = c.args in
+    omega (arith, length-take-le a.number a.local_slots.now (slots_enough P.starts), slots_enough P.starts, P.few, length-replicate {A = ℕ} 8192 0)
+
+pub answer-requires : goal.answer-requires
+answer-requires c =
+    let there : (s : Session) (x : Expr) → (let a = c.args in Starts s x a.text.now (texts a.shared.now a.slots.now a.count a.locals.now a.local_slots.now) (length a.locals.now) a.number a.at) → let a = c.args in Starts s x a.text.now (texts a.shared.now a.slots.now a.count c.copy.new.0 c.copy_slots.new.0) (length a.locals.now) a.number a.at = λ s x S. let a = c.args in
+    starts_aside S c.copy.new.0 c.copy_slots.new.0 (ap (take (length a.locals.now)) c.copy.ensures ∙ over_front _ a.locals.now)
+    (omega (arith, c.copy.auto.0, length-replicate {A = ℕ} 65536 0, c.requires.some_aside.short))
+    (slots_front _ a.local_slots.now c.copy_slots.new.0 a.number (slots_enough S) c.copy_slots.ensures) in
+    let P = c.requires in
+    let S = P.0 in
+    let a = c.args in
+    (
+      record { session = S.session; expression = S.expression; starts = there S.session S.expression S.starts; sends = S.sends; knows = tt },
+      (
+        record {
+          scope_size_lem = omega (arith, S.short, c.copy.auto.0, length-replicate {A = ℕ} 65536 0);
+          scope_small = omega (arith, c.copy.auto.0, length-replicate {A = ℕ} 65536 0);
+          slots_size = omega (arith, slots_enough S.starts, S.few, c.copy_slots.auto.0, length-replicate {A = ℕ} 8192 0);
+          slots_small = omega (arith, c.copy_slots.auto.0, length-replicate {A = ℕ} 8192 0);
+          deep = record {
+            heads_size = length-replicate {A = ℕ} 4096 0;
+            lens_size = length-replicate {A = ℕ} 4096 0;
+            counts_size = length-replicate {A = ℕ} 4096 0;
+            bounds_size = length-replicate {A = ℕ} 4096 0;
+          };
+        },
+        P.1,
+      ),
+    )
+
+pub returns : goal.returns
+returns c s x S W =
+    let there : (s : Session) (x : Expr) → (let a = c.args in Starts s x a.text.now (texts a.shared.now a.slots.now a.count a.locals.now a.local_slots.now) (length a.locals.now) a.number a.at) → let a = c.args in Starts s x a.text.now (texts a.shared.now a.slots.now a.count c.copy.new.0 c.copy_slots.new.0) (length a.locals.now) a.number a.at = λ s x S. let a = c.args in
+    starts_aside S c.copy.new.0 c.copy_slots.new.0 (ap (take (length a.locals.now)) c.copy.ensures ∙ over_front _ a.locals.now)
+    (omega (arith, c.copy.auto.0, length-replicate {A = ℕ} 65536 0, c.requires.some_aside.short))
+    (slots_front _ a.local_slots.now c.copy_slots.new.0 a.number (slots_enough S) c.copy_slots.ensures) in
+    (c.answer.ensures s x (there s x S) W tt).0

@@ -1,0 +1,42 @@
+use mathlib.Core.Path.{sym, ap, subst, ◌∙◌}
+use Rattle.syntax.specs.Values.{term_read_meant, TermPlaced}
+use Rattle.lets.specs.Reaching.{texts}
+use borrow.Author.Rules.{rules}
+use Rattle.lets.proofs.step.Reads as reads
+use Rattle.lets.proofs.step.Lts as lts
+use Rattle.lets.proofs.enter.Reads as enter-reads
+use Rattle.lets.proofs.leave.Reads as leave-reads
+use Rattle.term_readers.proofs.term_at.Reads as term-at-reads
+use Rattle.lets.proofs.step.Goals as goal
+
+pub leave-requires : goal.leave-requires
+leave-requires c =
+    let P = c.requires in
+    let t = c.args.text.now in record {
+      some_left = P.0;
+      at_term = (
+        record { meant = sym (ap (term_read_meant t) c.in-Found.is) ∙ c.term_at-read.ensures.meant; placed = subst (TermPlaced t c.args.at.p) c.in-Found.is c.term_at-read.ensures.placed },
+        P.1.0,
+        P.1.1,
+      );
+    }
+
+pub enter-requires : goal.enter-requires
+enter-requires c =
+    let P = c.requires.some_left in
+    let a = c.args in
+    let t = a.text.now in
+    record {
+      session = P.session;
+      expression = P.expression;
+      texts_lent = texts a.shared.now a.slots.now a.count a.scope.now a.local_slots.now;
+      base = P.base;
+      number = P.number;
+      reached = P.reached;
+      sized = P.sized;
+      no_term = sym c.term_at-read.ensures.meant ∙ ap (term_read_meant t) c.in-No.is;
+      short = c.requires.text_len_bound.0;
+    }
+
+pub returns-in-No : goal.returns-in-No
+returns-in-No c s x base number R Z W = c.enter.ensures s x _ base number R _

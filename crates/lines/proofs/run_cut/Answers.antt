@@ -1,0 +1,27 @@
+use native.Mathlib.Omega.{arith}
+use Rattle.text.specs.Meaning.{in_alphabet}
+use Rattle.lines.proofs.Cuts.{found, is_field}
+use borrow.Author.Rules.{rules}
+use Rattle.lines.proofs.run_cut.Reads as reads
+use Rattle.lines.proofs.run_cut.Lts as lts
+use Rattle.text.proofs.run_end.Reads as run-end-reads
+use Rattle.lines.proofs.run_cut.Goals as goal
+
+pub returns-then-e-text : goal.returns-then-e-text
+returns-then-e-text c =
+    λ x r h d.
+    let a = c.args in
+    let f = found (in_alphabet a.a) a.stop c.requires.1 a.text.now a.at c.run_end-e.result c.requires.0 c.run_end-e.ensures.ends x r h d in
+    omega (arith, f.0, c.if-e-text.true)
+
+pub returns-then-text-e : goal.returns-then-text-e
+returns-then-text-e c =
+    λ x r h d.
+    let a = c.args in
+    let f = found (in_alphabet a.a) a.stop c.requires.1 a.text.now a.at c.run_end-e.result c.requires.0 c.run_end-e.ensures.ends x r h d in
+    c.if-text-e.true f.1
+
+pub returns : goal.returns
+returns c =
+    let a = c.args in
+    is_field (in_alphabet a.a) a.stop c.requires.1 a.text.now a.at c.run_end-e.result c.requires.0 c.run_end-e.ensures.ends (omega arith) c.if-text-e.false

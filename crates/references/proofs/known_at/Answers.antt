@@ -1,0 +1,40 @@
+use mathlib.Core.Path.{sym, subst, ◌∙◌}
+use native.Mathlib.Omega.{arith}
+use Rattle.language.specs.Text.{all}
+use Rattle.language.specs.Bytes.{word_byte}
+use Rattle.lines.specs.Cuts.{CutMeant, Field}
+use Rattle.references.proofs.Members.{member_word, unknown, is_known}
+use borrow.Author.Rules.{rules}
+use Rattle.references.proofs.known_at.Reads as reads
+use Rattle.references.proofs.known_at.Lts as lts
+use Rattle.lines.proofs.run_cut.Reads as run-cut-reads
+use Rattle.store.proofs.index.find.Reads as find-reads
+use Rattle.references.proofs.known_at.Goals as goal
+
+pub returns-in_default : goal.returns-in_default
+returns-in_default c =
+    λ rows H x r h d.
+    let a = c.args in
+    subst (λ k. CutMeant (all word_byte) a.stop a.text.now a.at k) c.in_default.is c.run_cut-cut.ensures x r
+    (member_word rows a.text.now a.from a.to a.count a.slots.now H x h) d
+
+pub slice_bounds-find-count-2 : goal.slice_bounds-find-count-2
+slice_bounds-find-count-2 c =
+    let field : let a = c.args in Field (all word_byte) a.stop a.text.now a.at c.in-At.e = let a = c.args in subst (λ k. CutMeant (all word_byte) a.stop a.text.now a.at k) c.in-At.is c.run_cut-cut.ensures in
+    let f = field in omega (arith, f.low)
+
+pub returns-in_default-found : goal.returns-in_default-found
+returns-in_default-found c =
+    let field : let a = c.args in Field (all word_byte) a.stop a.text.now a.at c.in-At.e = let a = c.args in subst (λ k. CutMeant (all word_byte) a.stop a.text.now a.at k) c.in-At.is c.run_cut-cut.ensures in
+    λ rows H.
+    let a = c.args in
+    unknown rows a.text.now a.from a.to a.count a.slots.now H a.stop c.requires.outside a.at c.in-At.e field
+    (sym c.in_default-found.is ∙ c.find-found.ensures rows H)
+
+pub returns : goal.returns
+returns c =
+    let field : let a = c.args in Field (all word_byte) a.stop a.text.now a.at c.in-At.e = let a = c.args in subst (λ k. CutMeant (all word_byte) a.stop a.text.now a.at k) c.in-At.is c.run_cut-cut.ensures in
+    λ rows H.
+    let a = c.args in
+    is_known rows a.text.now a.from a.to a.count a.slots.now H a.stop c.requires.outside a.at c.in-At.e field
+    _ _ _ (sym c.in-At-found.is ∙ c.find-found.ensures rows H)

@@ -1,0 +1,31 @@
+use mathlib.Core.Path.{◌≡◌, refl, ap, ◌∙◌}
+use Prim.Native.Nat.{ℕ, ◌-◌, ◌≤◌}
+use native.Mathlib.Nat.{le_antisymm}
+use native.Mathlib.Numerals.{add-one}
+use native.Mathlib.Omega.{arith}
+use borrow.Author.Rules.{rules}
+use lib.ListN.{length, length-set}
+use lib.Seq.{paste, paste-zero, paste-suc}
+use Rattle.splice.proofs.Splicing.{paste_over}
+use Rattle.splice.proofs.copy_slots.Reads as reads
+use Rattle.splice.proofs.copy_slots.Lts as lts
+use Rattle.splice.proofs.copy_slots.Goals as goal
+
+pub loop-k-init : goal.loop-k-init
+loop-k-init c = let a = c.args in (search rules, paste-zero a.dst.now a.at a.src.now, refl)
+
+pub loop-k-preserved : goal.loop-k-preserved
+loop-k-preserved c =
+    let l = c.loop-k in
+    let a = c.args in
+    let e : l.dst ≡ paste a.dst.now a.at a.src.now l.k = l.invariant.1 in
+    (omega arith, rw (e, add-one) (paste-suc a.dst.now a.at a.src.now l.k 0 (omega arith) (omega arith)), simp length-set l.invariant.2)
+
+pub shape_of-dst : goal.shape_of-dst
+shape_of-dst c = c.loop-k.invariant.2
+
+pub returns : goal.returns
+returns c =
+    let l = c.loop-k in
+    let a = c.args in
+    l.invariant.1 ∙ ap (λ (k : ℕ). paste a.dst.now a.at a.src.now k) (le_antisymm l.invariant.0 c.loop-k-test.false) ∙ paste_over a.dst.now a.src.now a.at

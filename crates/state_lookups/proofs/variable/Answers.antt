@@ -1,0 +1,67 @@
+use mathlib.Core.Path.{◌≡◌, refl, sym, subst, ◌∙◌}
+use mathlib.Core.List.{List, map}
+use Prim.Native.Nat.{◌<◌}
+use native.Mathlib.Omega.{arith}
+use Rattle.language.specs.State.{Variable}
+use Rattle.store.specs.Held.{Variables}
+use Rattle.store.specs.Rows.{place, variable_row}
+use Rattle.store.specs.declared.index.Found.TheVariants.{At}
+use Rattle.store.proofs.Holders.{variables_rows, some_variables}
+use Rattle.store.proofs.Answers.{variable_found}
+use Rattle.splice.proofs.Splicing.{length_part}
+use Rattle.state_lookups.specs.Looks.{Look, Says}
+use Rattle.state_lookups.proofs.Lookups.{variable_gone, variable_here}
+use borrow.Author.Rules.{rules}
+use Rattle.state_lookups.proofs.variable.Goals as goal
+
+pub find-place-requires : goal.find-place-requires
+find-place-requires c =
+    let a = c.args in
+    let p = c.requires.0 in
+    some_variables p.rows a.text.now a.count a.slots.now p.held
+
+pub returns-in_default : goal.returns-in_default
+returns-in_default c vs W =
+    let a = c.args in
+    subst (λ (l : Look). Says l a.out.now a.out.now 4294967298)
+    (sym (variable_gone vs a.name.now (sym c.in_default.is ∙ c.find-place.ensures (map variable_row vs) (variables_rows vs a.text.now a.count a.slots.now W))))
+    (record { number_is = refl; written = refl })
+
+pub value_of-span-requires : goal.value_of-span-requires
+value_of-span-requires c =
+    let here : (vs : List Variable) → let a = c.args in Variables vs a.text.now a.count a.slots.now → At c.in-At.number c.in-At.start c.in-At.end ≡ place (map variable_row vs) a.name.now = λ vs W. let a = c.args in
+    sym c.in-At.is ∙ c.find-place.ensures (map variable_row vs) (variables_rows vs a.text.now a.count a.slots.now W) in
+    let below : c.in-At.number < c.args.count = let a = c.args in
+    let p = c.pre.0 in
+    let F = variable_found p.rows a.text.now a.count a.slots.now p.held a.name.now c.in-At.number c.in-At.start c.in-At.end (here p.rows p.held) in
+    omega (arith, F.below, p.held.counted) in
+    let a = c.args in
+    let p = c.requires.0 in
+    (some_variables p.rows a.text.now a.count a.slots.now p.held, below)
+
+pub slice_bounds-write-count : goal.slice_bounds-write-count
+slice_bounds-write-count c = (c.value_of_lem.ensures c.requires.0.rows c.requires.0.held).order
+
+pub write-requires : goal.write-requires
+write-requires c =
+    let here : (vs : List Variable) → let a = c.args in Variables vs a.text.now a.count a.slots.now → At c.in-At.number c.in-At.start c.in-At.end ≡ place (map variable_row vs) a.name.now = λ vs W. let a = c.args in
+    sym c.in-At.is ∙ c.find-place.ensures (map variable_row vs) (variables_rows vs a.text.now a.count a.slots.now W) in
+    let below : c.in-At.number < c.args.count = let a = c.args in
+    let p = c.pre.0 in
+    let F = variable_found p.rows a.text.now a.count a.slots.now p.held a.name.now c.in-At.number c.in-At.start c.in-At.end (here p.rows p.held) in
+    omega (arith, F.below, p.held.counted) in
+    let p = c.requires in
+    let g = c.value_of_lem.result in
+    let w = c.value_of_lem.ensures p.0.rows p.0.held in
+    let n = length_part c.args.text.now g.start g.end w.order w.within in
+    (omega (arith, below, p.1), omega (arith, n, w.within, p.2), omega (arith, n, w.within, p.2, p.3))
+
+pub returns : goal.returns
+returns c vs W =
+    let here : (vs : List Variable) → let a = c.args in Variables vs a.text.now a.count a.slots.now → At c.in-At.number c.in-At.start c.in-At.end ≡ place (map variable_row vs) a.name.now = λ vs W. let a = c.args in
+    sym c.in-At.is ∙ c.find-place.ensures (map variable_row vs) (variables_rows vs a.text.now a.count a.slots.now W) in
+    let a = c.args in
+    let g = c.value_of_lem.result in
+    subst (λ (l : Look). Says l a.out.now c.write.new.1.1.0 c.write.result)
+    (sym (variable_here vs a.name.now c.in-At.number c.in-At.start c.in-At.end (here vs W) a.text.now g.start g.end (c.value_of_lem.ensures vs W)))
+    c.write.ensures

@@ -1,0 +1,71 @@
+use mathlib.Core.Path.{◌≡◌, refl, sym, ap, ◌∙◌}
+use mathlib.Core.Logic.{⊎_elim}
+use mathlib.Core.List.{[], ◌∷◌}
+use mathlib.Core.Bool.{true, false}
+use Prim.Native.Nat.{◌+◌}
+use native.Mathlib.Omega.{arith}
+use lib.ListN.{get_or, drop_of_length-le}
+use borrow.Author.Tests.{ne_eqb}
+use Rattle.language.specs.Text.{bytes}
+use Rattle.language.specs.Bytes.{mark, ◌is◌, ◌∈◌}
+use Rattle.text.proofs.Classes.{in_interval, at_keys, same_bool, same_bool_lem}
+use Rattle.tokens.proofs.Lexing.{class_mark, one_mark, two_marks}
+use borrow.Author.Rules.{rules}
+use Rattle.tokens.proofs.token.mark_at.Goals as goal
+
+pub quoted_at-requires : goal.quoted_at-requires
+quoted_at-requires c =
+    record {
+      at_in_bounds = c.requires.at_in_bounds;
+      at_value = c.requires.at_value ∙ ap mark c.in-34.is;
+    }
+
+pub returns-then-next-text : goal.returns-then-next-text
+returns-then-next-text c =
+    let other : (c.args.m ∈ bytes "=.,{}()") ≡ false = let m = c.args.m in
+    ⊎_elim
+    (λ h. sym (in_interval same_bool same_bool_lem (λ _. false) (λ x. x ∈ bytes "=.,{}()") 0 40 (44 ∷ 46 ∷ 61 ∷ 123 ∷ 125 ∷ []) tt m (omega arith) (omega (arith, h.taken)) c.in-34.rest.1))
+    (λ h. sym (in_interval same_bool same_bool_lem (λ _. false) (λ x. x ∈ bytes "=.,{}()") 42 214 (44 ∷ 46 ∷ 61 ∷ 123 ∷ 125 ∷ []) tt m (omega (arith, h.1.left)) (omega (arith, c.ranges)) c.in-34.rest.1))
+    c.if-m-lt40.branch in
+    let t = c.args.text.now in
+    let i = c.args.at in
+    let m = c.args.m in
+    let two = two_marks t i c.requires.at_in_bounds m c.requires.at_value (ne_eqb m 34 c.in-34.rest.0.1) other in record {
+      meant = two ∙ rw (drop_of_length-le t {i = i + 1} (omega arith));
+      placed = tt;
+    }
+
+pub pair_at-requires : goal.pair_at-requires
+pair_at-requires c =
+    let other : (c.args.m ∈ bytes "=.,{}()") ≡ false = let m = c.args.m in
+    ⊎_elim
+    (λ h. sym (in_interval same_bool same_bool_lem (λ _. false) (λ x. x ∈ bytes "=.,{}()") 0 40 (44 ∷ 46 ∷ 61 ∷ 123 ∷ 125 ∷ []) tt m (omega arith) (omega (arith, h.taken)) c.in-34.rest.1))
+    (λ h. sym (in_interval same_bool same_bool_lem (λ _. false) (λ x. x ∈ bytes "=.,{}()") 42 214 (44 ∷ 46 ∷ 61 ∷ 123 ∷ 125 ∷ []) tt m (omega (arith, h.1.left)) (omega (arith, c.ranges)) c.in-34.rest.1))
+    c.if-m-lt40.branch in
+    let t = c.args.text.now in
+    let i = c.args.at in
+    let m = c.args.m in
+    let two = two_marks t i c.requires.at_in_bounds m c.requires.at_value (ne_eqb m 34 c.in-34.rest.0.1) other in
+    (omega (arith, c.requires.at_in_bounds), (c.requires.at_value, (refl, two)))
+
+pub returns-in-61 : goal.returns-in-61
+returns-in-61 c =
+    let t = c.args.text.now in
+    let i = c.args.at in
+    let m = c.args.m in
+    let quote : (m is "\"") ≡ false = sym (at_keys same_bool same_bool_lem (λ _. false) (λ x. x is "\"") (44 ∷ 46 ∷ 61 ∷ 123 ∷ 125 ∷ []) tt m c.in-61.is) in
+    let single : (m ∈ bytes "=.,{}()") ≡ true = sym (at_keys same_bool same_bool_lem (λ _. true) (λ x. x ∈ bytes "=.,{}()") (44 ∷ 46 ∷ 61 ∷ 123 ∷ 125 ∷ []) tt m c.in-61.is) in record {
+      meant = one_mark t i c.requires.at_in_bounds m c.requires.at_value quote single (class_mark (get_or t i 0) m c.requires.at_value);
+      placed = omega (arith, c.requires);
+    }
+
+pub returns-in-61-2 : goal.returns-in-61-2
+returns-in-61-2 c =
+    let t = c.args.text.now in
+    let i = c.args.at in
+    let m = c.args.m in
+    let quote : (m is "\"") ≡ false = sym (in_interval same_bool same_bool_lem (λ _. false) (λ x. x is "\"") 40 2 [] tt m (omega arith) (omega arith) (λ z. z)) in
+    let single : (m ∈ bytes "=.,{}()") ≡ true = sym (in_interval same_bool same_bool_lem (λ _. true) (λ x. x ∈ bytes "=.,{}()") 40 2 [] tt m (omega arith) (omega arith) (λ z. z)) in record {
+      meant = one_mark t i c.requires.at_in_bounds m c.requires.at_value quote single (class_mark (get_or t i 0) m c.requires.at_value);
+      placed = omega (arith, c.requires);
+    }

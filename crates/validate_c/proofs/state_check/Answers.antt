@@ -1,0 +1,44 @@
+use mathlib.Core.Path.{◌≡◌, sym, subst}
+use mathlib.Core.List.{List}
+use Prim.Native.Nat.{ℕ}
+use native.Mathlib.Omega.{arith}
+use lib.ListN.{length}
+use Rattle.language.specs.State.{Store}
+use Rattle.validate.specs.Checked.{Understood, CheckedMeant}
+use Rattle.validate_c.specs.Reported.{figures}
+use Rattle.state_lookups.specs.Looks.{Look, found, Says}
+use Rattle.validate_c.proofs.Reporting.{no_size, no_room, formed, not_formed, figures_are}
+use borrow.Author.Rules.{rules}
+use Rattle.validate_c.proofs.state_check.Goals as goal
+
+pub returns-then-state-ne65536 : goal.returns-then-state-ne65536
+returns-then-state-ne65536 c =
+    let look : Store → Look = λ s. found 0 (figures s) in
+    no_size 2054 look.args.state.now c.args.out.now c.if-state-ne65536.true
+
+pub returns-then-out-lt2054 : goal.returns-then-out-lt2054
+returns-then-out-lt2054 c =
+    let look : Store → Look = λ s. found 0 (figures s) in
+    no_room 2054 look.args.state.now c.args.out.now c.if-out-lt2054.true
+
+pub figures-requires : goal.figures-requires
+figures-requires c =
+    let understood : Understood c.args.state.now c.check-checked.new.1.0 c.check-checked.new.1.1.0 c.check-checked.new.1.1.1.0 c.in-Good.parts = subst (λ k. CheckedMeant c.args.state.now c.check-checked.new.1.0 c.check-checked.new.1.1.0 c.check-checked.new.1.1.1.0 k) c.in-Good.is c.check-checked.ensures in
+    let U = understood in
+    let k : length c.check-checked.new.1.1.1.0 ≡ 2048 = c.check-checked.auto.1.1.1.0 in
+    (U.represents.assertions.within, omega (arith, k), c.if-out-lt2054.false)
+
+pub returns-in-Good : goal.returns-in-Good
+returns-in-Good c =
+    let look : Store → Look = λ s. found 0 (figures s) in
+    let understood : Understood c.args.state.now c.check-checked.new.1.0 c.check-checked.new.1.1.0 c.check-checked.new.1.1.1.0 c.in-Good.parts = subst (λ k. CheckedMeant c.args.state.now c.check-checked.new.1.0 c.check-checked.new.1.1.0 c.check-checked.new.1.1.1.0 k) c.in-Good.is c.check-checked.ensures in
+    let U = understood in
+    formed 2054 look.args.state.now c.args.out.now c.if-state-ne65536.false c.if-out-lt2054.false U.state U.decoded
+    (subst (λ (l : List ℕ). Says (found 0 l) c.args.out.now c.figures.new.1.1.0 c.figures.result) (sym (figures_are _ _ _ _ _ _ U.represents))
+    c.figures.ensures)
+
+pub returns-in-Bad : goal.returns-in-Bad
+returns-in-Bad c =
+    let look : Store → Look = λ s. found 0 (figures s) in
+    not_formed 2054 look.args.state.now c.args.out.now c.if-state-ne65536.false c.if-out-lt2054.false
+    (subst (λ k. CheckedMeant c.args.state.now c.check-checked.new.1.0 c.check-checked.new.1.1.0 c.check-checked.new.1.1.1.0 k) c.in-Bad.is c.check-checked.ensures)

@@ -1,0 +1,36 @@
+use mathlib.Core.Path.{subst}
+use native.Mathlib.Omega.{arith}
+use Rattle.validate.specs.Checked.{Understood, CheckedMeant}
+use Rattle.validate_c.proofs.Reporting.{count_refused, count_bad, count_good, decoded_valid}
+use borrow.Author.Rules.{rules}
+use Rattle.validate_c.proofs.state_principal_count.Reads as reads
+use Rattle.validate_c.proofs.state_principal_count.Lts as lts
+use Rattle.state_lookups.proofs.count.Reads as count-reads
+use Rattle.validate.proofs.check.Reads as check-reads
+use Rattle.validate_c.proofs.state_principal_count.Goals as goal
+
+pub returns-then-state-ne65536 : goal.returns-then-state-ne65536
+returns-then-state-ne65536 c = count_refused c.args.state.now c.args.name.now c.if-state-ne65536.true
+
+pub slice_bounds-count-count : goal.slice_bounds-count-count
+slice_bounds-count-count c =
+    let understood : Understood c.args.state.now c.check-checked.new.1.0 c.check-checked.new.1.1.0 c.check-checked.new.1.1.1.0 c.in-Good.parts = subst (λ k. CheckedMeant c.args.state.now c.check-checked.new.1.0 c.check-checked.new.1.1.0 c.check-checked.new.1.1.1.0 k) c.in-Good.is c.check-checked.ensures in
+    let R = understood.represents in omega (arith, R.principals_order, R.principals_within)
+
+pub count-requires : goal.count-requires
+count-requires c =
+    let understood : Understood c.args.state.now c.check-checked.new.1.0 c.check-checked.new.1.1.0 c.check-checked.new.1.1.1.0 c.in-Good.parts = subst (λ k. CheckedMeant c.args.state.now c.check-checked.new.1.0 c.check-checked.new.1.1.0 c.check-checked.new.1.1.1.0 k) c.in-Good.is c.check-checked.ensures in
+    let U = understood in
+    record { principals = U.state.principals; held = U.represents.principals; valid = decoded_valid c.args.state.now U.state U.decoded }
+
+pub returns-in-Good : goal.returns-in-Good
+returns-in-Good c =
+    let understood : Understood c.args.state.now c.check-checked.new.1.0 c.check-checked.new.1.1.0 c.check-checked.new.1.1.1.0 c.in-Good.parts = subst (λ k. CheckedMeant c.args.state.now c.check-checked.new.1.0 c.check-checked.new.1.1.0 c.check-checked.new.1.1.1.0 k) c.in-Good.is c.check-checked.ensures in
+    let U = understood in
+    count_good c.args.state.now c.args.name.now c.if-state-ne65536.false U.state _ U.decoded
+    (c.count.ensures U.state.principals U.represents.principals (decoded_valid c.args.state.now U.state U.decoded))
+
+pub returns-in-Bad : goal.returns-in-Bad
+returns-in-Bad c =
+    count_bad c.args.state.now c.args.name.now c.if-state-ne65536.false
+    (subst (λ k. CheckedMeant c.args.state.now c.check-checked.new.1.0 c.check-checked.new.1.1.0 c.check-checked.new.1.1.1.0 k) c.in-Bad.is c.check-checked.ensures)
