@@ -2,7 +2,7 @@
 -- Assumes nothing.
 use mathlib.Core.Path.{◌≡◌, refl, ap, sym, ◌∙◌}
 use mathlib.Core.Bool.{Bool, true, false, ◌||◌}
-use mathlib.Core.List.{List, [], ◌∷◌, ◌++◌, map_append}
+use mathlib.Core.List.{List, [], ◌∷◌, ◌++◌, map-append}
 use Prim.Native.Nat.{ℕ, ◌+◌, ◌≤◌, ◌<◌}
 use native.Mathlib.Numerals.{add-one}
 use native.Mathlib.Omega.{arith}
@@ -50,10 +50,10 @@ module _ (xs : List Name) (q : Name) (r : Right) (p : Name) where
   pub on_next : (i : ℕ) → i < length xs → assertions_on (take (i + 1) xs) q r p ≡ assertions_on (take i xs) q r p ++ (assertion_at i ∷ [])
   on_next i h =
       ap (λ (n : ℕ). assertions_on (take n xs) q r p) (add-one i) ∙ ap (λ (l : List Name). assertions_on l q r p) (take-suc xs i [] h)
-      ∙ map_append (λ x. record { variable = x; from = q; right = r; to = p }) (take i xs) (get_or xs i [] ∷ [])
+      ∙ map-append (λ x. record { variable = x; from = q; right = r; to = p }) (take i xs) (get_or xs i [] ∷ [])
 
   -- the first of them, and the rest
   pub on_split : (i : ℕ) → assertions_on xs q r p ≡ assertions_on (take i xs) q r p ++ assertions_on (drop i xs) q r p
   on_split i =
       ap (λ (l : List Name). assertions_on l q r p) (sym (take-append-drop i xs))
-      ∙ map_append (λ x. record { variable = x; from = q; right = r; to = p }) (take i xs) (drop i xs)
+      ∙ map-append (λ x. record { variable = x; from = q; right = r; to = p }) (take i xs) (drop i xs)

@@ -2,7 +2,7 @@
 -- Assumes nothing.
 use mathlib.Core.Path.{◌≡◌, sym, ap, ◌∙◌}
 use mathlib.Core.Bool.{Bool, true, false}
-use mathlib.Core.List.{List, [], ◌∷◌, ◌++◌, map, map_append, append-nil}
+use mathlib.Core.List.{List, [], ◌∷◌, ◌++◌, map, map-append, append-nil}
 use Prim.Native.Nat.{ℕ, ◌+◌, ◌<◌}
 use native.Mathlib.Numerals.{add-one}
 use lib.Dec.{T}
@@ -22,7 +22,7 @@ module _ (f : Name → Bool) (l : List Name) where
   passing_next : (k : ℕ) → k < length l → passing (k + 1) ≡ passing k ++ map (position l) (keep f (get_or l k [] ∷ []))
   passing_next k h =
       ap passing (add-one k) ∙ ap (λ (m : List Name). map (position l) (keep f m)) (take-suc l k [] h)
-      ∙ ap (map (position l)) (keep_append f (take k l) (get_or l k [] ∷ [])) ∙ map_append (position l) (keep f (take k l)) (keep f (get_or l k [] ∷ []))
+      ∙ ap (map (position l)) (keep_append f (take k l) (get_or l k [] ∷ [])) ∙ map-append (position l) (keep f (take k l)) (keep f (get_or l k [] ∷ []))
 
   pub passing_more : (k : ℕ) → k < length l → T (distinct l) → f (get_or l k []) ≡ true → passing k ++ (k ∷ []) ≡ passing (k + 1)
   passing_more k h d e =

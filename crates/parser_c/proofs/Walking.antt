@@ -4,7 +4,7 @@ use Prim.Native.Nat.{ℕ, suc, ◌+◌, ◌≤◌, ◌<◌}
 use native.Mathlib.Numerals.{add-one}
 use native.Mathlib.Omega.{arith}
 use mathlib.Core.Option.{Option, none, some, some_inj}
-use mathlib.Core.List.{List, [], ◌∷◌, ◌++◌, map, append_assoc, append-nil, map_append}
+use mathlib.Core.List.{List, [], ◌∷◌, ◌++◌, map, append_assoc, append-nil, map-append}
 use mathlib.Core.Bool.{true, false}
 use Rattle.language.specs.Grammar.{Opening}
 use Rattle.language.specs.Programs.{parse}
@@ -116,7 +116,7 @@ module _ (t : Text) (at : ℕ) (old now : Text) (p n : ℕ) (short : length t �
         ∙ ap (λ y. map kind_of g.passed ++ y ∷ drop (suc n) old) (code_kind t k f.command f.meant)
         ∙ ap (λ m. map kind_of g.passed ++ kind_of f.command ∷ drop m old) (sym (add-one n))
         ∙ sym (append_assoc (map kind_of g.passed) (kind_of f.command ∷ []) (drop (n + 1) old))
-        ∙ ap (λ y. y ++ drop (n + 1) old) (sym (map_append kind_of g.passed (f.command ∷ [])))
+        ∙ ap (λ y. y ++ drop (n + 1) old) (sym (map-append kind_of g.passed (f.command ∷ [])))
 
     passed_all : body_from t at ≡ some ((g.passed ++ (f.command ∷ [])) ++ next.others)
     passed_all = g.all ∙ ap (λ y. some (g.passed ++ y)) next.together ∙ ap some (sym (append_assoc g.passed (f.command ∷ []) next.others))
