@@ -140,9 +140,21 @@ def by_clause(body, names):
         if re.match(r"\s*(?:search|grind|omega|elim|λ|record|absurd|cc|rw|simp|subst)\b", last):
             return body
         return lead + (" " if lead else "") + "let both = " + last.strip() + " in record { " + "; ".join(f"{n} = both.{i}" for i, n in enumerate(names)) + " }"
+    while len(members) < len(names) and parts(members[-1]) and len(parts(members[-1])) > 1:
+        members = [*members[:-1], *parts(members[-1])]
     if len(members) != len(names):
         return body
     return lead + (" " if lead else "") + "record {\n      " + ";\n      ".join(f"{n} = {x}" for n, x in zip(names, members)) + ";\n    }"
+
+
+def by_name(rest, names):
+    """The path behind several clauses, which were nested pairs: .0, .1.0, .1.1 of three."""
+    n = len(names)
+    for k in range(n):
+        want = ["1"] * k + (["0"] if k < n - 1 else [])
+        if rest[: len(want)] == want:
+            return [names[k], *rest[len(want):]]
+    return None
 
 
 class Function:
@@ -189,8 +201,8 @@ class Function:
             return []
         first = plain(segs[0])
         rest = segs[1:]
-        if first == "requires" and rest and rest[0].isdigit() and len(self.own["requires"]) > 1:
-            return ["requires", self.own["requires"][int(rest[0])], *rest[1:]]
+        if first == "requires" and rest and len(self.own["requires"]) > 1:
+            return ["requires", *(by_name(rest, self.own["requires"]) or rest)]
         for n in range(len(rest), 0, -1):
             hit = self.arm.get((first, tuple(rest[:n])))
             if hit:
@@ -200,10 +212,8 @@ class Function:
             out = [new[0]]
             if rest and (first, rest[0]) in self.sub:
                 rest = [self.sub[(first, rest[0])], *rest[1:]]
-            if rest[:1] == ["ensures"] and first in self.clause and len(rest) > 1 and rest[1].isdigit():
-                names = self.clause[first]
-                if int(rest[1]) < len(names) and len(names) > 1:
-                    rest = ["ensures", names[int(rest[1])], *rest[2:]]
+            if rest[:1] == ["ensures"] and first in self.clause and len(rest) > 1 and len(self.clause[first]) > 1:
+                rest = ["ensures", *(by_name(rest[1:], self.clause[first]) or rest[1:])]
             return out + rest
         return [segs[0], *rest]
 
@@ -213,7 +223,9 @@ def is_turned_whole(segs, fn):
     left = [s for s in segs if s != "before"]
     if not left:
         return True
-    if left[0] in ("args", "requires", "ranges"):
+    if left[0] == "requires":
+        return len(fn.own["requires"]) > 1
+    if left[0] in ("args", "ranges"):
         return False
     if plain(left[0]) in ("loop",) or re.fullmatch(r"loop\d*", left[0]):
         return False

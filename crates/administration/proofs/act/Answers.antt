@@ -31,41 +31,44 @@ use Rattle.administration.proofs.act.Goals as goal
 
 pub create_principal-v-requires : goal.create_principal-v-requires
 create_principal-v-requires c =
-    let spoken : (k : Read.Administration) → c.args.c ≡ k → SomeCommand c.args.text.now (Administer k) = λ k e. known (λ (d : Read.Administration). SomeCommand c.args.text.now (Administer d)) c.requires.labels_len.1.0 e in
+    let spoken : (k : Read.Administration) → c.args.c ≡ k → SomeCommand c.args.text.now (Administer k) = λ k e. known (λ (d : Read.Administration). SomeCommand c.args.text.now (Administer d)) c.requires.some_command.0 e in
     let t = c.args.text.now in
-    let S = spoken (Is.CreatePrincipal c.in-CreatePrincipal.p c.in-CreatePrincipal.w) c.in-CreatePrincipal.is in
-    (c.requires.some_running, ((S.within.0, S.within.1, valid_as (create_principal (part t c.in-CreatePrincipal.p) (part t c.in-CreatePrincipal.w)) refl S, c.requires.labels_len.1.1), c.requires.labels_len.0))
+    let S = spoken (Is.CreatePrincipal c.in-CreatePrincipal.p c.in-CreatePrincipal.w) c.in-CreatePrincipal.is in record {
+      some_running = c.requires.some_running;
+      within = (S.within.0, S.within.1, valid_as (create_principal (part t c.in-CreatePrincipal.p) (part t c.in-CreatePrincipal.w)) refl S, c.requires.some_command.1);
+      targets_len = c.requires.labels_len;
+    }
 
 pub change_password-v-requires : goal.change_password-v-requires
 change_password-v-requires c =
-    let spoken : (k : Read.Administration) → c.args.c ≡ k → SomeCommand c.args.text.now (Administer k) = λ k e. known (λ (d : Read.Administration). SomeCommand c.args.text.now (Administer d)) c.requires.labels_len.1.0 e in
+    let spoken : (k : Read.Administration) → c.args.c ≡ k → SomeCommand c.args.text.now (Administer k) = λ k e. known (λ (d : Read.Administration). SomeCommand c.args.text.now (Administer d)) c.requires.some_command.0 e in
     let t = c.args.text.now in
     let S = spoken (Is.ChangePassword c.in-ChangePassword.p c.in-ChangePassword.w) c.in-ChangePassword.is in record {
       some_running = c.requires.some_running;
-      within = (S.within.0, S.within.1, valid_as (change_password (part t c.in-ChangePassword.p) (part t c.in-ChangePassword.w)) refl S, c.requires.labels_len.1.1);
+      within = (S.within.0, S.within.1, valid_as (change_password (part t c.in-ChangePassword.p) (part t c.in-ChangePassword.w)) refl S, c.requires.some_command.1);
     }
 
 pub set_delegation-v-requires : goal.set_delegation-v-requires
 set_delegation-v-requires c =
-    let spoken : (k : Read.Administration) → c.args.c ≡ k → SomeCommand c.args.text.now (Administer k) = λ k e. known (λ (d : Read.Administration). SomeCommand c.args.text.now (Administer d)) c.requires.labels_len.1.0 e in
+    let spoken : (k : Read.Administration) → c.args.c ≡ k → SomeCommand c.args.text.now (Administer k) = λ k e. known (λ (d : Read.Administration). SomeCommand c.args.text.now (Administer d)) c.requires.some_command.0 e in
     let t = c.args.text.now in
     let S = spoken (Is.SetDelegation c.in-SetDelegation.x c.in-SetDelegation.q c.in-SetDelegation.r c.in-SetDelegation.p) c.in-SetDelegation.is in record {
       some_running = c.requires.some_running;
-      target_within = (S.within.0, S.within.1, S.within.2, omega (arith, c.requires.labels_len.0));
+      target_within = (S.within.0, S.within.1, S.within.2, omega (arith, c.requires.labels_len));
     }
 
 pub delete_delegation-v-requires : goal.delete_delegation-v-requires
 delete_delegation-v-requires c =
-    let spoken : (k : Read.Administration) → c.args.c ≡ k → SomeCommand c.args.text.now (Administer k) = λ k e. known (λ (d : Read.Administration). SomeCommand c.args.text.now (Administer d)) c.requires.labels_len.1.0 e in
+    let spoken : (k : Read.Administration) → c.args.c ≡ k → SomeCommand c.args.text.now (Administer k) = λ k e. known (λ (d : Read.Administration). SomeCommand c.args.text.now (Administer d)) c.requires.some_command.0 e in
     let t = c.args.text.now in
     let S = spoken (Is.DeleteDelegation c.in-DeleteDelegation.x c.in-DeleteDelegation.q c.in-DeleteDelegation.r c.in-DeleteDelegation.p) c.in-DeleteDelegation.is in record {
       some_running = c.requires.some_running;
-      target_within = (S.within.0, S.within.1, S.within.2, omega (arith, c.requires.labels_len.0));
+      target_within = (S.within.0, S.within.1, S.within.2, omega (arith, c.requires.labels_len));
     }
 
 pub default_delegator-v-requires : goal.default_delegator-v-requires
 default_delegator-v-requires c =
-    let spoken : (k : Read.Administration) → c.args.c ≡ k → SomeCommand c.args.text.now (Administer k) = λ k e. known (λ (d : Read.Administration). SomeCommand c.args.text.now (Administer d)) c.requires.labels_len.1.0 e in
+    let spoken : (k : Read.Administration) → c.args.c ≡ k → SomeCommand c.args.text.now (Administer k) = λ k e. known (λ (d : Read.Administration). SomeCommand c.args.text.now (Administer d)) c.requires.some_command.0 e in
     let t = c.args.text.now in
     let S = spoken (Is.DefaultDelegator c.in-DefaultDelegator.p) c.in-DefaultDelegator.is in record {
       some_running = c.requires.some_running;

@@ -33,7 +33,7 @@ may_append-requires c =
     let buffers : Slices = let a = c.args in slices a.principals.now a.principal_slots.now a.vars.now a.variable_slots.now a.locals.now a.local_slots.now a.assertions.now in
     let Runs : Session → Type 0 = λ s. Running s c.args.l buffers in
     let session-sends : (s : Session) → Runs s → let a = c.args in Sending s a.l a.vars.now a.variable_slots.now a.assertions.now = λ s R. sending s c.args.l buffers R in
-    let S = c.requires.some_running in record { session = S.session; sending = session-sends S.session S.running }
+    record { session = c.requires.some_running.session; sending = session-sends c.requires.some_running.session c.requires.some_running.running }
 
 pub returns-then-not-may_append : goal.returns-then-not-may_append
 returns-then-not-may_append c s y R m =
@@ -51,24 +51,21 @@ answer-v-requires c =
     let Runs : Session → Type 0 = λ s. Running s c.args.l buffers in
     let session-scoped : (s : Session) → Runs s → let a = c.args in Scoped s a.l a.vars.now a.variable_slots.now a.locals.now a.local_slots.now = λ s R. scoped s c.args.l buffers R in
     let session-sends : (s : Session) → Runs s → let a = c.args in Sending s a.l a.vars.now a.variable_slots.now a.assertions.now = λ s R. sending s c.args.l buffers R in
-    let S = c.requires.some_running in
-    let a = c.args in (
-      (
-        record { session = S.session; scoped = session-scoped S.session S.running },
-        record { session = S.session; sending = session-sends S.session S.running },
-      ),
-      (
-        (c.requires.names.0.said, lent a.value.now a.labels.now c.requires.names.1.value_size c.requires.names.1.labels_size),
-        copyable S.session a.l buffers S.running,
-      ),
-    )
+    let a = c.args in record {
+      some_scoped = (
+        record { session = c.requires.some_running.session; scoped = session-scoped c.requires.some_running.session c.requires.some_running.running },
+        record { session = c.requires.some_running.session; sending = session-sends c.requires.some_running.session c.requires.some_running.running },
+      );
+      said = (c.requires.names.0.said, lent a.value.now a.labels.now c.requires.names.1.value_size c.requires.names.1.labels_size);
+      copyable = copyable c.requires.some_running.session a.l buffers.requires.some_running.running;
+    }
 
 pub is_list-list-requires : goal.is_list-list-requires
 is_list-list-requires c =
     let buffers : Slices = let a = c.args in slices a.principals.now a.principal_slots.now a.vars.now a.variable_slots.now a.locals.now a.local_slots.now a.assertions.now in
     let Runs : Session → Type 0 = λ s. Running s c.args.l buffers in
     let session-scoped : (s : Session) → Runs s → let a = c.args in Scoped s a.l a.vars.now a.variable_slots.now a.locals.now a.local_slots.now = λ s R. scoped s c.args.l buffers R in
-    let S = c.requires.some_running in record { session = S.session; scoped = session-scoped S.session S.running }
+    record { session = c.requires.some_running.session; scoped = session-scoped c.requires.some_running.session c.requires.some_running.running }
 
 pub slice_bounds-join-end : goal.slice_bounds-join-end
 slice_bounds-join-end c =
@@ -84,7 +81,7 @@ slice_bounds-join-end c =
     let stored : (s : Session) (y : Syntax.Expr) → Runs s → Says y → Stores s y c.is_list-list.result c.answer-v.new.1.1.1.1.1.1.1.1.0 c.in-Value.len c.in-Value.weight = λ s y R m. let x = name_of in
     stores s (Syntax.append_to x y) y c.is_list-list.result (append_effect s x) (does s y R) c.answer-v.new.1.1.1.1.1.1.1.1.0 c.answer-v.result
     (answers s y R m) c.settle.result c.settle.ensures c.in-Value.len c.in-Value.weight c.in-Value.is in
-    let some_stored : let p = c.requires in Stores p.0.session p.1.0.said.expression.expression c.is_list-list.result c.answer-v.new.1.1.1.1.1.1.1.1.0 c.in-Value.len c.in-Value.weight = let p = c.requires in stored p.0.session p.1.0.said.expression.expression p.0.running p.1.0.said.expression.meant in
+    let some_stored : Stores c.requires.some_running.session c.requires.names.0.said.expression.expression c.is_list-list.result c.answer-v.new.1.1.1.1.1.1.1.1.0 c.in-Value.len c.in-Value.weight = stored c.requires.some_running.session c.requires.names.0.said.expression.expression c.requires.some_running.running c.requires.names.0.said.expression.meant in
     some_stored.written.within
 
 pub slice_bounds-join-end-in-Value : goal.slice_bounds-join-end-in-Value
@@ -101,7 +98,7 @@ slice_bounds-join-end-in-Value c =
     let stored : (s : Session) (y : Syntax.Expr) → Runs s → Says y → Stores s y c.is_list-list.result c.answer-v.new.1.1.1.1.1.1.1.1.0 c.in-Value.len c.in-Value.weight = λ s y R m. let x = name_of in
     stores s (Syntax.append_to x y) y c.is_list-list.result (append_effect s x) (does s y R) c.answer-v.new.1.1.1.1.1.1.1.1.0 c.answer-v.result
     (answers s y R m) c.settle.result c.settle.ensures c.in-Value.len c.in-Value.weight c.in-Value.is in
-    let some_stored : let p = c.requires in Stores p.0.session p.1.0.said.expression.expression c.is_list-list.result c.answer-v.new.1.1.1.1.1.1.1.1.0 c.in-Value.len c.in-Value.weight = let p = c.requires in stored p.0.session p.1.0.said.expression.expression p.0.running p.1.0.said.expression.meant in
+    let some_stored : Stores c.requires.some_running.session c.requires.names.0.said.expression.expression c.is_list-list.result c.answer-v.new.1.1.1.1.1.1.1.1.0 c.in-Value.len c.in-Value.weight = stored c.requires.some_running.session c.requires.names.0.said.expression.expression c.requires.some_running.running c.requires.names.0.said.expression.meant in
     sym (length-take-le _ _ some_stored.written.within)
 
 pub join-done-requires : goal.join-done-requires
@@ -119,11 +116,10 @@ join-done-requires c =
     let stored : (s : Session) (y : Syntax.Expr) → Runs s → Says y → Stores s y c.is_list-list.result c.answer-v.new.1.1.1.1.1.1.1.1.0 c.in-Value.len c.in-Value.weight = λ s y R m. let x = name_of in
     stores s (Syntax.append_to x y) y c.is_list-list.result (append_effect s x) (does s y R) c.answer-v.new.1.1.1.1.1.1.1.1.0 c.answer-v.result
     (answers s y R m) c.settle.result c.settle.ensures c.in-Value.len c.in-Value.weight c.in-Value.is in
-    let some_stored : let p = c.requires in Stores p.0.session p.1.0.said.expression.expression c.is_list-list.result c.answer-v.new.1.1.1.1.1.1.1.1.0 c.in-Value.len c.in-Value.weight = let p = c.requires in stored p.0.session p.1.0.said.expression.expression p.0.running p.1.0.said.expression.meant in
-    let S = c.requires.some_running in
+    let some_stored : Stores c.requires.some_running.session c.requires.names.0.said.expression.expression c.is_list-list.result c.answer-v.new.1.1.1.1.1.1.1.1.0 c.in-Value.len c.in-Value.weight = stored c.requires.some_running.session c.requires.names.0.said.expression.expression c.requires.some_running.running c.requires.names.0.said.expression.meant in
     let x = name_of in
     let H = some_stored in record {
-      some_list = record { session = S.session; running = S.running; elements = elements_of (lookup S.session x); is_list = its-list S.session S.running H.fitting };
+      some_list = record { session = c.requires.some_running.session; running = c.requires.some_running.running; elements = elements_of (lookup c.requires.some_running.session x); is_list = its-list c.requires.some_running.session c.requires.some_running.running H.fitting };
       t = (identifier_name x c.requires.names.0.name_holds, record { value = H.written.value; is_value = weighed H.written });
     }
 

@@ -22,14 +22,12 @@ slice_bounds-find-end-2 c = sym (length-take-le _ _ c.requires.some_running.runn
 pub find-found-requires : goal.find-found-requires
 find-found-requires c =
     let a = c.args in
-    let S = c.requires.some_running in
-    some_variables S.session.locals (take a.l.locals_len a.locals.now) a.l.locals a.local_slots.now S.running.local_variables
+    some_variables c.requires.some_running.session.locals (take a.l.locals_len a.locals.now) a.l.locals a.local_slots.now c.requires.some_running.running.local_variables
 
 pub assign_shared-requires : goal.assign_shared-requires
 assign_shared-requires c =
     let a = c.args in
-    let S = c.requires.some_running in
-    (record { session = S.session; locals = a.locals.now; local_slots = a.local_slots.now; running = S.running }, c.requires.t.0, c.requires.t.1)
+    (record { session = c.requires.some_running.session; locals = a.locals.now; local_slots = a.local_slots.now; running = c.requires.some_running.running }, c.requires.t.0, c.requires.t.1)
 
 pub returns-in_default : goal.returns-in_default
 returns-in_default c s v R W =
@@ -45,19 +43,18 @@ replace-put-requires c =
     let looked-up : let a = c.args in (s : Session) → Running s a.l (slices a.principals.now a.principal_slots.now a.vars.now a.variable_slots.now a.locals.now a.local_slots.now a.assertions.now) → c.find-found.result ≡ place (map variable_row s.locals) a.name.now = λ s R. let a = c.args in
     c.find-found.ensures (map variable_row s.locals) (variables_rows s.locals (take a.l.locals_len a.locals.now) a.l.locals a.local_slots.now R.local_variables) in
     let a = c.args in
-    let S = c.requires.some_running in
     let b = slices a.principals.now a.principal_slots.now a.vars.now a.variable_slots.now a.locals.now a.local_slots.now a.assertions.now in
-    let q = looked-up S.session S.running in
+    let q = looked-up c.requires.some_running.session c.requires.some_running.running in
     let t = take a.l.locals_len a.locals.now in (
       record {
-        variables = S.session.locals;
+        variables = c.requires.some_running.session.locals;
         name = a.name.now;
-        lies = locals_lie S.session a.l b S.running;
-        below = there_below S.session.locals t a.l.locals a.local_slots.now S.running.local_variables a.name.now c.find-found.result q c.in-At.number c.in-At.start c.in-At.end c.in-At.is;
-        is_number = (there S.session.locals t a.l.locals a.local_slots.now S.running.local_variables a.name.now c.find-found.result q c.in-At.number c.in-At.start c.in-At.end c.in-At.is).number;
+        lies = locals_lie c.requires.some_running.session a.l b c.requires.some_running.running;
+        below = there_below c.requires.some_running.session.locals t a.l.locals a.local_slots.now c.requires.some_running.running.local_variables a.name.now c.find-found.result q c.in-At.number c.in-At.start c.in-At.end c.in-At.is;
+        is_number = (there c.requires.some_running.session.locals t a.l.locals a.local_slots.now c.requires.some_running.running.local_variables a.name.now c.find-found.result q c.in-At.number c.in-At.start c.in-At.end c.in-At.is).number;
       },
       c.requires.t.1,
-      S.running.light,
+      c.requires.some_running.running.light,
     )
 
 pub returns-in_default-put : goal.returns-in_default-put

@@ -37,5 +37,5 @@ returns c s b N =
     let a = c.args in
     added_running s a.l b a.principals.now a.principal_slots.now a.name.now a.password.now N c.if-weight-gt8192.false
     c.add_principal-end.new.0 c.add_principal-end.new.1.1.0 c.add_principal-end.result
-    (c.add_principal-end.ensures.outside.1 s.store.principals (added_held s a.l b a.principals.now a.principal_slots.now a.name.now a.password.now N)
-    (added_name s a.l b a.principals.now a.principal_slots.now a.name.now a.password.now N)) c.add_principal-end.ensures.outside.0.within c.add_principal-end.auto.0 c.add_principal-end.auto.1.1.0
+    (c.add_principal-end.ensures.held s.store.principals (added_held s a.l b a.principals.now a.principal_slots.now a.name.now a.password.now N)
+    (added_name s a.l b a.principals.now a.principal_slots.now a.name.now a.password.now N)) c.add_principal-end.ensures.outside.within c.add_principal-end.auto.0 c.add_principal-end.auto.1.1.0

@@ -16,8 +16,7 @@ use Rattle.creation.proofs.delegate_all.Goals as goal
 pub collect-n-requires : goal.collect-n-requires
 collect-n-requires c =
     let a = c.args in
-    let P = c.requires.some_gives in
-    let f = few P.session a.l _ a.q a.p P.from P.to P.gives in
+    let f = few c.requires.some_gives.session a.l _ a.q a.p c.requires.some_gives.from c.requires.some_gives.to c.requires.some_gives.gives in
     (f.0, f.1, f.2, f.3, c.requires.right_bound.1)
 
 pub enter_all-requires : goal.enter_all-requires
@@ -26,8 +25,7 @@ enter_all-requires c =
     let z : length c.collect-n.new.1.1.1.1.1.0 ≡ length a.targets.now = c.collect-n.auto.1.1.1.1.1.0 in
     delegates s a.l _ a.q a.p from to G a.right c.collect-n.result c.collect-n.new.1.1.1.1.1.0 c.pre.1.0 c.collect-n.ensures.few (omega (arith, z, c.pre.1.1))
     (c.collect-n.ensures.are s.store from (counted s a.l _ a.q a.p from to G) G.giver) in
-    let P = c.requires.some_gives in
-    record { session = P.session; variables_named = delegable P.session.store P.from; from = P.from; of_right = get_or rights c.args.right delegate; to = P.to; delegates = gathered P.session P.from P.to P.gives }
+    record { session = c.requires.some_gives.session; variables_named = delegable c.requires.some_gives.session.store c.requires.some_gives.from; from = c.requires.some_gives.from; of_right = get_or rights c.args.right delegate; to = c.requires.some_gives.to; delegates = gathered c.requires.some_gives.session c.requires.some_gives.from c.requires.some_gives.to c.requires.some_gives.gives }
 
 pub returns : goal.returns
 returns c s from to G =

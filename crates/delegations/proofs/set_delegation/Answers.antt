@@ -27,15 +27,16 @@ use Rattle.delegations.proofs.set_delegation.Goals as goal
 
 pub asked-k-requires : goal.asked-k-requires
 asked-k-requires c =
-    let R = c.requires.some_running.running in
-    let s = c.requires.some_running.session in
-    let h = c.requires.target_within in
-    ((R.principals_within, some_principals s.store.principals _ _ _ R.principals), ((R.vars_within, some_variables s.store.variables _ _ _ R.variables), (h.0, h.1, h.2)))
+    record {
+      principals_len_in_bounds = (c.requires.some_running.running.principals_within, some_principals c.requires.some_running.session.store.principals _ _ _ c.requires.some_running.running.principals);
+      vars_len_in_bounds = (c.requires.some_running.running.vars_within, some_variables c.requires.some_running.session.store.variables _ _ _ c.requires.some_running.running.variables);
+      target_within = (c.requires.target_within.0, c.requires.target_within.1, c.requires.target_within.2);
+    }
 
 pub set_denied-requires : goal.set_denied-requires
 set_denied-requires c =
     let lent : Slices = let a = c.args in slices a.principals.now a.principal_slots.now a.vars.now a.variable_slots.now a.locals.now a.local_slots.now a.assertions.now in
-    let P = c.requires.some_running in record { session = P.session; buffers = lent; runs = record { running = P.running; stood = refl } }
+    record { session = c.requires.some_running.session; buffers = lent; runs = record { running = c.requires.some_running.running; stood = refl } }
 
 pub returns-then-set_denied : goal.returns-then-set_denied
 returns-then-set_denied c s R =
@@ -69,11 +70,11 @@ choose-count-requires c =
     let from-of : Name = part c.args.text.now c.args.q in
     let to-of : Name = part c.args.text.now c.args.p in
     let named : (s : Session) → Running s c.args.l lent → Names s target-of from-of to-of.asked-k.result = λ s R. let a = c.args in c.asked-k.ensures s a.locals.now a.local_slots.now a.assertions.now R in
-    let P = c.requires.some_running in (
-      record { session = P.session; buffers = lent; runs = record { running = P.running; stood = refl } },
+    (
+      record { session = c.requires.some_running.session; buffers = lent; runs = record { running = c.requires.some_running.running; stood = refl } },
       c.requires.target_within.3,
-      aim_few (variables P.session.store) target-of _
-          (few_variables P.session _ _ P.running) (named P.session P.running).aim_is,
+      aim_few (variables c.requires.some_running.session.store) target-of _
+          (few_variables c.requires.some_running.session _ _ c.requires.some_running.running) (named c.requires.some_running.session c.requires.some_running.running).aim_is,
     )
 
 pub enter_all-done-requires : goal.enter_all-done-requires
@@ -92,8 +93,7 @@ enter_all-done-requires c =
     delegates s target-of from-of right_of to-of.args.l lent.asked-k.result c.choose-count.new.1.1.1.0 c.choose-count.result c.right_code_lem.result R N k w
     (c.choose-count.ensures.are s lent target-of from-of to-of (record { running = R; stood = refl }) N (giver_there s target-of from-of right_of to-of k))
     c.right_code_lem.ensures in
-    let P = c.requires.some_running in
-    record { session = P.session; variables_named = _; from = _; of_right = _; to = _; delegates = delegating P.session P.running }
+    record { session = c.requires.some_running.session; variables_named = _; from = _; of_right = _; to = _; delegates = delegating c.requires.some_running.session c.requires.some_running.running }
 
 pub returns-in-Full : goal.returns-in-Full
 returns-in-Full c s R =

@@ -33,8 +33,8 @@ use Rattle.engine.proofs.perform.Goals as goal
 pub loop-c-init : goal.loop-c-init
 loop-c-init c =
     let a = c.args in
-    let P = c.requires in (
-      P.1.1.0,
+    (
+      c.requires.at_in_bounds.0,
       λ s R. starts a.text.now a.output.now a.at R,
       (refl, refl, refl, refl, refl, refl, refl, refl, refl, refl),
     )
@@ -84,12 +84,12 @@ act-acted-requires c =
     let stage : (s : Session) → entered s → let l = c.loop-c in Stage s c.args.text.now c.args.at c.args.output.now l.l (slices l.principals l.principal_slots l.vars l.variable_slots l.locals l.local_slots l.assertions) l.p l.n l.lines l.output = λ s R. c.loop-c.invariant.1 s R in
     let first : (r : Rest) → c.in-Command.rest ≡ r → First c.args.text.now c.loop-c.p c.in-Command.c r = λ r is. known (First c.args.text.now c.loop-c.p c.in-Command.c)
     (known (ReadFrom c.args.text.now c.loop-c.p) c.read_at-read.ensures c.in-Command.is) is in
-    let P = c.requires in
     let i = c.loop-c.invariant in
-    let S = stage P.0.session P.0.running in (
-      record { session = S.session; running = S.running },
-      ((omega (arith, i.2.7, P.1.0.0), omega (arith, i.2.8, P.1.0.1)), (some_command (first _ refl), P.1.1.1)),
-    )
+    let S = stage c.requires.some_running.session c.requires.some_running.running in record {
+      some_running = record { session = S.session; running = S.running };
+      value_len = (omega (arith, i.2.7, c.requires.value_len.0), omega (arith, i.2.8, c.requires.value_len.1));
+      some_command = (some_command (first _ refl), c.requires.at_in_bounds.1);
+    }
 
 pub tell-done-requires : goal.tell-done-requires
 tell-done-requires c =
@@ -97,9 +97,8 @@ tell-done-requires c =
     let stage : (s : Session) → entered s → let l = c.loop-c in Stage s c.args.text.now c.args.at c.args.output.now l.l (slices l.principals l.principal_slots l.vars l.variable_slots l.locals l.local_slots l.assertions) l.p l.n l.lines l.output = λ s R. c.loop-c.invariant.1 s R in
     let first : (r : Rest) → c.in-Command.rest ≡ r → First c.args.text.now c.loop-c.p c.in-Command.c r = λ r is. known (First c.args.text.now c.loop-c.p c.in-Command.c)
     (known (ReadFrom c.args.text.now c.loop-c.p) c.read_at-read.ensures c.in-Command.is) is in
-    let P = c.requires in
     let i = c.loop-c.invariant in
-    let S = stage P.0.session P.0.running in
+    let S = stage c.requires.some_running.session c.requires.some_running.running in
     let F = first _ refl in
     (
       record {
@@ -108,7 +107,7 @@ tell-done-requires c =
         buffers = slices c.act-acted.new.0 c.act-acted.new.1.0 c.act-acted.new.1.1.0 c.act-acted.new.1.1.1.0 c.act-acted.new.1.1.1.1.0 c.act-acted.new.1.1.1.1.1.0 c.act-acted.new.1.1.1.1.1.1.0;
         acts = c.act-acted.ensures S.session F.command S.running F.meant;
       },
-      omega (arith, i.2.9, P.1.1.2, has_room S i.0 P.1.1.1),
+      omega (arith, i.2.9, c.requires.at_in_bounds.2, has_room S i.0 c.requires.at_in_bounds.1),
     )
 
 pub refused-requires : goal.refused-requires
@@ -298,11 +297,10 @@ pub overflow_add-lines : goal.overflow_add-lines
 overflow_add-lines c =
     let entered : Session → Type 0 = λ s. let a = c.args in Running s a.start (slices a.principals.now a.principal_slots.now a.vars.now a.variable_slots.now a.locals.now a.local_slots.now a.assertions.now) in
     let stage : (s : Session) → entered s → let l = c.loop-c in Stage s c.args.text.now c.args.at c.args.output.now l.l (slices l.principals l.principal_slots l.vars l.variable_slots l.locals l.local_slots l.assertions) l.p l.n l.lines l.output = λ s R. c.loop-c.invariant.1 s R in
-    let P = c.requires in
     let l = c.loop-c in
-    let S = stage P.0.session P.0.running in
+    let S = stage c.requires.some_running.session c.requires.some_running.running in
     let few : l.lines ≤ l.n = few_lines S in
-    let room : l.n + 28707 ≤ 65536 = has_room S l.inv.0 P.1.1.1 in
+    let room : l.n + 28707 ≤ 65536 = has_room S l.inv.0 c.requires.at_in_bounds.1 in
     omega (arith, few, room)
 
 pub shape_of-principals-in_default-rest : goal.shape_of-principals-in_default-rest

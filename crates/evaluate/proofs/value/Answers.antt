@@ -25,31 +25,41 @@ valued-at r s out e h = subst (λ (z : Term). Valued r (term_value s z) out) (sy
 
 pub put_operand-requires : goal.put_operand-requires
 put_operand-requires c =
-    let P = c.requires in
-    (P.0, (single_safe c.args.text.now c.args.e P.1.0.0 c.in-Single.v c.in-Single.is, P.1.1.out_size))
+    record {
+      some_scope = c.requires.some_scope;
+      operand_within = single_safe c.args.text.now c.args.e c.requires.some_term.0 c.in-Single.v c.in-Single.is;
+      in_bounds = c.requires.lent.out_size;
+    }
 
 pub put_fields-requires : goal.put_fields-requires
 put_fields-requires c =
-    let P = c.requires in
-    (P.0, ((record_safe c.args.text.now c.args.e P.1.0.0 c.in-Record.at c.in-Record.is, P.1.0.1), P.1.1))
+    record {
+      some_scope = c.requires.some_scope;
+      some_record = (record_safe c.args.text.now c.args.e c.requires.some_term.0 c.in-Record.at c.in-Record.is, c.requires.some_term.1);
+      lent = c.requires.lent;
+    }
 
 pub put_lower-requires : goal.put_lower-requires
 put_lower-requires c =
-    let P = c.requires in
-    (P.0, (lower_safe c.args.text.now c.args.e P.1.0.0 c.in-Lower.v c.in-Lower.is, P.1.1.out_size))
+    record {
+      some_scope = c.requires.some_scope;
+      operand_within = lower_safe c.args.text.now c.args.e c.requires.some_term.0 c.in-Lower.v c.in-Lower.is;
+      in_bounds = c.requires.lent.out_size;
+    }
 
 pub put_call-requires : goal.put_call-requires
 put_call-requires c =
-    let P = c.requires in
-    let S = call_safe c.args.text.now c.args.e P.1.0.0 c.in-Call.f c.in-Call.v c.in-Call.w c.in-Call.is in
-    (P.0, (S.0, (S.1.0, S.1.1, P.1.1.out_size)))
+    let S = call_safe c.args.text.now c.args.e c.requires.some_term.0 c.in-Call.f c.in-Call.v c.in-Call.w c.in-Call.is in record {
+      some_scope = c.requires.some_scope;
+      operand_within = S.0;
+      operand_within_2 = (S.1.0, S.1.1, c.requires.lent.out_size);
+    }
 
 pub put_comparison-requires : goal.put_comparison-requires
 put_comparison-requires c =
-    let P = c.requires in
-    let S = compare_safe c.args.text.now c.args.e P.1.0.0 c.in-Compare.c c.in-Compare.v c.in-Compare.w c.in-Compare.is in record {
-      some_scope = P.0;
-      operand_within = (S.0.0, S.1.0, P.1.1.out_size);
+    let S = compare_safe c.args.text.now c.args.e c.requires.some_term.0 c.in-Compare.c c.in-Compare.v c.in-Compare.w c.in-Compare.is in record {
+      some_scope = c.requires.some_scope;
+      operand_within = (S.0.0, S.1.0, c.requires.lent.out_size);
     }
 
 pub returns-in-Single : goal.returns-in-Single

@@ -22,21 +22,18 @@ slice_bounds-answer-end-in-Term c = sym (length-take-le _ _ c.requires.some_aske
 
 pub answer-requires : goal.answer-requires
 answer-requires c =
-    let P = c.requires in
-    let S = P.0 in
-    (
-      (record { session = S.session; scope = S.asked.held }, record { session = S.session; sends = S.sends }),
-      ((some_term S.asked c.in-Term.t c.in-Term.is, P.1.1.0), P.1.1.1),
-    )
+    record {
+      some_scope = (record { session = c.requires.some_asked.session; scope = c.requires.some_asked.asked.held }, record { session = c.requires.some_asked.session; sends = c.requires.some_asked.sends });
+      some_term = (some_term c.requires.some_asked.asked c.in-Term.t c.in-Term.is, c.requires.text_len_bound.0);
+      lent = c.requires.text_len_bound.1;
+    }
 
 pub answer-requires-in-Let : goal.answer-requires-in-Let
 answer-requires-in-Let c =
-    let P = c.requires in
-    let S = P.0 in
     let a = c.args in
     (
-      record { session = S.session; expression = S.expression; starts = as_let S.asked c.in-Let.p c.in-Let.is; sends = S.sends; knows = S.knows },
-      (subst (λ (v : Expr). Fitted v (texts a.shared.now a.slots.now a.count a.scope.now a.local_slots.now) (stack a.heads.now a.lens.now a.counts.now a.bounds.now) a.len a.number) c.in-Let.is P.1.0, P.1.1),
+      record { session = c.requires.some_asked.session; expression = c.requires.some_asked.expression; starts = as_let c.requires.some_asked.asked c.in-Let.p c.in-Let.is; sends = c.requires.some_asked.sends; knows = c.requires.some_asked.knows },
+      (subst (λ (v : Expr). Fitted v (texts a.shared.now a.slots.now a.count a.scope.now a.local_slots.now) (stack a.heads.now a.lens.now a.counts.now a.bounds.now) a.len a.number) c.in-Let.is c.requires.fitted, c.requires.text_len_bound),
     )
 
 pub returns-in-Term : goal.returns-in-Term

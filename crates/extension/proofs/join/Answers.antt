@@ -31,8 +31,7 @@ slice_bounds-find-end-2 c = sym (length-take-le _ _ c.requires.some_list.running
 pub find-found-requires : goal.find-found-requires
 find-found-requires c =
     let a = c.args in
-    let S = c.requires.some_list in
-    some_variables S.session.locals (take a.l.locals_len a.locals.now) a.l.locals a.local_slots.now S.running.local_variables
+    some_variables c.requires.some_list.session.locals (take a.l.locals_len a.locals.now) a.l.locals a.local_slots.now c.requires.some_list.running.local_variables
 
 pub slice_bounds-join_shared-count : goal.slice_bounds-join_shared-count
 slice_bounds-join_shared-count c =
@@ -45,15 +44,14 @@ join_shared-requires c =
     c.find-found.ensures (map variable_row s.locals) (variables_rows s.locals (take a.l.locals_len a.locals.now) a.l.locals a.local_slots.now R.local_variables) in
     let its_own : Adds c.requires.t.1.value c.args.value.now c.elements_of-more.result.from c.elements_of-more.result.weight = c.elements_of-more.ensures c.pre.1.1.value c.pre.1.1.is_value in
     let a = c.args in
-    let S = c.requires.some_list in
     let A = its_own in
-    let n = not_there S.session.locals (take a.l.locals_len a.locals.now) a.l.locals a.local_slots.now S.running.local_variables a.name.now c.find-found.result (looked-up S.session S.running)
+    let n = not_there c.requires.some_list.session.locals (take a.l.locals_len a.locals.now) a.l.locals a.local_slots.now c.requires.some_list.running.local_variables a.name.now c.find-found.result (looked-up c.requires.some_list.session c.requires.some_list.running)
     c.in_default.is in (
       record {
-        some_shared = record { session = S.session; locals = a.locals.now; local_slots = a.local_slots.now; running = S.running };
-        elements = S.elements;
+        some_shared = record { session = c.requires.some_list.session; locals = a.locals.now; local_slots = a.local_slots.now; running = c.requires.some_list.running };
+        elements = c.requires.some_list.elements;
         more = added_by c.requires.t.1.value;
-        is_list = in_second (value_in S.session.locals a.name.now) (value_in S.session.store.variables a.name.now) n S.is_list;
+        is_list = in_second (value_in c.requires.some_list.session.locals a.name.now) (value_in c.requires.some_list.session.store.variables a.name.now) n c.requires.some_list.is_list;
         extra = A.extra;
       },
       c.requires.t.0,
@@ -80,24 +78,23 @@ extend-put-requires c =
     c.find-found.ensures (map variable_row s.locals) (variables_rows s.locals (take a.l.locals_len a.locals.now) a.l.locals a.local_slots.now R.local_variables) in
     let its_own : Adds c.requires.t.1.value c.args.value.now c.elements_of-more.result.from c.elements_of-more.result.weight = c.elements_of-more.ensures c.pre.1.1.value c.pre.1.1.is_value in
     let a = c.args in
-    let S = c.requires.some_list in
     let A = its_own in
     let b = slices a.principals.now a.principal_slots.now a.vars.now a.variable_slots.now a.locals.now a.local_slots.now a.assertions.now in
-    let q = looked-up S.session S.running in
+    let q = looked-up c.requires.some_list.session c.requires.some_list.running in
     let t = take a.l.locals_len a.locals.now in
-    let F = there S.session.locals t a.l.locals a.local_slots.now S.running.local_variables a.name.now c.find-found.result q c.in-At.number c.in-At.start c.in-At.end c.in-At.is in (
+    let F = there c.requires.some_list.session.locals t a.l.locals a.local_slots.now c.requires.some_list.running.local_variables a.name.now c.find-found.result q c.in-At.number c.in-At.start c.in-At.end c.in-At.is in (
       record {
-        variables = S.session.locals;
+        variables = c.requires.some_list.session.locals;
         name = a.name.now;
-        elements = S.elements;
+        elements = c.requires.some_list.elements;
         more = added_by c.requires.t.1.value;
-        lies = locals_lie S.session a.l b S.running;
-        below = there_below S.session.locals t a.l.locals a.local_slots.now S.running.local_variables a.name.now c.find-found.result q c.in-At.number c.in-At.start c.in-At.end c.in-At.is;
+        lies = locals_lie c.requires.some_list.session a.l b c.requires.some_list.running;
+        below = there_below c.requires.some_list.session.locals t a.l.locals a.local_slots.now c.requires.some_list.running.local_variables a.name.now c.find-found.result q c.in-At.number c.in-At.start c.in-At.end c.in-At.is;
         is_number = F.number;
-        is_list = in_first (value_in S.session.locals a.name.now) (value_in S.session.store.variables a.name.now) F.is_value S.is_list;
+        is_list = in_first (value_in c.requires.some_list.session.locals a.name.now) (value_in c.requires.some_list.session.store.variables a.name.now) F.is_value c.requires.some_list.is_list;
         extra = A.extra;
       },
-      S.running.light,
+      c.requires.some_list.running.light,
       A.small,
     )
 

@@ -27,7 +27,7 @@ returns-then-weight-gt8192 c s k line o R D n e =
     ends_heavy s k x-of line o n e (D.heavy c.if-weight-gt8192.true)
 
 pub slice_bounds-assign-count : goal.slice_bounds-assign-count
-slice_bounds-assign-count c = let w = c.requires.within.0 in omega (arith, w.0, w.1)
+slice_bounds-assign-count c = omega (arith, c.requires.within.0.0, c.requires.within.0.1)
 
 pub slice_bounds-assign-end-2 : goal.slice_bounds-assign-end-2
 slice_bounds-assign-end-2 c = sym (length-take-le _ _ c.requires.within.2.drafted.within)
@@ -36,9 +36,9 @@ pub assign-put-requires : goal.assign-put-requires
 assign-put-requires c =
     let light : (o : Outcome (List Element)) → Drafted AsList o c.args.new.now c.args.d → Light AsList o c.args.new.now c.args.d = λ o D. D.light c.if-weight-gt8192.false in
     let weighs : (o : Outcome (List Element)) (D : Drafted AsList o c.args.new.now c.args.d) → Weighs (list (light o D).result) (take c.args.d.len c.args.new.now) c.args.d.weight = λ o D. let L = light o D in record { held = L.held; weighs = L.weighs; light = c.if-weight-gt8192.false } in
-    let D = c.requires.within.2 in record {
+    record {
       some_running = c.requires.some_running;
-      t = (c.requires.within.1, record { value = list (light D.outcome D.drafted).result; is_value = weighs D.outcome D.drafted });
+      t = (c.requires.within.1, record { value = list (light c.requires.within.2.outcome c.requires.within.2.drafted).result; is_value = weighs c.requires.within.2.outcome c.requires.within.2.drafted });
     }
 
 pub returns-in_default : goal.returns-in_default
@@ -47,8 +47,9 @@ returns-in_default c s k line o R D n e =
     let light : (o : Outcome (List Element)) → Drafted AsList o c.args.new.now c.args.d → Light AsList o c.args.new.now c.args.d = λ o D. D.light c.if-weight-gt8192.false in
     let lent : Slices = let a = c.args in slices a.principals.now a.principal_slots.now a.vars.now a.variable_slots.now a.locals.now a.local_slots.now a.assertions.now in
     let weighs : (o : Outcome (List Element)) (D : Drafted AsList o c.args.new.now c.args.d) → Weighs (list (light o D).result) (take c.args.d.len c.args.new.now) c.args.d.weight = λ o D. let L = light o D in record { held = L.held; weighs = L.weighs; light = c.if-weight-gt8192.false } in
-    let assigned : (s : Session) (o : Outcome (List Element)) (R : Running s c.args.l lent) (D : Drafted AsList o c.args.new.now c.args.d) (r : Assigned) → c.assign-put.result ≡ r → Assigns r (assign s x-of (list (light o D).result)) (slices c.args.principals.now c.args.principal_slots.now c.assign-put.new.1.1.0 c.assign-put.new.1.1.1.0 c.assign-put.new.1.1.1.1.0 c.assign-put.new.1.1.1.1.1.0 c.assign-put.new.1.1.1.1.1.1.0) = λ s o R D r e. subst (λ (m : Assigned). Assigns m (assign s x-of (list (light o D).result))
-    (slices c.args.principals.now c.args.principal_slots.now c.assign-put.new.1.1.0 c.assign-put.new.1.1.1.0 c.assign-put.new.1.1.1.1.0 c.assign-put.new.1.1.1.1.1.0 c.assign-put.new.1.1.1.1.1.1.0)) e
+    let assigned : (s : Session) (o : Outcome (List Element)) (R : Running s (start-after-test c).args.l (lent (start-after-test c))) (D : Drafted AsList o (start-after-test c).args.new.now (start-after-test c).args.d) (r : Assigned) → c.assign-put.result ≡ r → let z = start-after-test c in Assigns r (assign s (x-of z) (list (light o D).result)) (slices z.args.principals.now z.args.principal_slots.now c.assign-put.new.1.1.0 c.assign-put.new.1.1.1.0 c.assign-put.new.1.1.1.1.0 c.assign-put.new.1.1.1.1.1.0 c.assign-put.new.1.1.1.1.1.1.0) = λ s o R D r e. let z = start-after-test c in
+    subst (λ (m : Assigned). Assigns m (assign s (x-of z) (list (light o D).result))
+    (slices z.args.principals.now z.args.principal_slots.now c.assign-put.new.1.1.0 c.assign-put.new.1.1.1.0 c.assign-put.new.1.1.1.1.0 c.assign-put.new.1.1.1.1.1.0 c.assign-put.new.1.1.1.1.1.1.0)) e
     (c.assign-put.ensures s (list (light o D).result) R (weighs o D)) in
     let L = light o D in
     ends_full s k (put_in s x-of line L.result) n (list_put s k x-of line o n e L.result L.is_result) (assigned s o R D _ c.in_default.is)
@@ -59,8 +60,9 @@ returns c s k line o R D n e =
     let light : (o : Outcome (List Element)) → Drafted AsList o c.args.new.now c.args.d → Light AsList o c.args.new.now c.args.d = λ o D. D.light c.if-weight-gt8192.false in
     let lent : Slices = let a = c.args in slices a.principals.now a.principal_slots.now a.vars.now a.variable_slots.now a.locals.now a.local_slots.now a.assertions.now in
     let weighs : (o : Outcome (List Element)) (D : Drafted AsList o c.args.new.now c.args.d) → Weighs (list (light o D).result) (take c.args.d.len c.args.new.now) c.args.d.weight = λ o D. let L = light o D in record { held = L.held; weighs = L.weighs; light = c.if-weight-gt8192.false } in
-    let assigned : (s : Session) (o : Outcome (List Element)) (R : Running s c.args.l lent) (D : Drafted AsList o c.args.new.now c.args.d) (r : Assigned) → c.assign-put.result ≡ r → Assigns r (assign s x-of (list (light o D).result)) (slices c.args.principals.now c.args.principal_slots.now c.assign-put.new.1.1.0 c.assign-put.new.1.1.1.0 c.assign-put.new.1.1.1.1.0 c.assign-put.new.1.1.1.1.1.0 c.assign-put.new.1.1.1.1.1.1.0) = λ s o R D r e. subst (λ (m : Assigned). Assigns m (assign s x-of (list (light o D).result))
-    (slices c.args.principals.now c.args.principal_slots.now c.assign-put.new.1.1.0 c.assign-put.new.1.1.1.0 c.assign-put.new.1.1.1.1.0 c.assign-put.new.1.1.1.1.1.0 c.assign-put.new.1.1.1.1.1.1.0)) e
+    let assigned : (s : Session) (o : Outcome (List Element)) (R : Running s (start-after-test c).args.l (lent (start-after-test c))) (D : Drafted AsList o (start-after-test c).args.new.now (start-after-test c).args.d) (r : Assigned) → c.assign-put.result ≡ r → let z = start-after-test c in Assigns r (assign s (x-of z) (list (light o D).result)) (slices z.args.principals.now z.args.principal_slots.now c.assign-put.new.1.1.0 c.assign-put.new.1.1.1.0 c.assign-put.new.1.1.1.1.0 c.assign-put.new.1.1.1.1.1.0 c.assign-put.new.1.1.1.1.1.1.0) = λ s o R D r e. let z = start-after-test c in
+    subst (λ (m : Assigned). Assigns m (assign s (x-of z) (list (light o D).result))
+    (slices z.args.principals.now z.args.principal_slots.now c.assign-put.new.1.1.0 c.assign-put.new.1.1.1.0 c.assign-put.new.1.1.1.1.0 c.assign-put.new.1.1.1.1.1.0 c.assign-put.new.1.1.1.1.1.1.0)) e
     (c.assign-put.ensures s (list (light o D).result) R (weighs o D)) in
     let L = light o D in
     ends_done s k (put_in s x-of line L.result) n (list_put s k x-of line o n e L.result L.is_result) _ _ (assigned s o R D _ c.in-Done.is)

@@ -19,9 +19,9 @@ use Rattle.foreach_command.proofs.run.Goals as goal
 
 pub prepare-p-requires : goal.prepare-p-requires
 prepare-p-requires c =
-    let P = c.requires in record {
-      some_running = P.0;
-      within = (P.1.0.y_within, P.1.0.x_within, P.1.0.says, omega (arith, length-replicate {A = ℕ} 32768 0));
+    record {
+      some_running = c.requires.some_running;
+      within = (c.requires.some_each.0.y_within, c.requires.some_each.0.x_within, c.requires.some_each.0.says, omega (arith, length-replicate {A = ℕ} 32768 0));
     }
 
 pub make_list-requires : goal.make_list-requires
@@ -30,10 +30,9 @@ make_list-requires c =
     let y_of : Text = part c.args.text.now c.args.y in
     let x-of : Text = part c.args.text.now c.args.x in
     let prepared : (s : Session) (u : Expr) → Running s c.args.l lent → expr_meant c.args.text.now c.args.e ≡ some u → (r : Prepared) → c.prepare-p.result ≡ r → Prepares r s y_of x-of u c.prepare-p.new.1.1.1.1.1.1.1.0 = λ s u R m r e. subst (λ (p : Prepared). Prepares p s y_of x-of u c.prepare-p.new.1.1.1.1.1.1.1.0) e (c.prepare-p.ensures s u R m) in
-    let P = c.requires in
-    let E = P.1.0.says in record {
-      some_source = record { session = P.0.session; expression = E.expression; running = P.0.running; meant = E.meant; prepares = prepared P.0.session E.expression P.0.running E.meant _ c.in-List.is };
-      some_each = P.1;
+    record {
+      some_source = record { session = c.requires.some_running.session; expression = c.requires.some_each.0.says.expression; running = c.requires.some_running.running; meant = c.requires.some_each.0.says.meant; prepares = prepared c.requires.some_running.session c.requires.some_each.0.says.expression c.requires.some_running.running c.requires.some_each.0.says.meant _ c.in-List.is };
+      some_each = c.requires.some_each;
     }
 
 pub returns-in-Denied : goal.returns-in-Denied

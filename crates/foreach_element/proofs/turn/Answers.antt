@@ -23,21 +23,19 @@ use borrow.Author.Rules.{rules}
 use Rattle.foreach_element.proofs.turn.Goals as goal
 
 pub slice_bounds-add_variable-count : goal.slice_bounds-add_variable-count
-slice_bounds-add_variable-count c = let w = c.requires.some_turning.y_within in omega (arith, w.0, w.1)
+slice_bounds-add_variable-count c = omega (arith, c.requires.some_turning.y_within.0, c.requires.some_turning.y_within.1)
 
 pub add_variable-end-requires : goal.add_variable-end-requires
 add_variable-end-requires c =
     let y_of : Text = part c.args.text.now c.args.y in
-    let P = c.requires in
-    let E = P.1.1.0 in
-    let R = P.1.0 in (
-      R.scope_small,
-      omega (arith, R.scope_size_lem, P.0.locals_short, (name_length y_of P.0.y_named).1, text_bound (single E.element) _ E.held, E.light),
-      P.0.slots_room,
+    (
+      c.requires.room.scope_small,
+      omega (arith, c.requires.room.scope_size_lem, c.requires.some_turning.locals_short, (name_length y_of.requires.some_turning.y_named).1, text_bound (single c.requires.some_element.0.element) _ c.requires.some_element.0.held, c.requires.some_element.0.light),
+      c.requires.some_turning.slots_room,
     )
 
 pub overflow_add-number : goal.overflow_add-number
-overflow_add-number c = let P = c.requires.some_turning in omega (arith, P.few)
+overflow_add-number c = omega (arith, c.requires.some_turning.few)
 
 pub answer-r-requires : goal.answer-r-requires
 answer-r-requires c =
@@ -45,26 +43,22 @@ answer-r-requires c =
     let Turns : Session → Expr → Type 0 = λ s x. let a = c.args in
     Turning s x a.text.now (texts a.shared.now a.slots.now a.count a.scope.now a.local_slots.now) a.len a.number a.y a.e a.assertions.now a.n a.principals a.sender a.known in
     let with-y : (s : Session) (x : Expr) (a : Element) → Turns s x → Holds (single a) c.args.element.now → let b = c.args in Asked (with_element s y_of a) x b.text.now (texts b.shared.now b.slots.now b.count c.add_variable-end.new.0 c.add_variable-end.new.1.1.0) c.add_variable-end.result (b.number + 1) b.e = λ s x a I h. with_last I a c.add_variable-end.new.0 c.add_variable-end.result c.add_variable-end.new.1.1.0
-    (c.add_variable-end.ensures.outside.1 s.locals (single a) I.asked.held.locals_held c.pre.0.y_named h.is_text_lem)
-    (omega (arith, c.add_variable-end.ensures.outside.0.within, c.add_variable-end.auto.0)) c.pre.0.y_named h.is_valid in
+    (c.add_variable-end.ensures.held s.locals (single a) I.asked.held.locals_held c.pre.0.y_named h.is_text_lem)
+    (omega (arith, c.add_variable-end.ensures.outside.within, c.add_variable-end.auto.0)) c.pre.0.y_named h.is_valid in
     let ends : c.add_variable-end.result ≤ 57605 = let E = c.pre.1.1.0 in
     omega (arith, c.add_variable-end.ensures.size, c.pre.0.locals_short, (name_length y_of.pre.0.y_named).1, text_bound (single E.element) _ E.held, E.light) in
-    let P = c.requires in
-    let E = P.1.1.0 in
-    let T = P.0.turning in (
-      record {
-        session = with_element P.0.session y_of E.element;
-        expression = P.0.expression;
-        asked = with-y P.0.session P.0.expression E.element T E.held;
-        sends = sends_with T E.element;
-        knows = knows_with T E.element;
-      },
-      (
-        fits c.args.e c.args.shared.now c.args.slots.now c.args.count c.args.scope.now c.add_variable-end.new.0 c.args.local_slots.now c.add_variable-end.new.1.1.0
-            (stack c.args.heads.now c.args.lens.now c.args.counts.now c.args.bounds.now) c.args.number c.add_variable-end.result P.1.0 c.add_variable-end.auto.0 c.add_variable-end.auto.1.1.0 ends,
-        (P.0.text_short, P.1.1.1),
-      ),
-    )
+    record {
+      some_asked = record {
+        session = with_element c.requires.some_turning.session y_of.requires.some_element.0.element;
+        expression = c.requires.some_turning.expression;
+        asked = with-y c.requires.some_turning.session c.requires.some_turning.expression c.requires.some_element.0.element c.requires.some_turning.turning c.requires.some_element.0.held;
+        sends = sends_with c.requires.some_turning.turning c.requires.some_element.0.element;
+        knows = knows_with c.requires.some_turning.turning c.requires.some_element.0.element;
+      };
+      fitted = fits c.args.e c.args.shared.now c.args.slots.now c.args.count c.args.scope.now c.add_variable-end.new.0 c.args.local_slots.now c.add_variable-end.new.1.1.0
+            (stack c.args.heads.now c.args.lens.now c.args.counts.now c.args.bounds.now) c.args.number c.add_variable-end.result c.requires.room c.add_variable-end.auto.0 c.add_variable-end.auto.1.1.0 ends;
+      text_len_bound = (c.requires.some_turning.text_short, c.requires.some_element.1);
+    }
 
 pub settled-requires : goal.settled-requires
 settled-requires c =
@@ -72,20 +66,18 @@ settled-requires c =
     let Turns : Session → Expr → Type 0 = λ s x. let a = c.args in
     Turning s x a.text.now (texts a.shared.now a.slots.now a.count a.scope.now a.local_slots.now) a.len a.number a.y a.e a.assertions.now a.n a.principals a.sender a.known in
     let with-y : (s : Session) (x : Expr) (a : Element) → Turns s x → Holds (single a) c.args.element.now → let b = c.args in Asked (with_element s y_of a) x b.text.now (texts b.shared.now b.slots.now b.count c.add_variable-end.new.0 c.add_variable-end.new.1.1.0) c.add_variable-end.result (b.number + 1) b.e = λ s x a I h. with_last I a c.add_variable-end.new.0 c.add_variable-end.result c.add_variable-end.new.1.1.0
-    (c.add_variable-end.ensures.outside.1 s.locals (single a) I.asked.held.locals_held c.pre.0.y_named h.is_text_lem)
-    (omega (arith, c.add_variable-end.ensures.outside.0.within, c.add_variable-end.auto.0)) c.pre.0.y_named h.is_valid in
+    (c.add_variable-end.ensures.held s.locals (single a) I.asked.held.locals_held c.pre.0.y_named h.is_text_lem)
+    (omega (arith, c.add_variable-end.ensures.outside.within, c.add_variable-end.auto.0)) c.pre.0.y_named h.is_valid in
     let answered : (s : Session) (x : Expr) (a : Element) → Turns s x → Holds (single a) c.args.element.now → let b = c.args in let t = with_element s y_of a in Tells c.answer-r.result t (names t x) (Expressions.value t x) c.answer-r.new.1.1.1.1.1.1.1.1.1.1.1.1.1.1.1.1.1.1.0 × Asked t x b.text.now (texts b.shared.now b.slots.now b.count c.answer-r.new.1.1.1.0 c.answer-r.new.1.1.1.1.1.0) c.add_variable-end.result (b.number + 1) b.e = λ s x a I h. c.answer-r.ensures (with_element s y_of a) x (with-y s x a I h) (sends_with I a) (knows_with I a) in
-    let P = c.requires in
-    let E = P.1.1.0 in
-    let t = with_element P.0.session y_of E.element in (
+    let t = with_element c.requires.some_turning.session y_of.requires.some_element.0.element in (
       record {
         session = t;
-        names = names t P.0.expression;
-        outcome = Expressions.value t P.0.expression;
-        tells = (answered P.0.session P.0.expression E.element P.0.turning E.held).0;
+        names = names t c.requires.some_turning.expression;
+        outcome = Expressions.value t c.requires.some_turning.expression;
+        tells = (answered c.requires.some_turning.session c.requires.some_turning.expression c.requires.some_element.0.element c.requires.some_turning.turning c.requires.some_element.0.held).0;
       },
-      E,
-      omega (arith, P.1.1.1.out_size, c.answer-r.auto.1.1.1.1.1.1.1.1.1.1.1.1.1.1.1.1.1.1.0),
+      c.requires.some_element.0,
+      omega (arith, c.requires.some_element.1.out_size, c.answer-r.auto.1.1.1.1.1.1.1.1.1.1.1.1.1.1.1.1.1.1.0),
     )
 
 pub returns : goal.returns
@@ -94,8 +86,8 @@ returns c s x a I h =
     let Turns : Session → Expr → Type 0 = λ s x. let a = c.args in
     Turning s x a.text.now (texts a.shared.now a.slots.now a.count a.scope.now a.local_slots.now) a.len a.number a.y a.e a.assertions.now a.n a.principals a.sender a.known in
     let with-y : (s : Session) (x : Expr) (a : Element) → Turns s x → Holds (single a) c.args.element.now → let b = c.args in Asked (with_element s y_of a) x b.text.now (texts b.shared.now b.slots.now b.count c.add_variable-end.new.0 c.add_variable-end.new.1.1.0) c.add_variable-end.result (b.number + 1) b.e = λ s x a I h. with_last I a c.add_variable-end.new.0 c.add_variable-end.result c.add_variable-end.new.1.1.0
-    (c.add_variable-end.ensures.outside.1 s.locals (single a) I.asked.held.locals_held c.pre.0.y_named h.is_text_lem)
-    (omega (arith, c.add_variable-end.ensures.outside.0.within, c.add_variable-end.auto.0)) c.pre.0.y_named h.is_valid in
+    (c.add_variable-end.ensures.held s.locals (single a) I.asked.held.locals_held c.pre.0.y_named h.is_text_lem)
+    (omega (arith, c.add_variable-end.ensures.outside.within, c.add_variable-end.auto.0)) c.pre.0.y_named h.is_valid in
     let answered : (s : Session) (x : Expr) (a : Element) → Turns s x → Holds (single a) c.args.element.now → let b = c.args in let t = with_element s y_of a in Tells c.answer-r.result t (names t x) (Expressions.value t x) c.answer-r.new.1.1.1.1.1.1.1.1.1.1.1.1.1.1.1.1.1.1.0 × Asked t x b.text.now (texts b.shared.now b.slots.now b.count c.answer-r.new.1.1.1.0 c.answer-r.new.1.1.1.1.1.0) c.add_variable-end.result (b.number + 1) b.e = λ s x a I h. c.answer-r.ensures (with_element s y_of a) x (with-y s x a I h) (sends_with I a) (knows_with I a) in
     let t = with_element s y_of a in
     let A = answered s x a I h in (

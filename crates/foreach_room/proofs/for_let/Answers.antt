@@ -32,13 +32,13 @@ make_all-requires c =
     let aside : (s : Session) (x : Expr) → Turns s x → let a = c.args in Turning s x a.text.now (texts a.shared.now a.slots.now a.count c.copy.new.0 c.copy_slots.new.0) a.len a.number a.y a.e a.assertions.now a.n a.principals a.sender a.known = λ s x I. let a = c.args in
     elsewhere I c.copy.last.0 c.copy_slots.new.0 (copied_front _ a.locals.now a.len I.asked.in_scope c.copy.last.0 c.copy.ensures)
     (omega (arith, c.copy.kept.0, length-replicate {A = ℕ} 90373 0, c.pre.0.locals_short)) (copied_front _ a.local_slots.now a.number (omega (arith, c.pre.0.slots_room)) c.copy_slots.new.0 c.copy_slots.ensures) in
-    let P = c.requires in
     let p = c.copy.auto.0 ∙ length-replicate {A = ℕ} 90373 0 in
     let q = c.copy_slots.auto.0 ∙ length-replicate {A = ℕ} 8192 0 in
-    let f = length-replicate {A = ℕ} 4096 0 in (
-      some_elsewhere P.0 c.copy.new.0 c.copy_slots.new.0 (aside P.0.session P.0.expression P.0.turning) (omega (arith, q, P.0.few)),
-      (let_room c.args.e _ _ _ _ _ _ _ _ _ c.args.number p q f f f f P.0.few, P.1),
-    )
+    let f = length-replicate {A = ℕ} 4096 0 in record {
+      some_turning = some_elsewhere c.requires.some_turning c.copy.new.0 c.copy_slots.new.0 (aside c.requires.some_turning.session c.requires.some_turning.expression c.requires.some_turning.turning) (omega (arith, q, c.requires.some_turning.few));
+      room = let_room c.args.e _ _ _ _ _ _ _ _ _ c.args.number p q f f f f c.requires.some_turning.few;
+      some_list = c.requires.some_list;
+    }
 
 pub returns : goal.returns
 returns c s x es I h =

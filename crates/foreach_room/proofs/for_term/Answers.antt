@@ -26,10 +26,11 @@ make_all-requires c =
     let aside : (s : Session) (x : Expr) → Turns s x → let a = c.args in Turning s x a.text.now (texts a.shared.now a.slots.now a.count c.copy.new.0 a.local_slots.now) a.len a.number a.y a.e a.assertions.now a.n a.principals a.sender a.known = λ s x I. let a = c.args in
     elsewhere I c.copy.new.0 a.local_slots.now (copied_front _ a.locals.now a.len I.asked.in_scope c.copy.new.0 c.copy.ensures)
     (omega (arith, c.copy.auto.0, length-replicate {A = ℕ} 57605 0, c.pre.0.locals_short)) refl in
-    let P = c.requires in (
-      some_elsewhere P.0 c.copy.new.0 c.args.local_slots.now (aside P.0.session P.0.expression P.0.turning) P.0.slots_room,
-      (term_room c.args.e P.1.1 _ _ c.args.number (c.copy.auto.0 ∙ length-replicate {A = ℕ} 57605 0), P.1.0),
-    )
+    record {
+      some_turning = some_elsewhere c.requires.some_turning c.copy.new.0 c.args.local_slots.now (aside c.requires.some_turning.session c.requires.some_turning.expression c.requires.some_turning.turning) c.requires.some_turning.slots_room;
+      room = term_room c.args.e c.requires.without_let _ _ c.args.number (c.copy.auto.0 ∙ length-replicate {A = ℕ} 57605 0);
+      some_list = c.requires.some_list;
+    }
 
 pub returns : goal.returns
 returns c s x es I h =

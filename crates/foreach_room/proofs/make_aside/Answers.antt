@@ -6,7 +6,12 @@ use borrow.Author.Rules.{rules}
 use Rattle.foreach_room.proofs.make_aside.Goals as goal
 
 pub for_term-requires : goal.for_term-requires
-for_term-requires c = (c.requires.some_turning, (c.requires.some_list, subst WithoutLet (sym c.in-Term.is) tt))
+for_term-requires c =
+    record {
+      some_turning = c.requires.some_turning;
+      some_list = c.requires.some_list;
+      without_let = subst WithoutLet (sym c.in-Term.is) tt;
+    }
 
 pub for_let-requires : goal.for_let-requires
 for_let-requires c = let both = c.requires in record { some_turning = both.0; some_list = both.1 }

@@ -22,7 +22,7 @@ returns-then-is_defined c s S =
 pub list_read-requires : goal.list_read-requires
 list_read-requires c =
     let x-of : Text = part c.args.text.now c.args.x in
-    let P = c.requires.some_light in record { value = lookup P.session x-of; held = c.text_of-value.ensures P.session P.scoped }
+    record { value = lookup c.requires.some_light.session x-of; held = c.text_of-value.ensures c.requires.some_light.session c.requires.some_light.scoped }
 
 pub returns-then-not-list_read : goal.returns-then-not-list_read
 returns-then-not-list_read c s S =
@@ -36,9 +36,8 @@ returns-then-not-list_read c s S =
 pub copy_in-n-requires : goal.copy_in-n-requires
 copy_in-n-requires c =
     let x-of : Text = part c.args.text.now c.args.x in
-    let P = c.requires in
-    let k = read_fits P.0.session x-of.text_of-value.result.now (c.text_of-value.ensures P.0.session P.0.scoped) P.0.is_light in
-    omega (arith, k, P.1.2)
+    let k = read_fits c.requires.some_light.session x-of.text_of-value.result.now (c.text_of-value.ensures c.requires.some_light.session c.requires.some_light.scoped) c.requires.some_light.is_light in
+    omega (arith, k, c.requires.within.2)
 
 pub returns : goal.returns
 returns c s S =

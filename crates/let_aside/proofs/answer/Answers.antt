@@ -25,9 +25,8 @@ slice_bounds-copy_slots-end-2 c = sym (length-take-le _ _ (slots_enough c.requir
 
 pub copy_slots-requires : goal.copy_slots-requires
 copy_slots-requires c =
-    let P = c.requires.some_aside in
     let a = c.args in
-    omega (arith, length-take-le a.number a.local_slots.now (slots_enough P.starts), slots_enough P.starts, P.few, length-replicate {A = ℕ} 8192 0)
+    omega (arith, length-take-le a.number a.local_slots.now (slots_enough c.requires.some_aside.starts), slots_enough c.requires.some_aside.starts, c.requires.some_aside.few, length-replicate {A = ℕ} 8192 0)
 
 pub answer-requires : goal.answer-requires
 answer-requires c =
@@ -35,16 +34,12 @@ answer-requires c =
     starts_aside S c.copy.new.0 c.copy_slots.new.0 (ap (take (length a.locals.now)) c.copy.ensures ∙ over_front _ a.locals.now)
     (omega (arith, c.copy.auto.0, length-replicate {A = ℕ} 65536 0, c.requires.some_aside.short))
     (slots_front _ a.local_slots.now c.copy_slots.new.0 a.number (slots_enough S) c.copy_slots.ensures) in
-    let P = c.requires in
-    let S = P.0 in
-    let a = c.args in
-    (
-      record { session = S.session; expression = S.expression; starts = there S.session S.expression S.starts; sends = S.sends; knows = tt },
-      (
-        record {
-          scope_size_lem = omega (arith, S.short, c.copy.auto.0, length-replicate {A = ℕ} 65536 0);
+    let a = c.args in record {
+      some_start = record { session = c.requires.some_aside.session; expression = c.requires.some_aside.expression; starts = there c.requires.some_aside.session c.requires.some_aside.expression c.requires.some_aside.starts; sends = c.requires.some_aside.sends; knows = tt };
+      sized = record {
+          scope_size_lem = omega (arith, c.requires.some_aside.short, c.copy.auto.0, length-replicate {A = ℕ} 65536 0);
           scope_small = omega (arith, c.copy.auto.0, length-replicate {A = ℕ} 65536 0);
-          slots_size = omega (arith, slots_enough S.starts, S.few, c.copy_slots.auto.0, length-replicate {A = ℕ} 8192 0);
+          slots_size = omega (arith, slots_enough c.requires.some_aside.starts, c.requires.some_aside.few, c.copy_slots.auto.0, length-replicate {A = ℕ} 8192 0);
           slots_small = omega (arith, c.copy_slots.auto.0, length-replicate {A = ℕ} 8192 0);
           deep = record {
             heads_size = length-replicate {A = ℕ} 4096 0;
@@ -52,10 +47,9 @@ answer-requires c =
             counts_size = length-replicate {A = ℕ} 4096 0;
             bounds_size = length-replicate {A = ℕ} 4096 0;
           };
-        },
-        P.1,
-      ),
-    )
+        };
+      text_len_bound = c.requires.text_len_bound;
+    }
 
 pub returns : goal.returns
 returns c s x S W =

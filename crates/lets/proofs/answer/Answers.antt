@@ -22,10 +22,10 @@ use Rattle.lets.proofs.answer.Goals as goal
 
 pub loop-further-init : goal.loop-further-init
 loop-further-init c =
-    let P = c.requires in (
-      P.1.0,
-      P.1.1.1,
-      λ s x S W q. start_reached S _ _ q P.1.1.0,
+    (
+      c.requires.sized,
+      c.requires.text_len_bound.1,
+      λ s x S W q. start_reached S _ _ q c.requires.text_len_bound.0,
       refl,
       refl,
       refl,
@@ -38,19 +38,17 @@ loop-further-init c =
 
 pub step-next-requires : goal.step-next-requires
 step-next-requires c =
-    let P = c.requires in
-    let S = P.0 in
     let l = c.loop-further in record {
       some_left = record {
-        session = S.session;
-        expression = S.expression;
+        session = c.requires.some_start.session;
+        expression = c.requires.some_start.expression;
         base = c.args.len;
         number = c.args.number;
-        reached = l.invariant.2 S.session S.expression S.starts S.sends S.knows;
+        reached = l.invariant.2 c.requires.some_start.session c.requires.some_start.expression c.requires.some_start.starts c.requires.some_start.sends c.requires.some_start.knows;
         sized = l.invariant.0;
-        sends = S.sends;
+        sends = c.requires.some_start.sends;
       };
-      text_len_bound = (P.1.1.0, l.invariant.1);
+      text_len_bound = (c.requires.text_len_bound.0, l.invariant.1);
     }
 
 pub loop-further-smaller : goal.loop-further-smaller
@@ -60,8 +58,7 @@ loop-further-smaller c =
     subst (λ (v : Step). Stepped v s x a.text.now (texts a.shared.now a.slots.now a.count c.step-next.new.1.1.1.0 c.step-next.new.1.1.1.1.0)
     (stack c.step-next.new.1.1.1.1.1.1.1.1.1.1.0 c.step-next.new.1.1.1.1.1.1.1.1.1.1.1.0 c.step-next.new.1.1.1.1.1.1.1.1.1.1.1.1.0 c.step-next.new.1.1.1.1.1.1.1.1.1.1.1.1.1.0) a.len a.number l.place.p c.step-next.new.1.1.1.1.1.1.1.1.1.1.1.1.1.1.1.0) e
     (c.step-next.ensures s x a.len a.number (l.invariant.2 s x S W q) l.invariant.0 W) in
-    let P = c.requires.some_start in
-    let S = stepped P.session P.expression P.starts P.sends P.knows (StepIs.On c.in-On.further) c.in-On.is in
+    let S = stepped c.requires.some_start.session c.requires.some_start.expression c.requires.some_start.starts c.requires.some_start.sends c.requires.some_start.knows (StepIs.On c.in-On.further) c.in-On.is in
     omega (arith, S.1, S.0.within)
 
 pub loop-further-preserved : goal.loop-further-preserved

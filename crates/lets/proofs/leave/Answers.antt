@@ -32,23 +32,17 @@ slice_bounds-answer-end-2 c = sym (length-take-le _ _ c.requires.some_left.reach
 pub answer-r-requires : goal.answer-r-requires
 answer-r-requires c =
     let here : TermAt c.args.text.now c.args.at.p c.args.e c.args.end = term_at c.args.text.now c.args.at.p c.args.e c.args.end c.requires.at_term.0 in
-    let P = c.requires.some_left in
-    let R = P.reached in
-    let a = c.args in (
-      (
-        record { session = inner R a.e a.end here; scope = R.held },
-        record { session = inner R a.e a.end here; sends = sends_any R.locals P.sends },
-      ),
-      (
-        (some_term R a.e a.end here.requires.at_term.0.placed.0, c.requires.at_term.1),
-        c.requires.at_term.2,
-      ),
-    )
+    let a = c.args in record {
+      some_scope = (
+        record { session = inner c.requires.some_left.reached a.e a.end here; scope = c.requires.some_left.reached.held },
+        record { session = inner c.requires.some_left.reached a.e a.end here; sends = sends_any c.requires.some_left.reached.locals c.requires.some_left.sends },
+      );
+      some_term = (some_term c.requires.some_left.reached a.e a.end here.requires.at_term.0.placed.0, c.requires.at_term.1);
+      lent = c.requires.at_term.2;
+    }
 
 pub sink-requires : goal.sink-requires
-sink-requires c =
-    let P = c.requires.some_left in
-    record { session = P.session; frames = P.reached.frames; standing = reached_standing P.reached P.sized }
+sink-requires c = record { session = c.requires.some_left.session; frames = c.requires.some_left.reached.frames; standing = reached_standing c.requires.some_left.reached c.requires.some_left.sized }
 
 pub returns-then-depth-eq0 : goal.returns-then-depth-eq0
 returns-then-depth-eq0 c s x base number R Z W =
@@ -75,8 +69,7 @@ slice_bounds-returned-end c =
     (c.answer-r.ensures (inner R a.e a.end here) here.term_read R.held (sends_any R.locals W) here.meant
     (first_known R a.e a.end here)) in
     let worth : (s : Session) (x : Expr) (base number : ℕ) (R : Reaches s x base number) → (let a = c.args in Sends s a.shared.now a.slots.now a.count a.assertions.now a.n a.principals a.sender) → let a = c.args in Tells (Is.Value c.in-Value.len c.in-Value.weight) (inner R a.e a.end here) (term_names here.term_read) (outcome R a.e a.end here) c.answer-r.new.1.1.1.1.1.1.1.1.1.1.1.1.1.0 = λ s x base number R W. tells s x base number R W (Is.Value c.in-Value.len c.in-Value.weight) c.in-Value.is in
-    let P = c.requires.some_left in
-    (worth P.session P.expression P.base P.number P.reached P.sends).1.within
+    (worth c.requires.some_left.session c.requires.some_left.expression c.requires.some_left.base c.requires.some_left.number c.requires.some_left.reached c.requires.some_left.sends).1.within
 
 pub slice_bounds-returned-end-in-Value : goal.slice_bounds-returned-end-in-Value
 slice_bounds-returned-end-in-Value c =
@@ -89,8 +82,7 @@ slice_bounds-returned-end-in-Value c =
     (c.answer-r.ensures (inner R a.e a.end here) here.term_read R.held (sends_any R.locals W) here.meant
     (first_known R a.e a.end here)) in
     let worth : (s : Session) (x : Expr) (base number : ℕ) (R : Reaches s x base number) → (let a = c.args in Sends s a.shared.now a.slots.now a.count a.assertions.now a.n a.principals a.sender) → let a = c.args in Tells (Is.Value c.in-Value.len c.in-Value.weight) (inner R a.e a.end here) (term_names here.term_read) (outcome R a.e a.end here) c.answer-r.new.1.1.1.1.1.1.1.1.1.1.1.1.1.0 = λ s x base number R W. tells s x base number R W (Is.Value c.in-Value.len c.in-Value.weight) c.in-Value.is in
-    let P = c.requires.some_left in
-    sym (length-take-le _ _ (worth P.session P.expression P.base P.number P.reached P.sends).1.within)
+    sym (length-take-le _ _ (worth c.requires.some_left.session c.requires.some_left.expression c.requires.some_left.base c.requires.some_left.number c.requires.some_left.reached c.requires.some_left.sends).1.within)
 
 pub returned-requires : goal.returned-requires
 returned-requires c =
@@ -107,8 +99,7 @@ returned-requires c =
     let T = worth s x base number R W in
     subst (λ (k : Known). Given s x a.text.now lent pile base number a.at.depth a.end k (take c.in-Value.len c.answer-r.new.1.1.1.1.1.1.1.1.1.1.1.1.1.0) c.in-Value.weight) (sym c.behind.ensures)
     (leave_given R a.e a.end here T.0 _ c.in-Value.len c.in-Value.weight (omega (arith, c.if-depth-eq0.false)) c.requires.at_term.0.placed.2 Z T.1) in
-    let P = c.requires.some_left in
-    record { session = P.session; expression = P.expression; base = P.base; number = P.number; given = given P.session P.expression P.base P.number P.reached P.sized P.sends }
+    record { session = c.requires.some_left.session; expression = c.requires.some_left.expression; base = c.requires.some_left.base; number = c.requires.some_left.number; given = given c.requires.some_left.session c.requires.some_left.expression c.requires.some_left.base c.requires.some_left.number c.requires.some_left.reached c.requires.some_left.sized c.requires.some_left.sends }
 
 pub returns-in-Denied : goal.returns-in-Denied
 returns-in-Denied c s x base number R Z W =

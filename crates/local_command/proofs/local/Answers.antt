@@ -32,24 +32,21 @@ answer-v-requires c =
     let Runs : Session → Type 0 = λ s. Running s c.args.l buffers in
     let session-scoped : (s : Session) → Runs s → let a = c.args in Scoped s a.l a.vars.now a.variable_slots.now a.locals.now a.local_slots.now = λ s R. scoped s c.args.l buffers R in
     let session-sends : (s : Session) → Runs s → let a = c.args in Sending s a.l a.vars.now a.variable_slots.now a.assertions.now = λ s R. sending s c.args.l buffers R in
-    let S = c.requires.some_running in
-    let a = c.args in (
-      (
-        record { session = S.session; scoped = session-scoped S.session S.running },
-        record { session = S.session; sending = session-sends S.session S.running },
-      ),
-      (
-        (c.requires.names.0.said, lent a.value.now a.labels.now c.requires.names.1.value_size c.requires.names.1.labels_size),
-        copyable S.session a.l buffers S.running,
-      ),
-    )
+    let a = c.args in record {
+      some_scoped = (
+        record { session = c.requires.some_running.session; scoped = session-scoped c.requires.some_running.session c.requires.some_running.running },
+        record { session = c.requires.some_running.session; sending = session-sends c.requires.some_running.session c.requires.some_running.running },
+      );
+      said = (c.requires.names.0.said, lent a.value.now a.labels.now c.requires.names.1.value_size c.requires.names.1.labels_size);
+      copyable = copyable c.requires.some_running.session a.l buffers.requires.some_running.running;
+    }
 
 pub is_defined-defined-requires : goal.is_defined-defined-requires
 is_defined-defined-requires c =
     let buffers : Slices = let a = c.args in slices a.principals.now a.principal_slots.now a.vars.now a.variable_slots.now a.locals.now a.local_slots.now a.assertions.now in
     let Runs : Session → Type 0 = λ s. Running s c.args.l buffers in
     let session-scoped : (s : Session) → Runs s → let a = c.args in Scoped s a.l a.vars.now a.variable_slots.now a.locals.now a.local_slots.now = λ s R. scoped s c.args.l buffers R in
-    let S = c.requires.some_running in record { session = S.session; scoped = session-scoped S.session S.running }
+    record { session = c.requires.some_running.session; scoped = session-scoped c.requires.some_running.session c.requires.some_running.running }
 
 pub slice_bounds-declare-end : goal.slice_bounds-declare-end
 slice_bounds-declare-end c =
@@ -64,7 +61,7 @@ slice_bounds-declare-end c =
     let stored : (s : Session) (y : Syntax.Expr) → Runs s → Says y → Stores s y (not c.is_defined-defined.result) c.answer-v.new.1.1.1.1.1.1.1.1.0 c.in-Value.len c.in-Value.weight = λ s y R m. let x = name_of in
     stores s (Syntax.local x y) y (not c.is_defined-defined.result) (local_effect s x) (does s y R) c.answer-v.new.1.1.1.1.1.1.1.1.0 c.answer-v.result
     (answers s y R m) c.settle.result c.settle.ensures c.in-Value.len c.in-Value.weight c.in-Value.is in
-    let some_stored : let p = c.requires in Stores p.0.session p.1.0.said.expression.expression (not c.is_defined-defined.result) c.answer-v.new.1.1.1.1.1.1.1.1.0 c.in-Value.len c.in-Value.weight = let p = c.requires in stored p.0.session p.1.0.said.expression.expression p.0.running p.1.0.said.expression.meant in
+    let some_stored : Stores c.requires.some_running.session c.requires.names.0.said.expression.expression (not c.is_defined-defined.result) c.answer-v.new.1.1.1.1.1.1.1.1.0 c.in-Value.len c.in-Value.weight = stored c.requires.some_running.session c.requires.names.0.said.expression.expression c.requires.some_running.running c.requires.names.0.said.expression.meant in
     some_stored.written.within
 
 pub slice_bounds-declare-end-in-Value : goal.slice_bounds-declare-end-in-Value
@@ -80,7 +77,7 @@ slice_bounds-declare-end-in-Value c =
     let stored : (s : Session) (y : Syntax.Expr) → Runs s → Says y → Stores s y (not c.is_defined-defined.result) c.answer-v.new.1.1.1.1.1.1.1.1.0 c.in-Value.len c.in-Value.weight = λ s y R m. let x = name_of in
     stores s (Syntax.local x y) y (not c.is_defined-defined.result) (local_effect s x) (does s y R) c.answer-v.new.1.1.1.1.1.1.1.1.0 c.answer-v.result
     (answers s y R m) c.settle.result c.settle.ensures c.in-Value.len c.in-Value.weight c.in-Value.is in
-    let some_stored : let p = c.requires in Stores p.0.session p.1.0.said.expression.expression (not c.is_defined-defined.result) c.answer-v.new.1.1.1.1.1.1.1.1.0 c.in-Value.len c.in-Value.weight = let p = c.requires in stored p.0.session p.1.0.said.expression.expression p.0.running p.1.0.said.expression.meant in
+    let some_stored : Stores c.requires.some_running.session c.requires.names.0.said.expression.expression (not c.is_defined-defined.result) c.answer-v.new.1.1.1.1.1.1.1.1.0 c.in-Value.len c.in-Value.weight = stored c.requires.some_running.session c.requires.names.0.said.expression.expression c.requires.some_running.running c.requires.names.0.said.expression.meant in
     sym (length-take-le _ _ some_stored.written.within)
 
 pub declare-done-requires : goal.declare-done-requires
@@ -96,14 +93,13 @@ declare-done-requires c =
     let stored : (s : Session) (y : Syntax.Expr) → Runs s → Says y → Stores s y (not c.is_defined-defined.result) c.answer-v.new.1.1.1.1.1.1.1.1.0 c.in-Value.len c.in-Value.weight = λ s y R m. let x = name_of in
     stores s (Syntax.local x y) y (not c.is_defined-defined.result) (local_effect s x) (does s y R) c.answer-v.new.1.1.1.1.1.1.1.1.0 c.answer-v.result
     (answers s y R m) c.settle.result c.settle.ensures c.in-Value.len c.in-Value.weight c.in-Value.is in
-    let some_stored : let p = c.requires in Stores p.0.session p.1.0.said.expression.expression (not c.is_defined-defined.result) c.answer-v.new.1.1.1.1.1.1.1.1.0 c.in-Value.len c.in-Value.weight = let p = c.requires in stored p.0.session p.1.0.said.expression.expression p.0.running p.1.0.said.expression.meant in
-    let S = c.requires.some_running in
+    let some_stored : Stores c.requires.some_running.session c.requires.names.0.said.expression.expression (not c.is_defined-defined.result) c.answer-v.new.1.1.1.1.1.1.1.1.0 c.in-Value.len c.in-Value.weight = stored c.requires.some_running.session c.requires.names.0.said.expression.expression c.requires.some_running.running c.requires.names.0.said.expression.meant in
     let x = name_of in
     let H = some_stored.written in (
-      record { variables = S.session.locals; lies = locals_lie S.session c.args.l buffers S.running },
+      record { variables = c.requires.some_running.session.locals; lies = locals_lie c.requires.some_running.session c.args.l buffers.requires.some_running.running },
       identifier_name x c.requires.names.0.name_holds,
       record { value = H.value; is_value = weighed H },
-      S.running.light,
+      c.requires.some_running.running.light,
     )
 
 pub returns-in-Over : goal.returns-in-Over

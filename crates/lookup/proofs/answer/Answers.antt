@@ -20,19 +20,16 @@ slice_bounds-answer-end-in-Term c = sym (length-take-le _ _ c.requires.some_scop
 
 pub answer-requires : goal.answer-requires
 answer-requires c =
-    let P = c.requires in
     let a = c.args in
-    let E = P.1.0.0.expression in
-    let A = asked P.0.0.session a.l a.vars.now a.variable_slots.now a.locals.now a.local_slots.now a.text.now a.e E.expression P.0.0.scoped E E.meant in
-    (
-      (record { session = P.0.0.session; scope = P.0.0.scoped.scope }, record { session = P.0.1.session; sends = P.0.1.sending.sends }),
-      ((some_term A c.in-Term.t c.in-Term.is, P.1.0.0.short), P.1.0.1),
-    )
+    let A = asked c.requires.some_scoped.0.session a.l a.vars.now a.variable_slots.now a.locals.now a.local_slots.now a.text.now a.e c.requires.said.0.expression.expression c.requires.some_scoped.0.scoped c.requires.said.0.expression c.requires.said.0.expression.meant in record {
+      some_scope = (record { session = c.requires.some_scoped.0.session; scope = c.requires.some_scoped.0.scoped.scope }, record { session = c.requires.some_scoped.1.session; sends = c.requires.some_scoped.1.sending.sends });
+      some_term = (some_term A c.in-Term.t c.in-Term.is, c.requires.said.0.short);
+      lent = c.requires.said.1;
+    }
 
 pub returns-in-Term : goal.returns-in-Term
 returns-in-Term c s y S W m =
-    let P = c.requires in
     let a = c.args in
-    let A = asked s a.l a.vars.now a.variable_slots.now a.locals.now a.local_slots.now a.text.now a.e y S P.1.0.0.expression m in
+    let A = asked s a.l a.vars.now a.variable_slots.now a.locals.now a.local_slots.now a.text.now a.e y S c.requires.said.0.expression m in
     let T = as_term A c.in-Term.t c.in-Term.is in
     subst (λ (z : Syntax.Expr). Tells c.answer.result s (names s z) (value s z) c.answer.new.1.1.1.1.1.1.1.1.1.1.1.1.1.0) (sym T.is) (c.answer.ensures s T.the_term S.scope W.sends T.meant tt)

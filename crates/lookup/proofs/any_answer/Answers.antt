@@ -23,14 +23,12 @@ slice_bounds-answer-end-in-Term c = sym (length-take-le _ _ c.requires.some_scop
 
 pub answer-requires : goal.answer-requires
 answer-requires c =
-    let P = c.requires in
     let a = c.args in
-    let E = P.1.0.0.expression in
-    let A = asked P.0.0.session a.l a.vars.now a.variable_slots.now a.locals.now a.local_slots.now a.text.now a.e E.expression P.0.0.scoped E E.meant in
-    (
-      (record { session = P.0.0.session; scope = P.0.0.scoped.scope }, record { session = P.0.1.session; sends = P.0.1.sending.sends }),
-      ((some_term A c.in-Term.t c.in-Term.is, P.1.0.0.short), P.1.0.1),
-    )
+    let A = asked c.requires.some_scoped.0.session a.l a.vars.now a.variable_slots.now a.locals.now a.local_slots.now a.text.now a.e c.requires.said.0.expression.expression c.requires.some_scoped.0.scoped c.requires.said.0.expression c.requires.said.0.expression.meant in record {
+      some_scope = (record { session = c.requires.some_scoped.0.session; scope = c.requires.some_scoped.0.scoped.scope }, record { session = c.requires.some_scoped.1.session; sends = c.requires.some_scoped.1.sending.sends });
+      some_term = (some_term A c.in-Term.t c.in-Term.is, c.requires.said.0.short);
+      lent = c.requires.said.1;
+    }
 
 pub slice_bounds-answer-end-in-Let : goal.slice_bounds-answer-end-in-Let
 slice_bounds-answer-end-in-Let c = sym (length-take-le _ _ c.requires.some_scoped.0.scoped.vars_within)
@@ -40,35 +38,29 @@ slice_bounds-answer-end-in-Let-2 c = sym (length-take-le _ _ c.requires.some_sco
 
 pub answer-requires-in-Let : goal.answer-requires-in-Let
 answer-requires-in-Let c =
-    let P = c.requires in
     let a = c.args in
-    let E = P.1.0.0.expression in
-    let S = P.0.0.scoped in
-    let W = P.0.1.sending.sends in
-    let A = asked P.0.0.session a.l a.vars.now a.variable_slots.now a.locals.now a.local_slots.now a.text.now a.e E.expression S E E.meant in
+    let A = asked c.requires.some_scoped.0.session a.l a.vars.now a.variable_slots.now a.locals.now a.local_slots.now a.text.now a.e c.requires.said.0.expression.expression c.requires.some_scoped.0.scoped c.requires.said.0.expression c.requires.said.0.expression.meant in
     (
       record {
-        session = (environment P.0.1.session P.0.0.session.locals 0).session;
-        expression = E.expression;
-        starts = other_store P.0.1.session (as_let A c.in-Let.p c.in-Let.is) W;
-        sends = sends_any P.0.0.session.locals W;
-        short = omega (arith, P.1.1.locals_short, length-take-le a.l.locals_len a.locals.now S.locals_within, S.locals_within);
-        few = P.1.1.slots_few;
+        session = (environment c.requires.some_scoped.1.session c.requires.some_scoped.0.session.locals 0).session;
+        expression = c.requires.said.0.expression.expression;
+        starts = other_store c.requires.some_scoped.1.session (as_let A c.in-Let.p c.in-Let.is) c.requires.some_scoped.1.sending.sends;
+        sends = sends_any c.requires.some_scoped.0.session.locals c.requires.some_scoped.1.sending.sends;
+        short = omega (arith, c.requires.copyable.locals_short, length-take-le a.l.locals_len a.locals.now c.requires.some_scoped.0.scoped.locals_within, c.requires.some_scoped.0.scoped.locals_within);
+        few = c.requires.copyable.slots_few;
       },
-      (P.1.0.0.short, P.1.0.1),
+      (c.requires.said.0.short, c.requires.said.1),
     )
 
 pub returns-in-Term : goal.returns-in-Term
 returns-in-Term c s y S W m =
-    let P = c.requires in
     let a = c.args in
-    let A = asked s a.l a.vars.now a.variable_slots.now a.locals.now a.local_slots.now a.text.now a.e y S P.1.0.0.expression m in
+    let A = asked s a.l a.vars.now a.variable_slots.now a.locals.now a.local_slots.now a.text.now a.e y S c.requires.said.0.expression m in
     let T = as_term A c.in-Term.t c.in-Term.is in
     subst (λ (z : Syntax.Expr). Tells c.answer.result s (names s z) (value s z) c.answer.new.1.1.1.1.1.1.1.1.1.1.1.1.1.0) (sym T.is) (c.answer.ensures s T.the_term S.scope W.sends T.meant tt)
 
 pub returns-in-Let : goal.returns-in-Let
 returns-in-Let c s y S W m =
-    let P = c.requires in
     let a = c.args in
-    let A = asked s a.l a.vars.now a.variable_slots.now a.locals.now a.local_slots.now a.text.now a.e y S P.1.0.0.expression m in
+    let A = asked s a.l a.vars.now a.variable_slots.now a.locals.now a.local_slots.now a.text.now a.e y S c.requires.said.0.expression m in
     c.answer-in-Let.ensures s y (as_let A c.in-Let.p c.in-Let.is) W.sends

@@ -8,14 +8,12 @@ use Rattle.opening.proofs.begin.Goals as goal
 pub copy_in-principals_len-requires : goal.copy_in-principals_len-requires
 copy_in-principals_len-requires c =
     let a = c.args in
-    let P = c.requires.some_valid in
-    omega (arith, c.requires.sized.principals_size, principals_fit a.state.now a.principal_slots.now a.variable_slots.now a.assertions.now a.parts P.state P.represents P.is_valid)
+    omega (arith, c.requires.sized.principals_size, principals_fit a.state.now a.principal_slots.now a.variable_slots.now a.assertions.now a.parts c.requires.some_valid.state c.requires.some_valid.represents c.requires.some_valid.is_valid)
 
 pub copy_in-vars_len-requires : goal.copy_in-vars_len-requires
 copy_in-vars_len-requires c =
     let a = c.args in
-    let P = c.requires.some_valid in
-    omega (arith, c.requires.sized.vars_size, variables_fit a.state.now a.principal_slots.now a.variable_slots.now a.assertions.now a.parts P.state P.represents P.is_valid)
+    omega (arith, c.requires.sized.vars_size, variables_fit a.state.now a.principal_slots.now a.variable_slots.now a.assertions.now a.parts c.requires.some_valid.state c.requires.some_valid.represents c.requires.some_valid.is_valid)
 
 pub returns : goal.returns
 returns c s p R v e k =

@@ -22,7 +22,7 @@ use borrow.Author.Rules.{rules}
 use Rattle.passwords.proofs.change_password.Goals as goal
 
 pub number_of-n-requires : goal.number_of-n-requires
-number_of-n-requires c = let P = c.requires.some_running in (P.running.principals_within, some_principals P.session.store.principals _ _ _ P.running.principals)
+number_of-n-requires c = (c.requires.some_running.running.principals_within, some_principals c.requires.some_running.session.store.principals _ _ _ c.requires.some_running.running.principals)
 
 pub returns-then-sender-n : goal.returns-then-sender-n
 returns-then-sender-n c s R =
@@ -39,20 +39,18 @@ pub password_weight-old-requires : goal.password_weight-old-requires
 password_weight-old-requires c =
     let number_is : (s : Session) → let a = c.args in Running s a.l (slices a.principals.now a.principal_slots.now a.vars.now a.variable_slots.now a.locals.now a.local_slots.now a.assertions.now) → c.number_of_lem.result ≡ position (principals_of s.store) (part a.text.now a.p) = λ s R. row_number s c.args.l _ R _ c.number_of_lem.result c.number_of_lem.ensures in
     let below : (s : Session) → let a = c.args in Running s a.l (slices a.principals.now a.principal_slots.now a.vars.now a.variable_slots.now a.locals.now a.local_slots.now a.assertions.now) → c.number_of_lem.result < a.l.principals = λ s R. number_below s c.args.l _ R (part c.args.text.now c.args.p) c.number_of_lem.result (number_is s R) c.if-n-count.false in
-    let P = c.requires.some_running in
-    (P.running.principals_within, record { principals = P.session.store.principals; held = P.running.principals }, below P.session P.running)
+    (c.requires.some_running.running.principals_within, record { principals = c.requires.some_running.session.store.principals; held = c.requires.some_running.running.principals }, below c.requires.some_running.session c.requires.some_running.running)
 
 pub overflow_sub-weight : goal.overflow_sub-weight
 overflow_sub-weight c =
     let number_is : (s : Session) → let a = c.args in Running s a.l (slices a.principals.now a.principal_slots.now a.vars.now a.variable_slots.now a.locals.now a.local_slots.now a.assertions.now) → c.number_of_lem.result ≡ position (principals_of s.store) (part a.text.now a.p) = λ s R. row_number s c.args.l _ R _ c.number_of_lem.result c.number_of_lem.ensures in
     let below : (s : Session) → let a = c.args in Running s a.l (slices a.principals.now a.principal_slots.now a.vars.now a.variable_slots.now a.locals.now a.local_slots.now a.assertions.now) → c.number_of_lem.result < a.l.principals = λ s R. number_below s c.args.l _ R (part c.args.text.now c.args.p) c.number_of_lem.result (number_is s R) c.if-n-count.false in
     let old-is : (s : Session) → let a = c.args in Running s a.l (slices a.principals.now a.principal_slots.now a.vars.now a.variable_slots.now a.locals.now a.local_slots.now a.assertions.now) → c.password_weight_lem.result ≡ password_weight (principal_at s.store.principals c.number_of_lem.result).password = λ s R. c.password_weight_lem.ensures s.store.principals R.principals in
-    let P = c.requires.some_running in
-    let n = number_is P.session P.running in
+    let n = number_is c.requires.some_running.session c.requires.some_running.running in
     omega (
       arith,
-      old-is P.session P.running,
-      old_weighs P.session c.args.l _ P.running (part c.args.text.now c.args.p) (part c.args.text.now c.args.password) c.number_of_lem.result n (below P.session P.running),
+      old-is c.requires.some_running.session c.requires.some_running.running,
+      old_weighs c.requires.some_running.session c.args.l _ c.requires.some_running.running (part c.args.text.now c.args.p) (part c.args.text.now c.args.password) c.number_of_lem.result n (below c.requires.some_running.session c.requires.some_running.running),
     )
 
 pub overflow_sub-weight-2 : goal.overflow_sub-weight-2
@@ -90,13 +88,11 @@ set_password-new-requires c =
     (λ i. a.l.weight - old-is s R i + d i)
     ∙ after_weighs s a.l _ R (part a.text.now a.p) w c.number_of_lem.result (number_is s R) (below s R) in
     let a = c.args in
-    let P = c.requires.some_running in
-    let s = P.session in
-    let R = P.running in (
-      omega (arith, R.sized.principals_size),
-      R.principals_within,
-      some_password s a.l _ R (part a.text.now a.p) (part a.text.now a.password) c.number_of_lem.result (number_is s R) (below s R)
-          (omega (arith, weight_is s R, c.if-weight-gt8192.false)) c.requires.within.2,
+    (
+      omega (arith, c.requires.some_running.running.sized.principals_size),
+      c.requires.some_running.running.principals_within,
+      some_password c.requires.some_running.session a.l _ c.requires.some_running.running (part a.text.now a.p) (part a.text.now a.password) c.number_of_lem.result (number_is c.requires.some_running.session c.requires.some_running.running) (below c.requires.some_running.session c.requires.some_running.running)
+          (omega (arith, weight_is c.requires.some_running.session c.requires.some_running.running, c.if-weight-gt8192.false)) c.requires.within.2,
     )
 
 pub returns : goal.returns

@@ -22,7 +22,7 @@ pub returns-then-sender-ne0 : goal.returns-then-sender-ne0
 returns-then-sender-ne0 c s R = create_denied s c.args.l _ R _ _ c.if-sender-ne0.true
 
 pub number_of-n-requires : goal.number_of-n-requires
-number_of-n-requires c = let P = c.requires.some_running in (P.running.principals_within, some_principals P.session.store.principals _ _ _ P.running.principals)
+number_of-n-requires c = (c.requires.some_running.running.principals_within, some_principals c.requires.some_running.session.store.principals _ _ _ c.requires.some_running.running.principals)
 
 pub returns-then-n-count : goal.returns-then-n-count
 returns-then-n-count c s R =
@@ -38,11 +38,10 @@ add-added-requires c =
     let is_new : (s : Session) → let a = c.args in Running s a.l (slices a.principals.now a.principal_slots.now a.vars.now a.variable_slots.now a.locals.now a.local_slots.now a.assertions.now) → New s a.l (slices a.principals.now a.principal_slots.now a.vars.now a.variable_slots.now a.locals.now a.local_slots.now a.assertions.now) a.principals.now a.principal_slots.now (part a.text.now a.p) (part a.text.now a.password) = λ s R. let a = c.args in
     create_new s a.l _ R (part a.text.now a.p) (part a.text.now a.password) c.number_of_lem.result (number_is s R) c.if-sender-ne0.false c.if-n-count.false c.pre.1.0.2 in
     let a = c.args in
-    let P = c.requires.some_running in
-    let W = c.requires.within.0 in (
-      record { session = P.session; buffers = _; new = is_new P.session P.running },
-      omega (arith, part_length a.text.now a.p.start a.p.end W.0.1, W.0.1, W.3),
-      omega (arith, part_length a.text.now a.password.start a.password.end W.1.1, W.1.1, W.3),
+    (
+      record { session = c.requires.some_running.session; buffers = _; new = is_new c.requires.some_running.session c.requires.some_running.running },
+      omega (arith, part_length a.text.now a.p.start a.p.end c.requires.within.0.1, c.requires.within.0.1, c.requires.within.3),
+      omega (arith, part_length a.text.now a.password.start a.password.end c.requires.within.1.1, c.requires.within.1.1, c.requires.within.3),
     )
 
 pub returns-in_default : goal.returns-in_default
@@ -71,15 +70,14 @@ delegate_rights-given-requires c =
     create_gives s a.l _ R (part a.text.now a.p) (part a.text.now a.password) c.number_of_lem.result (number_is s R) c.if-sender-ne0.false c.if-n-count.false
     c.in-Done.k _ (added-ends s R _ c.in-Done.is) in
     let a = c.args in
-    let P = c.requires.some_running in
-    let s = P.session in (
+    (
       record {
-        session = with_store s (with_principal s.store (part a.text.now a.p) (part a.text.now a.password));
-        from = s.store.delegator;
+        session = with_store c.requires.some_running.session (with_principal c.requires.some_running.session.store (part a.text.now a.p) (part a.text.now a.password));
+        from = c.requires.some_running.session.store.delegator;
         to = part a.text.now a.p;
-        gives = now-gives s P.running;
+        gives = now-gives c.requires.some_running.session c.requires.some_running.running;
       },
-      omega (arith, c.requires.within.1),
+      omega (arith, c.requires.targets_len),
     )
 
 pub returns-in-Full : goal.returns-in-Full

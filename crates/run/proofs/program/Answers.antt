@@ -37,7 +37,11 @@ pub start-requires : goal.start-requires
 start-requires c =
     let meant : Checked → Type 0 = λ r. CheckedMeant c.args.state.now c.check-checked.new.1.0 c.check-checked.new.1.1.0 c.check-checked.new.1.1.1.0 r in
     let understood : Understood c.args.state.now c.check-checked.new.1.0 c.check-checked.new.1.1.0 c.check-checked.new.1.1.1.0 c.in-Good.parts = subst meant.in-Good.is c.check-checked.ensures in
-    (understood, ((c.if-state-ne65536.false, c.if-work-ne65536.false, c.if-output-ne65536.false), (c.check-checked.auto.1.0, c.check-checked.auto.1.1.0, c.check-checked.auto.1.1.1.0)))
+    record {
+      understood = understood;
+      state_len = (c.if-state-ne65536.false, c.if-work-ne65536.false, c.if-output-ne65536.false);
+      principal_slots_len = (c.check-checked.auto.1.0, c.check-checked.auto.1.1.0, c.check-checked.auto.1.1.1.0);
+    }
 
 pub returns-in-Bad : goal.returns-in-Bad
 returns-in-Bad c =

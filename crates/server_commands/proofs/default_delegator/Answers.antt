@@ -16,7 +16,7 @@ pub returns-then-sender-ne0 : goal.returns-then-sender-ne0
 returns-then-sender-ne0 c s R = delegator_denied s c.args.l _ R _ c.if-sender-ne0.true
 
 pub number_of-n-requires : goal.number_of-n-requires
-number_of-n-requires c = let P = c.requires.some_running in (P.running.principals_within, some_principals P.session.store.principals _ _ _ P.running.principals)
+number_of-n-requires c = (c.requires.some_running.running.principals_within, some_principals c.requires.some_running.session.store.principals _ _ _ c.requires.some_running.running.principals)
 
 pub returns-then-n-count : goal.returns-then-n-count
 returns-then-n-count c s R =

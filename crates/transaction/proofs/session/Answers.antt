@@ -23,17 +23,16 @@ use Rattle.transaction.proofs.session.Goals as goal
 
 pub begin-start-requires : goal.begin-start-requires
 begin-start-requires c =
-    let g = c.args in
-    let P = c.requires.state_len in record {
+    let g = c.args in record {
       some_valid = checked_some_valid g.state.now g.principal_slots.now g.variable_slots.now g.assertions.now g.parts c.requires.admitted.understood;
       sized = record {
         principals_size = length-replicate {A = ℕ} 11008 0;
-        principal_slots_size = P.1.0;
-        vars_size = P.0.1;
-        variable_slots_size = P.1.1;
+        principal_slots_size = c.requires.principal_slots_len.0;
+        vars_size = c.requires.state_len.1;
+        variable_slots_size = c.requires.principal_slots_len.1;
         locals_size = length-replicate {A = ℕ} 32768 0;
         local_slots_size = length-replicate {A = ℕ} 4096 0;
-        assertions_size = P.1.2;
+        assertions_size = c.requires.principal_slots_len.2;
       };
     }
 
@@ -42,10 +41,11 @@ perform-performed-requires c =
     let Known : Type 0 = let a = c.args in Admitted a.state.now a.principal_slots.now a.variable_slots.now a.assertions.now a.parts a.program.now a.sender a.at in
     let begun : Slices = let a = c.args in slices c.begin-start.new.1.1.1.1.1.1.0 a.principal_slots.now c.begin-start.new.1.1.1.1.1.1.1.0 a.variable_slots.now (replicate 32768 0) (replicate 4096 0) a.assertions.now in
     let begins : (a : Known) → Running (opened a.understood.state a.sent_by.opening) c.begin-start.result begun = λ a. c.begin-start.ensures a.understood.state (sent a.sent_by.opening []) a.understood.represents (store_valid a.understood) a.sent_by.logged_in a.sent_by.numbered in
-    let a = c.requires.admitted in (
-      record { session = opened a.understood.state a.sent_by.opening; running = begins a },
-      ((length-replicate {A = ℕ} 45056 0, length-replicate {A = ℕ} 4096 0), (a.sent_by.placed, a.sent_by.not_longer, c.requires.state_len.0.2)),
-    )
+    record {
+      some_running = record { session = opened c.requires.admitted.understood.state c.requires.admitted.sent_by.opening; running = begins c.requires.admitted };
+      value_len = (length-replicate {A = ℕ} 45056 0, length-replicate {A = ℕ} 4096 0);
+      at_in_bounds = (c.requires.admitted.sent_by.placed, c.requires.admitted.sent_by.not_longer, c.requires.state_len.2);
+    }
 
 pub slice_bounds-settle-end : goal.slice_bounds-settle-end
 slice_bounds-settle-end c = sym (c.perform-performed.auto.0 ∙ c.begin-start.auto.1.1.1.1.1.1.0 ∙ length-replicate {A = ℕ} 11008 0)
@@ -63,15 +63,14 @@ settle-requires c =
     let begun : Slices = let a = c.args in slices c.begin-start.new.1.1.1.1.1.1.0 a.principal_slots.now c.begin-start.new.1.1.1.1.1.1.1.0 a.variable_slots.now (replicate 32768 0) (replicate 4096 0) a.assertions.now in
     let begins : (a : Known) → Running (opened a.understood.state a.sent_by.opening) c.begin-start.result begun = λ a. c.begin-start.ensures a.understood.state (sent a.sent_by.opening []) a.understood.represents (store_valid a.understood) a.sent_by.logged_in a.sent_by.numbered in
     let ends : (a : Known) → Ends c.perform-performed.result a.sent_by.opening.sender (end_on (opened a.understood.state a.sent_by.opening) (body_from c.args.program.now c.args.at)) left.args.output.now c.perform-performed.new.1.1.1.1.1.1.1.1.1.1.1.1.0 = λ a. c.perform-performed.ensures (opened a.understood.state a.sent_by.opening) (begins a) in
-    let a = c.requires.admitted in
     let g = c.args in record {
-      some_end = record { sender = a.sent_by.opening.sender; end = end_on (opened a.understood.state a.sent_by.opening) (body_from g.program.now g.at); before = g.output.now; ends = ends a };
+      some_end = record { sender = c.requires.admitted.sent_by.opening.sender; end = end_on (opened c.requires.admitted.understood.state c.requires.admitted.sent_by.opening) (body_from g.program.now g.at); before = g.output.now; ends = ends c.requires.admitted };
       work_len = (
-        c.perform-performed.auto.1.1.0 ∙ c.begin-start.auto.1.1.1.1.1.1.1.0 ∙ c.requires.state_len.0.1,
-        c.requires.state_len.0.0,
-        c.perform-performed.auto.1.1.1.1.1.1.1.1.1.1.1.1.0 ∙ c.requires.state_len.0.2,
-        omega (arith, a.understood.represents.used_within, c.requires.state_len.0.0),
-        a.understood.represents.rest_zero ∙ ap (λ (n : ℕ). replicate (n - g.parts.used) 0) c.requires.state_len.0.0,
+        c.perform-performed.auto.1.1.0 ∙ c.begin-start.auto.1.1.1.1.1.1.1.0 ∙ c.requires.state_len.1,
+        c.requires.state_len.0,
+        c.perform-performed.auto.1.1.1.1.1.1.1.1.1.1.1.1.0 ∙ c.requires.state_len.2,
+        omega (arith, c.requires.admitted.understood.represents.used_within, c.requires.state_len.0),
+        c.requires.admitted.understood.represents.rest_zero ∙ ap (λ (n : ℕ). replicate (n - g.parts.used) 0) c.requires.state_len.0,
       );
     }
 

@@ -35,37 +35,37 @@ use Rattle.variable_commands.proofs.act.Goals as goal
 
 pub set-v-requires : goal.set-v-requires
 set-v-requires c =
-    let spoken : (k : Read.VariableCommand) → c.args.c ≡ k → SomeCommand c.args.text.now (Variable k) = λ k e. known (λ (d : Read.VariableCommand). SomeCommand c.args.text.now (Variable d)) c.requires.value_len.1.0 e in
+    let spoken : (k : Read.VariableCommand) → c.args.c ≡ k → SomeCommand c.args.text.now (Variable k) = λ k e. known (λ (d : Read.VariableCommand). SomeCommand c.args.text.now (Variable d)) c.requires.some_command.0 e in
     let t = c.args.text.now in
     let S = spoken (Is.Set c.in-Set.x c.in-Set.e) c.in-Set.is in
     let X = expr_of t c.in-Set.e (set (part t c.in-Set.x)) (is_identifier (part t c.in-Set.x)) (λ z. refl) S.within.1 S.command S.meant S.is_valid in record {
       some_running = c.requires.some_running;
-      names = (names S.within.0 X.0 X.1 c.requires.value_len.1.1, record { value_size = c.requires.value_len.0.0; labels_size = c.requires.value_len.0.1 });
+      names = (names S.within.0 X.0 X.1 c.requires.some_command.1, record { value_size = c.requires.value_len.0; labels_size = c.requires.value_len.1 });
     }
 
 pub append-v-requires : goal.append-v-requires
 append-v-requires c =
-    let spoken : (k : Read.VariableCommand) → c.args.c ≡ k → SomeCommand c.args.text.now (Variable k) = λ k e. known (λ (d : Read.VariableCommand). SomeCommand c.args.text.now (Variable d)) c.requires.value_len.1.0 e in
+    let spoken : (k : Read.VariableCommand) → c.args.c ≡ k → SomeCommand c.args.text.now (Variable k) = λ k e. known (λ (d : Read.VariableCommand). SomeCommand c.args.text.now (Variable d)) c.requires.some_command.0 e in
     let t = c.args.text.now in
     let S = spoken (Is.Append c.in-Append.x c.in-Append.e) c.in-Append.is in
     let X = expr_of t c.in-Append.e (append_to (part t c.in-Append.x)) (is_identifier (part t c.in-Append.x)) (λ z. refl) S.within.1 S.command S.meant S.is_valid in record {
       some_running = c.requires.some_running;
-      names = (names S.within.0 X.0 X.1 c.requires.value_len.1.1, record { value_size = c.requires.value_len.0.0; labels_size = c.requires.value_len.0.1 });
+      names = (names S.within.0 X.0 X.1 c.requires.some_command.1, record { value_size = c.requires.value_len.0; labels_size = c.requires.value_len.1 });
     }
 
 pub local-v-requires : goal.local-v-requires
 local-v-requires c =
-    let spoken : (k : Read.VariableCommand) → c.args.c ≡ k → SomeCommand c.args.text.now (Variable k) = λ k e. known (λ (d : Read.VariableCommand). SomeCommand c.args.text.now (Variable d)) c.requires.value_len.1.0 e in
+    let spoken : (k : Read.VariableCommand) → c.args.c ≡ k → SomeCommand c.args.text.now (Variable k) = λ k e. known (λ (d : Read.VariableCommand). SomeCommand c.args.text.now (Variable d)) c.requires.some_command.0 e in
     let t = c.args.text.now in
     let S = spoken (Is.Local c.in-Local.x c.in-Local.e) c.in-Local.is in
     let X = expr_of t c.in-Local.e (local (part t c.in-Local.x)) (is_identifier (part t c.in-Local.x)) (λ z. refl) S.within.1 S.command S.meant S.is_valid in record {
       some_running = c.requires.some_running;
-      names = (names S.within.0 X.0 X.1 c.requires.value_len.1.1, record { value_size = c.requires.value_len.0.0; labels_size = c.requires.value_len.0.1 });
+      names = (names S.within.0 X.0 X.1 c.requires.some_command.1, record { value_size = c.requires.value_len.0; labels_size = c.requires.value_len.1 });
     }
 
 pub foreach-v-requires : goal.foreach-v-requires
 foreach-v-requires c =
-    let spoken : (k : Read.VariableCommand) → c.args.c ≡ k → SomeCommand c.args.text.now (Variable k) = λ k e. known (λ (d : Read.VariableCommand). SomeCommand c.args.text.now (Variable d)) c.requires.value_len.1.0 e in
+    let spoken : (k : Read.VariableCommand) → c.args.c ≡ k → SomeCommand c.args.text.now (Variable k) = λ k e. known (λ (d : Read.VariableCommand). SomeCommand c.args.text.now (Variable d)) c.requires.some_command.0 e in
     let t = c.args.text.now in
     let S = spoken (Is.Foreach c.in-Foreach.y c.in-Foreach.x c.in-Foreach.e) c.in-Foreach.is in
     let X = expr_of t c.in-Foreach.e (foreach (part t c.in-Foreach.y) (part t c.in-Foreach.x)) (is_identifier (part t c.in-Foreach.y) && is_identifier (part t c.in-Foreach.x)) (λ z. refl) S.within.2 S.command S.meant S.is_valid in record {
@@ -76,15 +76,15 @@ foreach-v-requires c =
           is_valid = and (is_identifier (part t c.in-Foreach.y) && is_identifier (part t c.in-Foreach.x)) (valid_expr X.1.expression) X.0 X.1.is_valid;
           y_within = S.within.0;
           x_within = S.within.1;
-          short = c.requires.value_len.1.1;
+          short = c.requires.some_command.1;
         },
-        record { value_size = c.requires.value_len.0.0; labels_size = omega (arith, c.requires.value_len.0.1) },
+        record { value_size = c.requires.value_len.0; labels_size = omega (arith, c.requires.value_len.1) },
       );
     }
 
 pub filtereach-v-requires : goal.filtereach-v-requires
 filtereach-v-requires c =
-    let spoken : (k : Read.VariableCommand) → c.args.c ≡ k → SomeCommand c.args.text.now (Variable k) = λ k e. known (λ (d : Read.VariableCommand). SomeCommand c.args.text.now (Variable d)) c.requires.value_len.1.0 e in
+    let spoken : (k : Read.VariableCommand) → c.args.c ≡ k → SomeCommand c.args.text.now (Variable k) = λ k e. known (λ (d : Read.VariableCommand). SomeCommand c.args.text.now (Variable d)) c.requires.some_command.0 e in
     let t = c.args.text.now in
     let S = spoken (Is.Filtereach c.in-Filtereach.y c.in-Filtereach.x c.in-Filtereach.e) c.in-Filtereach.is in
     let X = expr_of t c.in-Filtereach.e (filtereach (part t c.in-Filtereach.y) (part t c.in-Filtereach.x)) (is_identifier (part t c.in-Filtereach.y) && is_identifier (part t c.in-Filtereach.x)) (λ z. refl) S.within.2 S.command S.meant S.is_valid in record {
@@ -95,19 +95,22 @@ filtereach-v-requires c =
           is_valid = and (is_identifier (part t c.in-Filtereach.y) && is_identifier (part t c.in-Filtereach.x)) (valid_expr X.1.expression) X.0 X.1.is_valid;
           y_within = S.within.0;
           x_within = S.within.1;
-          short = c.requires.value_len.1.1;
+          short = c.requires.some_command.1;
         },
-        record { value_size = c.requires.value_len.0.0; labels_size = omega (arith, c.requires.value_len.0.1) },
+        record { value_size = c.requires.value_len.0; labels_size = omega (arith, c.requires.value_len.1) },
       );
     }
 
 pub value-v-requires : goal.value-v-requires
 value-v-requires c =
-    let spoken : (k : Read.VariableCommand) → c.args.c ≡ k → SomeCommand c.args.text.now (Variable k) = λ k e. known (λ (d : Read.VariableCommand). SomeCommand c.args.text.now (Variable d)) c.requires.value_len.1.0 e in
+    let spoken : (k : Read.VariableCommand) → c.args.c ≡ k → SomeCommand c.args.text.now (Variable k) = λ k e. known (λ (d : Read.VariableCommand). SomeCommand c.args.text.now (Variable d)) c.requires.some_command.0 e in
     let t = c.args.text.now in
     let S = spoken (Is.Return c.in-Return.e) c.in-Return.is in
-    let X = expr_of t c.in-Return.e (return) (true) (λ z. refl) S.within S.command S.meant S.is_valid in
-    (c.requires.some_running, ((X.1, c.requires.value_len.1.1), record { out_size = omega (arith, c.requires.value_len.0.0); slots_size = omega (arith, c.requires.value_len.0.1) }))
+    let X = expr_of t c.in-Return.e (return) (true) (λ z. refl) S.within S.command S.meant S.is_valid in record {
+      some_running = c.requires.some_running;
+      some_expr = (X.1, c.requires.some_command.1);
+      lent = record { out_size = omega (arith, c.requires.value_len.0); slots_size = omega (arith, c.requires.value_len.1) };
+    }
 
 pub returns-in-Set : goal.returns-in-Set
 returns-in-Set c s k R m =

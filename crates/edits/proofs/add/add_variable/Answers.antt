@@ -25,15 +25,13 @@ returns c =
     let x = a.name.now in
     let r : ℕ = c.head-body.result + length a.value.now in
     let t : Text = 86 ∷ 9 ∷ (x ++ (9 ∷ a.value.now)) in
-    let fits : r ≤ length a.buf.now = omega (arith, c.head-body.ensures.size, p.1) in (
-      ap (λ (n : ℕ). n + length a.value.now) c.head-body.ensures.size,
-      (
-        added_outside a.buf.now c.copy.new.0 t a.len a.count r a.slots.now c.note.new.0 _ (omega arith) size fits written.note.ensures,
-        λ vs v W h e.
+    let fits : r ≤ length a.buf.now = omega (arith, c.head-body.ensures.size, p.1) in record {
+      size = ap (λ (n : ℕ). n + length a.value.now) c.head-body.ensures.size;
+      outside = added_outside a.buf.now c.copy.new.0 t a.len a.count r a.slots.now c.note.new.0 _ (omega arith) size fits written.note.ensures;
+      held = λ vs v W h e.
             variable_added vs x v (take r c.copy.new.0) (a.count + 1) c.note.new.0
             (added (map variable_row vs) (variable_row (record { name = x; value = v })) a.buf.now c.copy.new.0 a.len a.count r a.slots.now c.note.new.0
             (variables_rows vs (take a.len a.buf.now) a.count a.slots.now W) h p.0 (omega arith) p.2
             (size ∙ ap (λ (o : Text). a.len + length (86 ∷ 9 ∷ (x ++ (9 ∷ o)))) e) fits
-            (written ∙ ap (λ (o : Text). over a.buf.now a.len (86 ∷ 9 ∷ (x ++ (9 ∷ o)))) e) c.note.ensures),
-      ),
-    )
+            (written ∙ ap (λ (o : Text). over a.buf.now a.len (86 ∷ 9 ∷ (x ++ (9 ∷ o)))) e) c.note.ensures);
+    }

@@ -75,14 +75,12 @@ returns c =
     let t = take a.len a.buf.now in
     let k = c.requires.2.below in
     let f = safe in
-    let size : c.rewrite-n.result ≡ a.len + 1 = c.rewrite-n.ensures.size ∙ omega (arith, f) in (
-      size,
-      (
-        store_outside a.buf.now c.rewrite-n.new.0 c.rewrite-n.result a.slots.now c.rewrite-n.new.1.1.0 a.count c.nth-place.result.start 80 (omega (arith, f, size)) c.rewrite-n.ensures.outside.0,
-        λ ks K e.
+    let size : c.rewrite-n.result ≡ a.len + 1 = c.rewrite-n.ensures.size ∙ omega (arith, f) in record {
+      size = size;
+      outside = store_outside a.buf.now c.rewrite-n.new.0 c.rewrite-n.result a.slots.now c.rewrite-n.new.1.1.0 a.count c.nth-place.result.start 80 (omega (arith, f, size)) c.rewrite-n.ensures.outside;
+      held = λ ks K e.
             opened ks t a.count a.slots.now K a.number k c.rewrite-n.new.0 c.rewrite-n.result c.nth-place.result.start c.rewrite-n.new.1.1.0
-            (c.rewrite-n.ensures.outside.1 (map principal_row ks) (tabbed (principal_at ks a.number)) (principals_rows ks t a.count a.slots.now K)
+            (c.rewrite-n.ensures.held (map principal_row ks) (tabbed (principal_at ks a.number)) (principals_rows ks t a.count a.slots.now K)
             (bare_respelled ks t a.count a.slots.now K a.number k c.nth-place.result (placed ks K) e))
-            (placed ks K).starts (omega (arith, f, size)),
-      ),
-    )
+            (placed ks K).starts (omega (arith, f, size));
+    }

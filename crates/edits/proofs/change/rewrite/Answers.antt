@@ -54,13 +54,11 @@ returns c =
     let a = c.args in
     let p = c.requires in
     let i = inside in
-    let fits : c.splice-n.result ≤ length a.buf.now = omega (arith, c.splice-n.ensures.size, p.3) in (
-      c.splice-n.ensures.size,
-      (
-        outside a.buf.now a.src.now c.splice-n.new.0 a.len a.count a.number a.from a.to c.splice-n.result a.slots.now c.shift.new.0 p.2.below i.1 p.1 p.2.order i.0
-            c.splice-n.ensures.size fits c.splice-n.ensures.left c.shift.ensures,
-        λ rows row H R.
+    let fits : c.splice-n.result ≤ length a.buf.now = omega (arith, c.splice-n.ensures.size, p.3) in record {
+      size = c.splice-n.ensures.size;
+      outside = outside a.buf.now a.src.now c.splice-n.new.0 a.len a.count a.number a.from a.to c.splice-n.result a.slots.now c.shift.new.0 p.2.below i.1 p.1 p.2.order i.0
+            c.splice-n.ensures.size fits c.splice-n.ensures.left c.shift.ensures;
+      held = λ rows row H R.
             rewritten rows row a.buf.now a.src.now c.splice-n.new.0 a.len a.count a.number a.from a.to c.splice-n.result a.slots.now c.shift.new.0 H p.2.below i.1 p.0 p.1
-            p.2.order i.0 R c.splice-n.ensures.size fits c.splice-n.ensures.left c.shift.ensures,
-      ),
-    )
+            p.2.order i.0 R c.splice-n.ensures.size fits c.splice-n.ensures.left c.shift.ensures;
+    }

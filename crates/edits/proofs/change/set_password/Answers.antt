@@ -89,7 +89,7 @@ write_password-requires-in-Absent c =
       record {
         principals = with_password ks a.number [];
         old = [];
-        held = c.open_line-n.ensures.outside.1 ks S.held (bare ks S.held);
+        held = c.open_line-n.ensures.held ks S.held (bare ks S.held);
         below = S.below;
         kept = with_kept ks a.number [] l;
         fits = subst (λ (q : List Principal). length (principals_text q) ≤ length c.open_line-n.new.0) (sym (with_twice ks a.number [] w l)) (omega (arith, room, z));
@@ -120,7 +120,7 @@ returns-in-Absent c =
     let both-done : (ks : List Principal) → let a = c.args in Principals ks text a.count a.slots.now → Principals (with_password ks a.number a.password.now) (take c.write_password-in-Absent.result c.write_password-in-Absent.new.0) a.count c.write_password-in-Absent.new.1.1.0 = λ ks K. let a = c.args in
     let l = below_principals ks text a.count a.slots.now K a.number c.requires.2.below in
     subst (λ (q : List Principal). Principals q (take c.write_password-in-Absent.result c.write_password-in-Absent.new.0) a.count c.write_password-in-Absent.new.1.1.0) (with_twice ks a.number [] a.password.now l)
-    (c.write_password-in-Absent.ensures.held (with_password ks a.number []) [] (c.open_line-n.ensures.outside.1 ks K (bare ks K)) (with_kept ks a.number [] l)) in
+    (c.write_password-in-Absent.ensures.held (with_password ks a.number []) [] (c.open_line-n.ensures.held ks K (bare ks K)) (with_kept ks a.number [] l)) in
     let grown : c.open_line-n.result ≤ c.write_password-in-Absent.result = let a = c.args in
     let S = c.requires.2 in
     let h : c.write_password-in-Absent.result ≤ length c.write_password-in-Absent.new.0 = omega (arith, c.write_password-in-Absent.ensures.outside.within, c.write_password-in-Absent.auto.0) in
@@ -132,7 +132,7 @@ returns-in-Absent c =
       length-take-le a.len a.buf.now c.requires.1,
     ) in
     let a = c.args in record {
-      outside = outside_on a.buf.now c.open_line-n.new.0 c.write_password-in-Absent.new.0 c.open_line-n.result c.write_password-in-Absent.result a.slots.now c.open_line-n.new.1.1.0 c.write_password-in-Absent.new.1.1.0 a.count grown.open_line-n.auto.0 c.open_line-n.ensures.outside.0 c.write_password-in-Absent.ensures.outside;
+      outside = outside_on a.buf.now c.open_line-n.new.0 c.write_password-in-Absent.new.0 c.open_line-n.result c.write_password-in-Absent.result a.slots.now c.open_line-n.new.1.1.0 c.write_password-in-Absent.new.1.1.0 a.count grown.open_line-n.auto.0 c.open_line-n.ensures.outside c.write_password-in-Absent.ensures.outside;
       held = λ ks p K d n.
           subst (λ (q : List Principal). Principals q (take c.write_password-in-Absent.result c.write_password-in-Absent.new.0) a.count c.write_password-in-Absent.new.1.1.0) (sym (by_number ks p K d n)) (both-done ks K);
     }

@@ -61,9 +61,9 @@ returns c =
     let a = c.args in
     let t = take a.len a.buf.now in
     let k = c.requires.2.below in record {
-      outside = c.rewrite.ensures.outside.0;
+      outside = c.rewrite.ensures.outside;
       held = λ vs x v W n e.
           put_held vs t a.count a.slots.now W x a.number k n v (take c.rewrite.result c.rewrite.new.0) c.rewrite.new.1.1.0
-          (c.rewrite.ensures.outside.1 (map variable_row vs) (variable_row (with_value vs t a.count a.slots.now W x a.number k n v)) (variables_rows vs t a.count a.slots.now W)
+          (c.rewrite.ensures.held (map variable_row vs) (variable_row (with_value vs t a.count a.slots.now W x a.number k n v)) (variables_rows vs t a.count a.slots.now W)
           (spelled vs x v W k n e));
     }

@@ -14,15 +14,18 @@ use Rattle.engine.proofs.command.act.Goals as goal
 
 pub act-requires : goal.act-requires
 act-requires c =
-    let spoken : (k : Read.Command) → c.args.c ≡ k → SomeCommand c.args.text.now k = λ k e. known (λ (d : Read.Command). SomeCommand c.args.text.now d) c.requires.value_len.1.0 e in
-    let S = spoken (Is.Administer c.in-Administer.a) c.in-Administer.is in
-    (c.requires.some_running, (c.requires.value_len.0.1, (S, c.requires.value_len.1.1)))
+    let spoken : (k : Read.Command) → c.args.c ≡ k → SomeCommand c.args.text.now k = λ k e. known (λ (d : Read.Command). SomeCommand c.args.text.now d) c.requires.some_command.0 e in
+    let S = spoken (Is.Administer c.in-Administer.a) c.in-Administer.is in record {
+      some_running = c.requires.some_running;
+      labels_len = c.requires.value_len.1;
+      some_command = (S, c.requires.some_command.1);
+    }
 
 pub act-requires-in-Variable : goal.act-requires-in-Variable
 act-requires-in-Variable c =
-    let spoken : (k : Read.Command) → c.args.c ≡ k → SomeCommand c.args.text.now k = λ k e. known (λ (d : Read.Command). SomeCommand c.args.text.now d) c.requires.value_len.1.0 e in
+    let spoken : (k : Read.Command) → c.args.c ≡ k → SomeCommand c.args.text.now k = λ k e. known (λ (d : Read.Command). SomeCommand c.args.text.now d) c.requires.some_command.0 e in
     let S = spoken (Is.Variable c.in-Variable.v) c.in-Variable.is in
-    (c.requires.some_running, (c.requires.value_len.0, (S, c.requires.value_len.1.1)))
+    (c.requires.some_running, (c.requires.value_len, (S, c.requires.some_command.1)))
 
 pub returns-in-Administer : goal.returns-in-Administer
 returns-in-Administer c s k R m = c.act.ensures s k c.args.value.now R (sym (ap (command_meant c.args.text.now) c.in-Administer.is) ∙ m)

@@ -18,30 +18,24 @@ use Rattle.evaluate.proofs.source.string_in.Reads as string-in-reads
 use Rattle.evaluate.proofs.call.put_call.Goals as goal
 
 pub source-a-requires : goal.source-a-requires
-source-a-requires c = (c.requires.some_scope, c.requires.operand_within.0.0)
+source-a-requires c = (c.requires.some_scope, c.requires.operand_within.0)
 
 pub string_in-i-requires : goal.string_in-i-requires
-string_in-i-requires c =
-    let P = c.requires in
-    (record { session = P.0.session; held = c.source-a.ensures P.0.session P.0.scope }, P.1.0.0)
+string_in-i-requires c = (record { session = c.requires.some_scope.session; held = c.source-a.ensures c.requires.some_scope.session c.requires.some_scope.scope }, c.requires.operand_within.0)
 
 pub source-b-requires : goal.source-b-requires
-source-b-requires c = (c.requires.some_scope, c.requires.operand_within.1.0)
+source-b-requires c = (c.requires.some_scope, c.requires.operand_within_2.0)
 
 pub string_in-j-requires : goal.string_in-j-requires
-string_in-j-requires c =
-    let P = c.requires in
-    (record { session = P.0.session; held = c.source-b.ensures P.0.session P.0.scope }, P.1.1.0)
+string_in-j-requires c = (record { session = c.requires.some_scope.session; held = c.source-b.ensures c.requires.some_scope.session c.requires.some_scope.scope }, c.requires.operand_within_2.0)
 
 pub apply-requires : goal.apply-requires
 apply-requires c =
-    let P = c.requires in
     let a = c.args in
-    let s = P.0.session in
-    let H = c.source-a.ensures s P.0.scope in
-    let K = c.source-b.ensures s P.0.scope in record {
-      placed = (c.string_in-i.ensures.placed, subst MaybeString (sym (c.string_in-i.ensures.meant s H)) (source_string s a.text.now c.source-a.result.now a.v H P.1.0.1));
-      placed_2 = (c.string_in-j.ensures.placed, subst MaybeString (sym (c.string_in-j.ensures.meant s K)) (source_string s a.text.now c.source-b.result.now a.w K P.1.1.1), P.1.1.2);
+    let H = c.source-a.ensures c.requires.some_scope.session c.requires.some_scope.scope in
+    let K = c.source-b.ensures c.requires.some_scope.session c.requires.some_scope.scope in record {
+      placed = (c.string_in-i.ensures.placed, subst MaybeString (sym (c.string_in-i.ensures.meant c.requires.some_scope.session H)) (source_string c.requires.some_scope.session a.text.now c.source-a.result.now a.v H c.requires.operand_within.1));
+      placed_2 = (c.string_in-j.ensures.placed, subst MaybeString (sym (c.string_in-j.ensures.meant c.requires.some_scope.session K)) (source_string c.requires.some_scope.session a.text.now c.source-b.result.now a.w K c.requires.operand_within_2.1), c.requires.operand_within_2.2);
     }
 
 pub returns : goal.returns

@@ -18,16 +18,13 @@ use Rattle.evaluate.proofs.source.string_in.Reads as string-in-reads
 use Rattle.evaluate.proofs.call.put_lower.Goals as goal
 
 pub string_in-i-requires : goal.string_in-i-requires
-string_in-i-requires c =
-    let P = c.requires in
-    (record { session = P.0.session; held = c.source-a.ensures P.0.session P.0.scope }, P.1.0.0)
+string_in-i-requires c = (record { session = c.requires.some_scope.session; held = c.source-a.ensures c.requires.some_scope.session c.requires.some_scope.scope }, c.requires.operand_within.0)
 
 pub lower-requires : goal.lower-requires
 lower-requires c =
-    let P = c.requires in
     let a = c.args in
-    let H = c.source-a.ensures P.0.session P.0.scope in
-    (c.string_in-i.ensures.placed, subst MaybeString (sym (c.string_in-i.ensures.meant P.0.session H)) (source_string P.0.session a.text.now c.source-a.result.now a.v H P.1.0.1), P.1.1)
+    let H = c.source-a.ensures c.requires.some_scope.session c.requires.some_scope.scope in
+    (c.string_in-i.ensures.placed, subst MaybeString (sym (c.string_in-i.ensures.meant c.requires.some_scope.session H)) (source_string c.requires.some_scope.session a.text.now c.source-a.result.now a.v H c.requires.operand_within.1), c.requires.in_bounds)
 
 pub returns : goal.returns
 returns c s S =

@@ -20,28 +20,22 @@ pub source-a-requires : goal.source-a-requires
 source-a-requires c = (c.requires.some_scope, c.requires.operand_within.0)
 
 pub element_at-i-requires : goal.element_at-i-requires
-element_at-i-requires c =
-    let P = c.requires in
-    (record { session = P.0.session; held = c.source-a.ensures P.0.session P.0.scope }, P.1.0)
+element_at-i-requires c = (record { session = c.requires.some_scope.session; held = c.source-a.ensures c.requires.some_scope.session c.requires.some_scope.scope }, c.requires.operand_within.0)
 
 pub source-b-requires : goal.source-b-requires
 source-b-requires c = (c.requires.some_scope, c.requires.operand_within.1)
 
 pub element_at-j-requires : goal.element_at-j-requires
-element_at-j-requires c =
-    let P = c.requires in
-    (record { session = P.0.session; held = c.source-b.ensures P.0.session P.0.scope }, P.1.1)
+element_at-j-requires c = (record { session = c.requires.some_scope.session; held = c.source-b.ensures c.requires.some_scope.session c.requires.some_scope.scope }, c.requires.operand_within.1)
 
 pub compare-requires : goal.compare-requires
 compare-requires c =
-    let P = c.requires in
     let a = c.args in
-    let s = P.0.session in
-    let F = c.element_at-i.ensures s (c.source-a.ensures s P.0.scope) in
-    let G = c.element_at-j.ensures s (c.source-b.ensures s P.0.scope) in (
-      record { element = element_of (operand_value s (operand_meant a.text.now a.v)); stands = F },
-      record { element = element_of (operand_value s (operand_meant a.text.now a.w)); stands = G },
-      P.1.2,
+    let F = c.element_at-i.ensures c.requires.some_scope.session (c.source-a.ensures c.requires.some_scope.session c.requires.some_scope.scope) in
+    let G = c.element_at-j.ensures c.requires.some_scope.session (c.source-b.ensures c.requires.some_scope.session c.requires.some_scope.scope) in (
+      record { element = element_of (operand_value c.requires.some_scope.session (operand_meant a.text.now a.v)); stands = F },
+      record { element = element_of (operand_value c.requires.some_scope.session (operand_meant a.text.now a.w)); stands = G },
+      c.requires.operand_within.2,
     )
 
 pub returns : goal.returns

@@ -14,7 +14,7 @@ use borrow.Author.Rules.{rules}
 use Rattle.evaluate.proofs.draft.add.Goals as goal
 
 pub is_new-requires : goal.is_new-requires
-is_new-requires c = let D = c.requires.lent.1.drafted in record { rows = D.rows; held = slots_part D.rows _ c.args.d.count c.args.slots.now D.held }
+is_new-requires c = record { rows = c.requires.lent.1.drafted.rows; held = slots_part c.requires.lent.1.drafted.rows _ c.args.d.count c.args.slots.now c.requires.lent.1.drafted.held }
 
 pub returns-then-not-is_new : goal.returns-then-not-is_new
 returns-then-not-is_new c fs D h =
@@ -24,17 +24,17 @@ returns-then-not-is_new c fs D h =
 
 pub offset_bounds-slots-count : goal.offset_bounds-slots-count
 offset_bounds-slots-count c =
-    let low : 4 * c.args.d.count ≤ 16384 - 4 = let P = c.requires.lent.1 in omega (arith, P.room, few P.fields_written c.args.out.now c.args.slots.now c.args.d P.drafted) in
+    let low : 4 * c.args.d.count ≤ 16384 - 4 = omega (arith, c.requires.lent.1.room, few c.requires.lent.1.fields_written c.args.out.now c.args.slots.now c.args.d c.requires.lent.1.drafted) in
     omega (arith, low)
 
 pub bounds-slots-count : goal.bounds-slots-count
 bounds-slots-count c =
-    let low : 4 * c.args.d.count ≤ 16384 - 4 = let P = c.requires.lent.1 in omega (arith, P.room, few P.fields_written c.args.out.now c.args.slots.now c.args.d P.drafted) in
+    let low : 4 * c.args.d.count ≤ 16384 - 4 = omega (arith, c.requires.lent.1.room, few c.requires.lent.1.fields_written c.args.out.now c.args.slots.now c.args.d c.requires.lent.1.drafted) in
     omega (arith, low, c.requires.lent.0.slots_size)
 
 pub overflow_add-result : goal.overflow_add-result
 overflow_add-result c =
-    let low : 4 * c.args.d.count ≤ 16384 - 4 = let P = c.requires.lent.1 in omega (arith, P.room, few P.fields_written c.args.out.now c.args.slots.now c.args.d P.drafted) in
+    let low : 4 * c.args.d.count ≤ 16384 - 4 = omega (arith, c.requires.lent.1.room, few c.requires.lent.1.fields_written c.args.out.now c.args.slots.now c.args.d c.requires.lent.1.drafted) in
     omega (arith, low)
 
 pub returns-then-weight-gt8192 : goal.returns-then-weight-gt8192
@@ -43,13 +43,12 @@ returns-then-weight-gt8192 c fs D h =
     is_not_there fs a.out.now a.slots.now a.d D a.label.now c.is_new.result
     (c.is_new.ensures D.rows (slots_part D.rows _ a.d.count a.slots.now D.held)) c.if-not-is_new.false-raw in
     let a = c.args in
-    let P = c.requires in
-    label_added fs a.out.now a.slots.now a.d D a.label.now a.text.now _ _ _ _ P.0.1.name_holds P.1.0 P.1.1
-    (absent fs D) refl h P.0.0.slots_size c.slot_of.ensures c.put_label-next.ensures c.if-weight-gt8192.true
+    label_added fs a.out.now a.slots.now a.d D a.label.now a.text.now _ _ _ _ c.requires.lent.1.name_holds c.requires.t.0 c.requires.t.1
+    (absent fs D) refl h c.requires.lent.0.slots_size c.slot_of.ensures c.put_label-next.ensures c.if-weight-gt8192.true
 
 pub overflow_add-result-2 : goal.overflow_add-result-2
 overflow_add-result-2 c =
-    let low : 4 * c.args.d.count ≤ 16384 - 4 = let P = c.requires.lent.1 in omega (arith, P.room, few P.fields_written c.args.out.now c.args.slots.now c.args.d P.drafted) in
+    let low : 4 * c.args.d.count ≤ 16384 - 4 = omega (arith, c.requires.lent.1.room, few c.requires.lent.1.fields_written c.args.out.now c.args.slots.now c.args.d c.requires.lent.1.drafted) in
     omega (arith, low)
 
 pub returns : goal.returns
@@ -58,6 +57,5 @@ returns c fs D h =
     is_not_there fs a.out.now a.slots.now a.d D a.label.now c.is_new.result
     (c.is_new.ensures D.rows (slots_part D.rows _ a.d.count a.slots.now D.held)) c.if-not-is_new.false-raw in
     let a = c.args in
-    let P = c.requires in
-    line_added fs a.out.now a.slots.now a.d D a.label.now a.text.now _ _ _ _ P.0.1.name_holds P.1.0 P.1.1
-    (absent fs D) refl h P.0.0.slots_size c.slot_of.ensures c.put_field-next.ensures c.if-weight-gt8192.false
+    line_added fs a.out.now a.slots.now a.d D a.label.now a.text.now _ _ _ _ c.requires.lent.1.name_holds c.requires.t.0 c.requires.t.1
+    (absent fs D) refl h c.requires.lent.0.slots_size c.slot_of.ensures c.put_field-next.ensures c.if-weight-gt8192.false

@@ -24,12 +24,12 @@ slice_bounds-read-count c =
     let w = within-name in omega (arith, w.0, w.1)
 
 pub read-value-requires : goal.read-value-requires
-read-value-requires c = let P = c.requires.some_scope in (some_variables _ _ _ _ P.scope.shared_held, some_variables _ _ _ _ P.scope.locals_held)
+read-value-requires c = (some_variables _ _ _ _ c.requires.some_scope.scope.shared_held, some_variables _ _ _ _ c.requires.some_scope.scope.locals_held)
 
 pub put_value-requires : goal.put_value-requires
 put_value-requires c =
     let name-read : (s : Session) → let a = c.args in Scope s a.shared.now a.slots.now a.count a.locals.now a.lslots.now a.lcount → ReadAs (lookup s (part a.text.now c.in-Name.x)) c.read-value.result.now = λ s S. read_name S (part c.args.text.now c.in-Name.x) c.read-value.result.now (c.read-value.ensures s.store.variables s.locals S.shared_held S.locals_held) in
-    let P = c.requires.some_scope in (record { value = lookup P.session (part c.args.text.now c.in-Name.x); held = name-read P.session P.scope }, c.requires.operand_within.1)
+    (record { value = lookup c.requires.some_scope.session (part c.args.text.now c.in-Name.x); held = name-read c.requires.some_scope.session c.requires.some_scope.scope }, c.requires.in_bounds)
 
 pub slice_bounds-read-count-in-Field : goal.slice_bounds-read-count-in-Field
 slice_bounds-read-count-in-Field c =
@@ -37,7 +37,7 @@ slice_bounds-read-count-in-Field c =
     let w = within-dot.0 in omega (arith, w.0, w.1)
 
 pub read-value-requires-in-Field : goal.read-value-requires-in-Field
-read-value-requires-in-Field c = let P = c.requires.some_scope in (some_variables _ _ _ _ P.scope.shared_held, some_variables _ _ _ _ P.scope.locals_held)
+read-value-requires-in-Field c = (some_variables _ _ _ _ c.requires.some_scope.scope.shared_held, some_variables _ _ _ _ c.requires.some_scope.scope.locals_held)
 
 pub slice_bounds-field_of-count : goal.slice_bounds-field_of-count
 slice_bounds-field_of-count c =
@@ -47,16 +47,15 @@ slice_bounds-field_of-count c =
 pub field_of-found-requires : goal.field_of-found-requires
 field_of-found-requires c =
     let dot-read : (s : Session) → let a = c.args in Scope s a.shared.now a.slots.now a.count a.locals.now a.lslots.now a.lcount → ReadAs (lookup s (part a.text.now c.in-Field.x)) c.read-value-in-Field.result.now = λ s S. read_name S (part c.args.text.now c.in-Field.x) c.read-value-in-Field.result.now (c.read-value-in-Field.ensures s.store.variables s.locals S.shared_held S.locals_held) in
-    let P = c.requires.some_scope in record { value = lookup P.session (part c.args.text.now c.in-Field.x); held = dot-read P.session P.scope }
+    record { value = lookup c.requires.some_scope.session (part c.args.text.now c.in-Field.x); held = dot-read c.requires.some_scope.session c.requires.some_scope.scope }
 
 pub put_found-requires : goal.put_found-requires
 put_found-requires c =
     let dot-read : (s : Session) → let a = c.args in Scope s a.shared.now a.slots.now a.count a.locals.now a.lslots.now a.lcount → ReadAs (lookup s (part a.text.now c.in-Field.x)) c.read-value-in-Field.result.now = λ s S. read_name S (part c.args.text.now c.in-Field.x) c.read-value-in-Field.result.now (c.read-value-in-Field.ensures s.store.variables s.locals S.shared_held S.locals_held) in
-    let P = c.requires.some_scope in
-    let o = lookup P.session (part c.args.text.now c.in-Field.x) in
-    let R = dot-read P.session P.scope in
+    let o = lookup c.requires.some_scope.session (part c.args.text.now c.in-Field.x) in
+    let R = dot-read c.requires.some_scope.session c.requires.some_scope.scope in
     let y = part c.args.text.now c.in-Field.y in
-    (c.field_of-found.ensures.placed, subst MaybeString (sym (c.field_of-found.ensures.meant o R)) (field_read o y c.read-value-in-Field.result.now R), c.requires.operand_within.1)
+    (c.field_of-found.ensures.placed, subst MaybeString (sym (c.field_of-found.ensures.meant o R)) (field_read o y c.read-value-in-Field.result.now R), c.requires.in_bounds)
 
 pub slice_bounds-put_text-count : goal.slice_bounds-put_text-count
 slice_bounds-put_text-count c =
@@ -64,7 +63,7 @@ slice_bounds-put_text-count c =
     let w = within-quoted in omega (arith, w.0, w.1)
 
 pub put_text-requires : goal.put_text-requires
-put_text-requires c = (subst (λ (o : Operand). T (valid_operand (operand_meant c.args.text.now o))) c.in-Quoted.is c.requires.operand_within.0.1, c.requires.operand_within.1)
+put_text-requires c = (subst (λ (o : Operand). T (valid_operand (operand_meant c.args.text.now o))) c.in-Quoted.is c.requires.operand_within.1, c.requires.in_bounds)
 
 pub returns-in-Name : goal.returns-in-Name
 returns-in-Name c s S =

@@ -14,18 +14,15 @@ use Rattle.evaluate.proofs.source.string_in.Reads as string-in-reads
 use Rattle.evaluate.proofs.record.add_field.Goals as goal
 
 pub string_in-found-requires : goal.string_in-found-requires
-string_in-found-requires c =
-    let P = c.requires in
-    (record { session = P.0.session; held = c.source-s.ensures P.0.session P.0.scope }, P.1.0.1)
+string_in-found-requires c = (record { session = c.requires.some_scope.session; held = c.source-s.ensures c.requires.some_scope.session c.requires.some_scope.scope }, c.requires.within.1)
 
 pub add_found-requires : goal.add_found-requires
 add_found-requires c =
-    let P = c.requires in
     let t = c.args.text.now in
     let v = c.args.v in
-    let H = c.source-s.ensures P.0.session P.0.scope in record {
-      lent = P.1.1;
-      placed = (c.string_in-found.ensures.placed, subst MaybeString (sym (c.string_in-found.ensures.meant P.0.session H)) (source_string P.0.session t c.source-s.result.now v H P.1.0.2), source_short P.0.scope t c.source-s.result.now v H P.1.0.3);
+    let H = c.source-s.ensures c.requires.some_scope.session c.requires.some_scope.scope in record {
+      lent = c.requires.lent;
+      placed = (c.string_in-found.ensures.placed, subst MaybeString (sym (c.string_in-found.ensures.meant c.requires.some_scope.session H)) (source_string c.requires.some_scope.session t c.source-s.result.now v H c.requires.within.2), source_short c.requires.some_scope.scope t c.source-s.result.now v H c.requires.within.3);
     }
 
 pub returns : goal.returns

@@ -26,15 +26,14 @@ use Rattle.evaluate.proofs.Turning.{going_start, operand_valid, label_room, some
 use Rattle.evaluate.proofs.record.put_fields.Goals as goal
 
 pub start-d-requires : goal.start-d-requires
-start-d-requires c = c.requires.some_record.1
+start-d-requires c = c.requires.lent
 
 pub loop-x-init : goal.loop-x-init
 loop-x-init c =
-    let P = c.requires in
     (
-      P.1.0.0.within,
-      record { out_size = omega (arith, P.1.1.out_size, c.start-d.auto.0); slots_size = P.1.1.slots_size },
-      λ s S. going_start s c.args.text.now c.args.at c.start-d.new.0 c.args.labels.now c.start-d.result P.1.0.0 P.1.0.1 c.start-d.ensures,
+      c.requires.some_record.0.within,
+      record { out_size = omega (arith, c.requires.lent.out_size, c.start-d.auto.0); slots_size = c.requires.lent.slots_size },
+      λ s S. going_start s c.args.text.now c.args.at c.start-d.new.0 c.args.labels.now c.start-d.result c.requires.some_record.0 c.requires.some_record.1 c.start-d.ensures,
       refl,
       refl,
     )
@@ -58,16 +57,13 @@ add_field-added-requires c =
     let head : Binding = record { label = part c.args.text.now c.in-Found.x; operand = operand_meant c.args.text.now c.in-Found.v } in
     let read_here : with_field c.args.text.now head.in-Found.more c.in-Found.n ≡ record_at c.args.text.now c.loop-x.p = sym (ap (field_meant c.args.text.now) c.in-Found.is) ∙ c.field_at-field.ensures.meant in
     let placed : FieldPlaced c.args.text.now c.loop-x.p (FieldIs.Found c.in-Found.x c.in-Found.v c.in-Found.more c.in-Found.n) = subst (FieldPlaced c.args.text.now c.loop-x.p) c.in-Found.is c.field_at-field.ensures.placed in
-    let P = c.requires in
     let l = c.loop-x in
     let w = placed in
-    let G = l.invariant.2 P.0.session P.0.scope in (
-      P.0,
-      (
-        (w.0, w.1, operand_valid P.0.session c.args.text.now c.args.at l.p l.out l.labels l.d G head.in-Found.more c.in-Found.n read_here, P.1.0.1),
-        (l.invariant.1, some_draft P.0.session c.args.text.now c.args.at l.p l.out l.labels l.d G head.in-Found.more c.in-Found.n read_here),
-      ),
-    )
+    let G = l.invariant.2 c.requires.some_scope.session c.requires.some_scope.scope in record {
+      some_scope = c.requires.some_scope;
+      within = (w.0, w.1, operand_valid c.requires.some_scope.session c.args.text.now c.args.at l.p l.out l.labels l.d G head.in-Found.more c.in-Found.n read_here, c.requires.some_record.1);
+      lent = (l.invariant.1, some_draft c.requires.some_scope.session c.args.text.now c.args.at l.p l.out l.labels l.d G head.in-Found.more c.in-Found.n read_here);
+    }
 
 pub shape_of-out-in_default-added : goal.shape_of-out-in_default-added
 shape_of-out-in_default-added c = omega (arith, c.loop-x.invariant.3, c.start-d.auto.0, c.add_field-added.auto.1.1.1.1.1.1.1.1.1.0)

@@ -105,8 +105,8 @@ returns c s k v base number P =
     subst (λ (m : ℕ). Variables k.locals (take m a.scope.now) c.small-n.result a.local_slots.now) (sym c.large-len.ensures)
     (subst (λ (m : ℕ). Variables k.locals (take (get_or a.lens.now a.d 0) a.scope.now) m a.local_slots.now) (sym c.small-n.ensures.0) P.standing.held.locals_held) in
     subst (λ (y : Name). Variables (k.locals ++ (record { name = y; value = v } ∷ [])) (take c.add_variable-end.result c.add_variable-end.new.0) (c.small-n.result + 1) c.add_variable-end.new.1.1.0) nm
-    (c.add_variable-end.ensures.outside.1 k.locals v H (subst (λ (y : Name). T (is_name y)) (sym nm) P.name_holds) P.is_value.is_text_lem) in
+    (c.add_variable-end.ensures.held k.locals v H (subst (λ (y : Name). T (is_name y)) (sym nm) P.name_holds) P.is_value.is_text_lem) in
     let a = c.args in
     subst (λ (w : ℕ). Opened s k v (texts a.shared.now a.slots.now a.count c.add_variable-end.new.0 c.add_variable-end.new.1.1.0) base number c.add_variable-end.result (c.small-n.result + 1) w) (sym (sum_is s k v base number P))
     (binds_done P c.add_variable-end.new.0 c.add_variable-end.new.1.1.0 c.add_variable-end.result (c.small-n.result + 1) (sym (c.is_taken.ensures s k P.standing) ∙ c.if-is_taken.false) (fits s k v base number P)
-    (added s k v base number P) (omega (arith, c.add_variable-end.ensures.outside.0.within, c.add_variable-end.auto.0)))
+    (added s k v base number P) (omega (arith, c.add_variable-end.ensures.outside.within, c.add_variable-end.auto.0)))

@@ -11,6 +11,18 @@ use Rattle.store.proofs.index.hits.Goals as goal
 pub loop-i-init : goal.loop-i-init
 loop-i-init c = (omega arith, omega arith, λ j H. omega (arith, H.low, H.high))
 
+pub loop-i-preserved : goal.loop-i-preserved
+loop-i-preserved c =
+    let l = c.loop-i in
+    let a = c.args in (
+      omega arith,
+      omega arith,
+      ⊎_elim
+          (λ w. subst (λ (b : Bool). HitMeant a.slots.now a.from (l.i + 1) a.p b) (sym w.1) (hit_now a.slots.now a.from a.p l.i l.invariant.0 w.0.taken))
+          (λ w. subst (λ (b : Bool). HitMeant a.slots.now a.from (l.i + 1) a.p b) (sym w.1) (hit_on a.slots.now a.from a.p l.hit l.i l.invariant.2 w.0.left))
+          c.if-slots-i.branch,
+    )
+
 pub returns : goal.returns
 returns c =
     let l = c.loop-i in

@@ -20,34 +20,6 @@ quoted_at-requires c =
       at_value = c.requires.at_value ∙ ap mark c.in-34.is;
     }
 
-pub returns-then-next-text : goal.returns-then-next-text
-returns-then-next-text c =
-    let other : (c.args.m ∈ bytes "=.,{}()") ≡ false = let m = c.args.m in
-    ⊎_elim
-    (λ h. sym (in_interval same_bool same_bool_lem (λ _. false) (λ x. x ∈ bytes "=.,{}()") 0 40 (44 ∷ 46 ∷ 61 ∷ 123 ∷ 125 ∷ []) tt m (omega arith) (omega (arith, h.taken)) c.in-34.rest.1))
-    (λ h. sym (in_interval same_bool same_bool_lem (λ _. false) (λ x. x ∈ bytes "=.,{}()") 42 214 (44 ∷ 46 ∷ 61 ∷ 123 ∷ 125 ∷ []) tt m (omega (arith, h.1.left)) (omega (arith, c.ranges)) c.in-34.rest.1))
-    c.if-m-lt40.branch in
-    let t = c.args.text.now in
-    let i = c.args.at in
-    let m = c.args.m in
-    let two = two_marks t i c.requires.at_in_bounds m c.requires.at_value (ne_eqb m 34 c.in-34.rest.0.1) other in record {
-      meant = two ∙ rw (drop_of_length-le t {i = i + 1} (omega arith));
-      placed = tt;
-    }
-
-pub pair_at-requires : goal.pair_at-requires
-pair_at-requires c =
-    let other : (c.args.m ∈ bytes "=.,{}()") ≡ false = let m = c.args.m in
-    ⊎_elim
-    (λ h. sym (in_interval same_bool same_bool_lem (λ _. false) (λ x. x ∈ bytes "=.,{}()") 0 40 (44 ∷ 46 ∷ 61 ∷ 123 ∷ 125 ∷ []) tt m (omega arith) (omega (arith, h.taken)) c.in-34.rest.1))
-    (λ h. sym (in_interval same_bool same_bool_lem (λ _. false) (λ x. x ∈ bytes "=.,{}()") 42 214 (44 ∷ 46 ∷ 61 ∷ 123 ∷ 125 ∷ []) tt m (omega (arith, h.1.left)) (omega (arith, c.ranges)) c.in-34.rest.1))
-    c.if-m-lt40.branch in
-    let t = c.args.text.now in
-    let i = c.args.at in
-    let m = c.args.m in
-    let two = two_marks t i c.requires.at_in_bounds m c.requires.at_value (ne_eqb m 34 c.in-34.rest.0.1) other in
-    (omega (arith, c.requires.at_in_bounds), (c.requires.at_value, (refl, two)))
-
 pub returns-in-61 : goal.returns-in-61
 returns-in-61 c =
     let t = c.args.text.now in
