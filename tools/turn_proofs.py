@@ -42,7 +42,7 @@ def blocks(text):
 
 
 def plain(name):
-    return name.replace("-", "_")
+    return name.replace("-", "_").lower()
 
 
 CLAUSES = {}
@@ -162,6 +162,11 @@ class Function:
         self.info = info
         self.own = contract("::".join([crate, *where.split(".")]))
         self.callees = {}
+        self.params = {}
+        self.args = {}
+        for a, b in info["args"]:
+            a, b = (tuple(w.lstrip(".") for w in x.split()) for x in (a, b))
+            self.args[a] = b
         self.needs = {}
         for old, new in info["needs"]:
             self.needs[plain(old)] = new
@@ -177,6 +182,7 @@ class Function:
                 self.sub.setdefault((plain(old), a), b)
             if callee:
                 self.callees[new + "-requires"] = callee
+                self.params.setdefault(plain(old), info["params"].get(callee, []))
             c = info["clauses"][i]
             if c and c.get("fields"):
                 self.clause[plain(old)] = c["fields"]
@@ -199,7 +205,13 @@ class Function:
         segs = [SEGMENTS.get(s, s) for s in segs if s != "before"]
         if not segs:
             return []
+        for n in (2, 1):
+            if tuple(segs[:n]) in self.args:
+                segs = [*self.args[tuple(segs[:n])], *segs[n:]]
+                break
         first = plain(segs[0])
+        if first not in self.fields and first.endswith("_lem") and first[:-4] in self.fields:
+            first = first[:-4]
         rest = segs[1:]
         if first == "requires" and rest and len(self.own["requires"]) > 1:
             return ["requires", *(by_name(rest, self.own["requires"]) or rest)]
@@ -214,6 +226,12 @@ class Function:
                 rest = [self.sub[(first, rest[0])], *rest[1:]]
             if rest[:1] == ["ensures"] and first in self.clause and len(rest) > 1 and len(self.clause[first]) > 1:
                 rest = ["ensures", *(by_name(rest[1:], self.clause[first]) or rest[1:])]
+            if len(rest) > 1 and rest[0] in ("new", "auto", "kept", "last") and self.params.get(first):
+                k = 1
+                while k < len(rest) and rest[k] == "1":
+                    k += 1
+                if k < len(rest) and rest[k] == "0" and k - 1 < len(self.params[first]):
+                    rest = [rest[0], self.params[first][k - 1], *rest[k + 1:]]
             return out + rest
         return [segs[0], *rest]
 

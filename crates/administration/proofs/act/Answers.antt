@@ -78,7 +78,7 @@ default_delegator-v-requires c =
 pub returns-in-CreatePrincipal : goal.returns-in-CreatePrincipal
 returns-in-CreatePrincipal c s k value R m =
     let t = c.args.text.now in
-    let b = slices c.create_principal-v.new.0 c.create_principal-v.new.1.0 c.args.vars.now c.args.variable_slots.now c.args.locals.now c.args.local_slots.now c.create_principal-v.new.1.1.1.1.1.1.0 in
+    let b = slices c.create_principal-v.new.principals c.create_principal-v.new.principal_slots c.args.vars.now c.args.variable_slots.now c.args.locals.now c.args.local_slots.now c.create_principal-v.new.assertions in
     known (λ (j : Command). Acts c.done.result (step s j) s c.args.l b value)
     (c.done.ensures (step s (create_principal (part t c.in-CreatePrincipal.p) (part t c.in-CreatePrincipal.w))) b s c.args.l value (c.create_principal-v.ensures s R) (λ f h. line_is s (create_principal (part t c.in-CreatePrincipal.p) (part t c.in-CreatePrincipal.w)) f tt h))
     (some_inj.0 (sym (ap (administration_meant t) c.in-CreatePrincipal.is) ∙ m))
@@ -86,7 +86,7 @@ returns-in-CreatePrincipal c s k value R m =
 pub returns-in-ChangePassword : goal.returns-in-ChangePassword
 returns-in-ChangePassword c s k value R m =
     let t = c.args.text.now in
-    let b = slices c.change_password-v.new.0 c.change_password-v.new.1.0 c.args.vars.now c.args.variable_slots.now c.args.locals.now c.args.local_slots.now c.args.assertions.now in
+    let b = slices c.change_password-v.new.principals c.change_password-v.new.principal_slots c.args.vars.now c.args.variable_slots.now c.args.locals.now c.args.local_slots.now c.args.assertions.now in
     known (λ (j : Command). Acts c.done-in-ChangePassword.result (step s j) s c.args.l b value)
     (c.done-in-ChangePassword.ensures (step s (change_password (part t c.in-ChangePassword.p) (part t c.in-ChangePassword.w))) b s c.args.l value (c.change_password-v.ensures s R) (λ f h. line_is s (change_password (part t c.in-ChangePassword.p) (part t c.in-ChangePassword.w)) f tt h))
     (some_inj.0 (sym (ap (administration_meant t) c.in-ChangePassword.is) ∙ m))
@@ -94,7 +94,7 @@ returns-in-ChangePassword c s k value R m =
 pub returns-in-SetDelegation : goal.returns-in-SetDelegation
 returns-in-SetDelegation c s k value R m =
     let t = c.args.text.now in
-    let b = slices c.args.principals.now c.args.principal_slots.now c.args.vars.now c.args.variable_slots.now c.args.locals.now c.args.local_slots.now c.set_delegation-v.new.1.1.1.1.1.1.0 in
+    let b = slices c.args.principals.now c.args.principal_slots.now c.args.vars.now c.args.variable_slots.now c.args.locals.now c.args.local_slots.now c.set_delegation-v.new.assertions in
     known (λ (j : Command). Acts c.done-in-SetDelegation.result (step s j) s c.args.l b value)
     (c.done-in-SetDelegation.ensures (step s (set_delegation (target_meant t c.in-SetDelegation.x) (part t c.in-SetDelegation.q) (right_meant c.in-SetDelegation.r) (part t c.in-SetDelegation.p))) b s c.args.l value (c.set_delegation-v.ensures s R) (λ f h. line_is s (set_delegation (target_meant t c.in-SetDelegation.x) (part t c.in-SetDelegation.q) (right_meant c.in-SetDelegation.r) (part t c.in-SetDelegation.p)) f tt h))
     (some_inj.0 (sym (ap (administration_meant t) c.in-SetDelegation.is) ∙ m))
@@ -102,7 +102,7 @@ returns-in-SetDelegation c s k value R m =
 pub returns-in-DeleteDelegation : goal.returns-in-DeleteDelegation
 returns-in-DeleteDelegation c s k value R m =
     let t = c.args.text.now in
-    let b = slices c.args.principals.now c.args.principal_slots.now c.args.vars.now c.args.variable_slots.now c.args.locals.now c.args.local_slots.now c.delete_delegation-v.new.1.1.1.1.1.1.0 in
+    let b = slices c.args.principals.now c.args.principal_slots.now c.args.vars.now c.args.variable_slots.now c.args.locals.now c.args.local_slots.now c.delete_delegation-v.new.assertions in
     known (λ (j : Command). Acts c.done-in-DeleteDelegation.result (step s j) s c.args.l b value)
     (c.done-in-DeleteDelegation.ensures (step s (delete_delegation (target_meant t c.in-DeleteDelegation.x) (part t c.in-DeleteDelegation.q) (right_meant c.in-DeleteDelegation.r) (part t c.in-DeleteDelegation.p))) b s c.args.l value (c.delete_delegation-v.ensures s R) (λ f h. line_is s (delete_delegation (target_meant t c.in-DeleteDelegation.x) (part t c.in-DeleteDelegation.q) (right_meant c.in-DeleteDelegation.r) (part t c.in-DeleteDelegation.p)) f tt h))
     (some_inj.0 (sym (ap (administration_meant t) c.in-DeleteDelegation.is) ∙ m))

@@ -77,11 +77,11 @@ slice_bounds-join-end c =
     let session-sends : (s : Session) → Runs s → let a = c.args in Sending s a.l a.vars.now a.variable_slots.now a.assertions.now = λ s R. sending s c.args.l buffers R in
     let does : (s : Session) (y : Syntax.Expr) → Runs s → let x = name_of in Does s (Syntax.append_to x y) y c.is_list-list.result (append_effect s x) = λ s y R. append_does s name_of y c.may_append.result c.is_list-list.result (c.is_list-list.ensures s (session-scoped s R))
     (c.may_append.ensures s (session-sends s R)) c.if-not-may_append.false-raw in
-    let answers : (s : Session) (y : Syntax.Expr) → Runs s → Says y → Answers c.answer-v.result s y c.answer-v.new.1.1.1.1.1.1.1.1.0 = λ s y R m. c.answer-v.ensures s y (session-scoped s R) (session-sends s R) m in
-    let stored : (s : Session) (y : Syntax.Expr) → Runs s → Says y → Stores s y c.is_list-list.result c.answer-v.new.1.1.1.1.1.1.1.1.0 c.in-Value.len c.in-Value.weight = λ s y R m. let x = name_of in
-    stores s (Syntax.append_to x y) y c.is_list-list.result (append_effect s x) (does s y R) c.answer-v.new.1.1.1.1.1.1.1.1.0 c.answer-v.result
+    let answers : (s : Session) (y : Syntax.Expr) → Runs s → Says y → Answers c.answer-v.result s y c.answer-v.new.value = λ s y R m. c.answer-v.ensures s y (session-scoped s R) (session-sends s R) m in
+    let stored : (s : Session) (y : Syntax.Expr) → Runs s → Says y → Stores s y c.is_list-list.result c.answer-v.new.value c.in-Value.len c.in-Value.weight = λ s y R m. let x = name_of in
+    stores s (Syntax.append_to x y) y c.is_list-list.result (append_effect s x) (does s y R) c.answer-v.new.value c.answer-v.result
     (answers s y R m) c.settle.result c.settle.ensures c.in-Value.len c.in-Value.weight c.in-Value.is in
-    let some_stored : Stores c.requires.some_running.session c.requires.names.0.said.expression.expression c.is_list-list.result c.answer-v.new.1.1.1.1.1.1.1.1.0 c.in-Value.len c.in-Value.weight = stored c.requires.some_running.session c.requires.names.0.said.expression.expression c.requires.some_running.running c.requires.names.0.said.expression.meant in
+    let some_stored : Stores c.requires.some_running.session c.requires.names.0.said.expression.expression c.is_list-list.result c.answer-v.new.value c.in-Value.len c.in-Value.weight = stored c.requires.some_running.session c.requires.names.0.said.expression.expression c.requires.some_running.running c.requires.names.0.said.expression.meant in
     some_stored.written.within
 
 pub slice_bounds-join-end-in-Value : goal.slice_bounds-join-end-in-Value
@@ -94,11 +94,11 @@ slice_bounds-join-end-in-Value c =
     let session-sends : (s : Session) → Runs s → let a = c.args in Sending s a.l a.vars.now a.variable_slots.now a.assertions.now = λ s R. sending s c.args.l buffers R in
     let does : (s : Session) (y : Syntax.Expr) → Runs s → let x = name_of in Does s (Syntax.append_to x y) y c.is_list-list.result (append_effect s x) = λ s y R. append_does s name_of y c.may_append.result c.is_list-list.result (c.is_list-list.ensures s (session-scoped s R))
     (c.may_append.ensures s (session-sends s R)) c.if-not-may_append.false-raw in
-    let answers : (s : Session) (y : Syntax.Expr) → Runs s → Says y → Answers c.answer-v.result s y c.answer-v.new.1.1.1.1.1.1.1.1.0 = λ s y R m. c.answer-v.ensures s y (session-scoped s R) (session-sends s R) m in
-    let stored : (s : Session) (y : Syntax.Expr) → Runs s → Says y → Stores s y c.is_list-list.result c.answer-v.new.1.1.1.1.1.1.1.1.0 c.in-Value.len c.in-Value.weight = λ s y R m. let x = name_of in
-    stores s (Syntax.append_to x y) y c.is_list-list.result (append_effect s x) (does s y R) c.answer-v.new.1.1.1.1.1.1.1.1.0 c.answer-v.result
+    let answers : (s : Session) (y : Syntax.Expr) → Runs s → Says y → Answers c.answer-v.result s y c.answer-v.new.value = λ s y R m. c.answer-v.ensures s y (session-scoped s R) (session-sends s R) m in
+    let stored : (s : Session) (y : Syntax.Expr) → Runs s → Says y → Stores s y c.is_list-list.result c.answer-v.new.value c.in-Value.len c.in-Value.weight = λ s y R m. let x = name_of in
+    stores s (Syntax.append_to x y) y c.is_list-list.result (append_effect s x) (does s y R) c.answer-v.new.value c.answer-v.result
     (answers s y R m) c.settle.result c.settle.ensures c.in-Value.len c.in-Value.weight c.in-Value.is in
-    let some_stored : Stores c.requires.some_running.session c.requires.names.0.said.expression.expression c.is_list-list.result c.answer-v.new.1.1.1.1.1.1.1.1.0 c.in-Value.len c.in-Value.weight = stored c.requires.some_running.session c.requires.names.0.said.expression.expression c.requires.some_running.running c.requires.names.0.said.expression.meant in
+    let some_stored : Stores c.requires.some_running.session c.requires.names.0.said.expression.expression c.is_list-list.result c.answer-v.new.value c.in-Value.len c.in-Value.weight = stored c.requires.some_running.session c.requires.names.0.said.expression.expression c.requires.some_running.running c.requires.names.0.said.expression.meant in
     sym (length-take-le _ _ some_stored.written.within)
 
 pub join-done-requires : goal.join-done-requires
@@ -112,11 +112,11 @@ join-done-requires c =
     let session-sends : (s : Session) → Runs s → let a = c.args in Sending s a.l a.vars.now a.variable_slots.now a.assertions.now = λ s R. sending s c.args.l buffers R in
     let does : (s : Session) (y : Syntax.Expr) → Runs s → let x = name_of in Does s (Syntax.append_to x y) y c.is_list-list.result (append_effect s x) = λ s y R. append_does s name_of y c.may_append.result c.is_list-list.result (c.is_list-list.ensures s (session-scoped s R))
     (c.may_append.ensures s (session-sends s R)) c.if-not-may_append.false-raw in
-    let answers : (s : Session) (y : Syntax.Expr) → Runs s → Says y → Answers c.answer-v.result s y c.answer-v.new.1.1.1.1.1.1.1.1.0 = λ s y R m. c.answer-v.ensures s y (session-scoped s R) (session-sends s R) m in
-    let stored : (s : Session) (y : Syntax.Expr) → Runs s → Says y → Stores s y c.is_list-list.result c.answer-v.new.1.1.1.1.1.1.1.1.0 c.in-Value.len c.in-Value.weight = λ s y R m. let x = name_of in
-    stores s (Syntax.append_to x y) y c.is_list-list.result (append_effect s x) (does s y R) c.answer-v.new.1.1.1.1.1.1.1.1.0 c.answer-v.result
+    let answers : (s : Session) (y : Syntax.Expr) → Runs s → Says y → Answers c.answer-v.result s y c.answer-v.new.value = λ s y R m. c.answer-v.ensures s y (session-scoped s R) (session-sends s R) m in
+    let stored : (s : Session) (y : Syntax.Expr) → Runs s → Says y → Stores s y c.is_list-list.result c.answer-v.new.value c.in-Value.len c.in-Value.weight = λ s y R m. let x = name_of in
+    stores s (Syntax.append_to x y) y c.is_list-list.result (append_effect s x) (does s y R) c.answer-v.new.value c.answer-v.result
     (answers s y R m) c.settle.result c.settle.ensures c.in-Value.len c.in-Value.weight c.in-Value.is in
-    let some_stored : Stores c.requires.some_running.session c.requires.names.0.said.expression.expression c.is_list-list.result c.answer-v.new.1.1.1.1.1.1.1.1.0 c.in-Value.len c.in-Value.weight = stored c.requires.some_running.session c.requires.names.0.said.expression.expression c.requires.some_running.running c.requires.names.0.said.expression.meant in
+    let some_stored : Stores c.requires.some_running.session c.requires.names.0.said.expression.expression c.is_list-list.result c.answer-v.new.value c.in-Value.len c.in-Value.weight = stored c.requires.some_running.session c.requires.names.0.said.expression.expression c.requires.some_running.running c.requires.names.0.said.expression.meant in
     let x = name_of in
     let H = some_stored in record {
       some_list = record { session = c.requires.some_running.session; running = c.requires.some_running.running; elements = elements_of (lookup c.requires.some_running.session x); is_list = its-list c.requires.some_running.session c.requires.some_running.running H.fitting };
@@ -133,9 +133,9 @@ returns-in-Over c s y R m =
     let does : (s : Session) (y : Syntax.Expr) → Runs s → let x = name_of in Does s (Syntax.append_to x y) y c.is_list-list.result (append_effect s x) = λ s y R. append_does s name_of y c.may_append.result c.is_list-list.result (c.is_list-list.ensures s (session-scoped s R))
     (c.may_append.ensures s (session-sends s R)) c.if-not-may_append.false-raw in
     let Says : Syntax.Expr → Type 0 = λ y. expr_meant c.args.text.now c.args.e ≡ some y in
-    let answers : (s : Session) (y : Syntax.Expr) → Runs s → Says y → Answers c.answer-v.result s y c.answer-v.new.1.1.1.1.1.1.1.1.0 = λ s y R m. c.answer-v.ensures s y (session-scoped s R) (session-sends s R) m in
+    let answers : (s : Session) (y : Syntax.Expr) → Runs s → Says y → Answers c.answer-v.result s y c.answer-v.new.value = λ s y R m. c.answer-v.ensures s y (session-scoped s R) (session-sends s R) m in
     let x = name_of in
-    over s (Syntax.append_to x y) y c.is_list-list.result (append_effect s x) (does s y R) c.answer-v.new.1.1.1.1.1.1.1.1.0 c.answer-v.result
+    over s (Syntax.append_to x y) y c.is_list-list.result (append_effect s x) (does s y R) c.answer-v.new.value c.answer-v.result
     (answers s y R m) c.settle.result c.settle.ensures _ buffers.in-Over.is
 
 pub returns-in-Value : goal.returns-in-Value
@@ -149,9 +149,9 @@ returns-in-Value c s y R m =
     (c.may_append.ensures s (session-sends s R)) c.if-not-may_append.false-raw in
     let its-list : (s : Session) → Runs s → c.is_list-list.result ≡ true → let o = lookup s name_of in o ≡ some (list (elements_of o)) = λ s R f. listed (lookup s name_of) c.is_list-list.result (c.is_list-list.ensures s (session-scoped s R)) f in
     let Says : Syntax.Expr → Type 0 = λ y. expr_meant c.args.text.now c.args.e ≡ some y in
-    let answers : (s : Session) (y : Syntax.Expr) → Runs s → Says y → Answers c.answer-v.result s y c.answer-v.new.1.1.1.1.1.1.1.1.0 = λ s y R m. c.answer-v.ensures s y (session-scoped s R) (session-sends s R) m in
-    let stored : (s : Session) (y : Syntax.Expr) → Runs s → Says y → Stores s y c.is_list-list.result c.answer-v.new.1.1.1.1.1.1.1.1.0 c.in-Value.len c.in-Value.weight = λ s y R m. let x = name_of in
-    stores s (Syntax.append_to x y) y c.is_list-list.result (append_effect s x) (does s y R) c.answer-v.new.1.1.1.1.1.1.1.1.0 c.answer-v.result
+    let answers : (s : Session) (y : Syntax.Expr) → Runs s → Says y → Answers c.answer-v.result s y c.answer-v.new.value = λ s y R m. c.answer-v.ensures s y (session-scoped s R) (session-sends s R) m in
+    let stored : (s : Session) (y : Syntax.Expr) → Runs s → Says y → Stores s y c.is_list-list.result c.answer-v.new.value c.in-Value.len c.in-Value.weight = λ s y R m. let x = name_of in
+    stores s (Syntax.append_to x y) y c.is_list-list.result (append_effect s x) (does s y R) c.answer-v.new.value c.answer-v.result
     (answers s y R m) c.settle.result c.settle.ensures c.in-Value.len c.in-Value.weight c.in-Value.is in
     let x = name_of in
     let H = stored s y R m in

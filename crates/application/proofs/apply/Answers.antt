@@ -45,5 +45,5 @@ call-requires c =
 pub returns : goal.returns
 returns c =
     let a = c.args in
-    subst (λ (p : Option Text × Option Text). Valued c.call.result (applied_to (function_meant a.f) p.0 p.1) c.call.new.1.1.1.0)
+    subst (λ (p : Option Text × Option Text). Valued c.call.result (applied_to (function_meant a.f) p.0 p.1) c.call.new.out)
     (λ i. (text_at a.first.now (sym c.in-At.is i), text_at a.second.now (sym c.in-At-b.is i))) c.call.ensures

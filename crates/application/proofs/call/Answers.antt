@@ -17,17 +17,17 @@ use Rattle.application.proofs.call.Goals as goal
 pub returns-in-Split : goal.returns-in-Split
 returns-in-Split c =
     let a = c.args in
-    subst (λ (g : Function). Valued c.split.result (applied_to (function_meant g) (some a.first.now) (some a.second.now)) c.split.new.1.1.0)
+    subst (λ (g : Function). Valued c.split.result (applied_to (function_meant g) (some a.first.now) (some a.second.now)) c.split.new.out)
     (sym c.in-Split.is) c.split.ensures
 
 pub returns-in-Concat : goal.returns-in-Concat
 returns-in-Concat c =
     let a = c.args in
-    subst (λ (g : Function). Valued c.concat.result (applied_to (function_meant g) (some a.first.now) (some a.second.now)) c.concat.new.1.1.0)
+    subst (λ (g : Function). Valued c.concat.result (applied_to (function_meant g) (some a.first.now) (some a.second.now)) c.concat.new.out)
     (sym c.in-Concat.is) c.concat.ensures
 
 pub returns-in-Arithmetic : goal.returns-in-Arithmetic
 returns-in-Arithmetic c =
     let a = c.args in
-    subst (λ (g : Function). Valued c.priced.result (applied_to (function_meant g) (some a.first.now) (some a.second.now)) c.priced.new.1.1.1.0)
+    subst (λ (g : Function). Valued c.priced.result (applied_to (function_meant g) (some a.first.now) (some a.second.now)) c.priced.new.out)
     (sym c.in-Arithmetic.is) c.priced.ensures

@@ -22,7 +22,7 @@ pub lower_text-requires : goal.lower_text-requires
 lower_text-requires c = (subst (λ (f : Found). MaybeString (text_at c.args.value.now f)) c.in-At.is c.requires.1, c.requires.2)
 
 pub returns-in-At : goal.returns-in-At
-returns-in-At c = subst (λ (f : Found). Valued c.lower_text.result (lowered_to (text_at c.args.value.now f)) c.lower_text.new.1.0) (sym c.in-At.is) c.lower_text.ensures
+returns-in-At c = subst (λ (f : Found). Valued c.lower_text.result (lowered_to (text_at c.args.value.now f)) c.lower_text.new.out) (sym c.in-At.is) c.lower_text.ensures
 
 pub returns-in-Missing : goal.returns-in-Missing
 returns-in-Missing c = ap (λ (f : Found). lowered_to (text_at c.args.value.now f)) c.in-Missing.is

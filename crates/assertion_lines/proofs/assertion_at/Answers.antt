@@ -55,19 +55,19 @@ returns-in_default c =
     let is-tab : get_or c.args.text.now (c.args.at + 1) 0 ≡ 9 = sym c.byte_at.ensures ∙ c.if-byte_at-ne9.false in
     λ prows vrows G W.
     no_variable (row_names prows) (row_names vrows) (pw prows G) (vw vrows W) c.args.text.now c.args.at c.args.w c.requires.1 is-tab
-    (subst (λ k. KnownMeant (row_names vrows) 9 c.args.text.now (c.args.at + 2) k) c.in_default.is (c.known_at_lem.ensures vrows W))
+    (subst (λ k. KnownMeant (row_names vrows) 9 c.args.text.now (c.args.at + 2) k) c.in_default.is (c.known_at-variable.ensures vrows W))
 
 pub overflow_add-m : goal.overflow_add-m
 overflow_add-m c =
     let Vars : List Row → Type 0 = λ rows. let r = c.args.roll in Rows rows (part c.args.text.now r.vars_from r.vars_to) r.vars c.args.vars.now in
-    let mx : (rows : List Row) → Vars rows → Member (row_names rows) 9 c.args.text.now (c.args.at + 2) c.in-At.x c.in-At.m = λ rows H. subst (λ k. KnownMeant (row_names rows) 9 c.args.text.now (c.args.at + 2) k) c.in-At.is (c.known_at_lem.ensures rows H) in
+    let mx : (rows : List Row) → Vars rows → Member (row_names rows) 9 c.args.text.now (c.args.at + 2) c.in-At.x c.in-At.m = λ rows H. subst (λ k. KnownMeant (row_names rows) 9 c.args.text.now (c.args.at + 2) k) c.in-At.is (c.known_at-variable.ensures rows H) in
     let fx : (c.args.at + 2 ≤ c.in-At.m) × (c.in-At.m < length c.args.text.now) = let f = (mx c.pre.0.vars_some.rows c.pre.0.vars_some.held).field in (f.low, f.high) in
     let f = fx in omega (arith, f.1)
 
 pub known_at-giver-requires : goal.known_at-giver-requires
 known_at-giver-requires c =
     let Vars : List Row → Type 0 = λ rows. let r = c.args.roll in Rows rows (part c.args.text.now r.vars_from r.vars_to) r.vars c.args.vars.now in
-    let mx : (rows : List Row) → Vars rows → Member (row_names rows) 9 c.args.text.now (c.args.at + 2) c.in-At.x c.in-At.m = λ rows H. subst (λ k. KnownMeant (row_names rows) 9 c.args.text.now (c.args.at + 2) k) c.in-At.is (c.known_at_lem.ensures rows H) in
+    let mx : (rows : List Row) → Vars rows → Member (row_names rows) 9 c.args.text.now (c.args.at + 2) c.in-At.x c.in-At.m = λ rows H. subst (λ k. KnownMeant (row_names rows) 9 c.args.text.now (c.args.at + 2) k) c.in-At.is (c.known_at-variable.ensures rows H) in
     let fx : (c.args.at + 2 ≤ c.in-At.m) × (c.in-At.m < length c.args.text.now) = let f = (mx c.pre.0.vars_some.rows c.pre.0.vars_some.held).field in (f.low, f.high) in
     let f = fx in
     let r = c.requires.0 in
@@ -80,7 +80,7 @@ returns-in_default-giver c =
     let Vars : List Row → Type 0 = λ rows. let r = c.args.roll in Rows rows (part c.args.text.now r.vars_from r.vars_to) r.vars c.args.vars.now in
     let vw : (rows : List Row) → Vars rows → (x : Text) → T (member x (row_names rows)) → T (all word_byte x) = λ rows H. let r = c.args.roll in member_word rows c.args.text.now r.vars_from r.vars_to r.vars c.args.vars.now H in
     let is-tab : get_or c.args.text.now (c.args.at + 1) 0 ≡ 9 = sym c.byte_at.ensures ∙ c.if-byte_at-ne9.false in
-    let mx : (rows : List Row) → Vars rows → Member (row_names rows) 9 c.args.text.now (c.args.at + 2) c.in-At.x c.in-At.m = λ rows H. subst (λ k. KnownMeant (row_names rows) 9 c.args.text.now (c.args.at + 2) k) c.in-At.is (c.known_at_lem.ensures rows H) in
+    let mx : (rows : List Row) → Vars rows → Member (row_names rows) 9 c.args.text.now (c.args.at + 2) c.in-At.x c.in-At.m = λ rows H. subst (λ k. KnownMeant (row_names rows) 9 c.args.text.now (c.args.at + 2) k) c.in-At.is (c.known_at-variable.ensures rows H) in
     λ prows vrows G W.
     no_giver (row_names prows) (row_names vrows) (pw prows G) (vw vrows W) c.args.text.now c.args.at c.args.w c.requires.1 is-tab _ _ (mx vrows W)
     (subst (λ k. KnownMeant (row_names prows) 9 c.args.text.now (c.in-At.m + 1) k) c.in_default-giver.is (c.known_at-giver.ensures prows G))
@@ -99,11 +99,11 @@ returns-then-right-eq4 c =
     let Vars : List Row → Type 0 = λ rows. let r = c.args.roll in Rows rows (part c.args.text.now r.vars_from r.vars_to) r.vars c.args.vars.now in
     let vw : (rows : List Row) → Vars rows → (x : Text) → T (member x (row_names rows)) → T (all word_byte x) = λ rows H. let r = c.args.roll in member_word rows c.args.text.now r.vars_from r.vars_to r.vars c.args.vars.now H in
     let is-tab : get_or c.args.text.now (c.args.at + 1) 0 ≡ 9 = sym c.byte_at.ensures ∙ c.if-byte_at-ne9.false in
-    let mx : (rows : List Row) → Vars rows → Member (row_names rows) 9 c.args.text.now (c.args.at + 2) c.in-At.x c.in-At.m = λ rows H. subst (λ k. KnownMeant (row_names rows) 9 c.args.text.now (c.args.at + 2) k) c.in-At.is (c.known_at_lem.ensures rows H) in
+    let mx : (rows : List Row) → Vars rows → Member (row_names rows) 9 c.args.text.now (c.args.at + 2) c.in-At.x c.in-At.m = λ rows H. subst (λ k. KnownMeant (row_names rows) 9 c.args.text.now (c.args.at + 2) k) c.in-At.is (c.known_at-variable.ensures rows H) in
     let mq : (rows : List Row) → Principals rows → Member (row_names rows) 9 c.args.text.now (c.in-At.m + 1) c.in-At-giver.q c.in-At-giver.n = λ rows H. subst (λ k. KnownMeant (row_names rows) 9 c.args.text.now (c.in-At.m + 1) k) c.in-At-giver.is (c.known_at-giver.ensures rows H) in
     λ prows vrows G W.
     no_right (row_names prows) (row_names vrows) (pw prows G) (vw vrows W) c.args.text.now c.args.at c.args.w c.requires.1 is-tab _ _ (mx vrows W) _ _ (mq prows G)
-    (sym (c.right_code_lem.ensures ∙ ap code_of c.byte_at-2.ensures) ∙ c.if-right-eq4.true)
+    (sym (c.right_code-right.ensures ∙ ap code_of c.byte_at-2.ensures) ∙ c.if-right-eq4.true)
 
 pub overflow_add-n-2 : goal.overflow_add-n-2
 overflow_add-n-2 c =
@@ -119,7 +119,7 @@ returns-then-byte_at-ne9-2 c =
     let Vars : List Row → Type 0 = λ rows. let r = c.args.roll in Rows rows (part c.args.text.now r.vars_from r.vars_to) r.vars c.args.vars.now in
     let vw : (rows : List Row) → Vars rows → (x : Text) → T (member x (row_names rows)) → T (all word_byte x) = λ rows H. let r = c.args.roll in member_word rows c.args.text.now r.vars_from r.vars_to r.vars c.args.vars.now H in
     let is-tab : get_or c.args.text.now (c.args.at + 1) 0 ≡ 9 = sym c.byte_at.ensures ∙ c.if-byte_at-ne9.false in
-    let mx : (rows : List Row) → Vars rows → Member (row_names rows) 9 c.args.text.now (c.args.at + 2) c.in-At.x c.in-At.m = λ rows H. subst (λ k. KnownMeant (row_names rows) 9 c.args.text.now (c.args.at + 2) k) c.in-At.is (c.known_at_lem.ensures rows H) in
+    let mx : (rows : List Row) → Vars rows → Member (row_names rows) 9 c.args.text.now (c.args.at + 2) c.in-At.x c.in-At.m = λ rows H. subst (λ k. KnownMeant (row_names rows) 9 c.args.text.now (c.args.at + 2) k) c.in-At.is (c.known_at-variable.ensures rows H) in
     let mq : (rows : List Row) → Principals rows → Member (row_names rows) 9 c.args.text.now (c.in-At.m + 1) c.in-At-giver.q c.in-At-giver.n = λ rows H. subst (λ k. KnownMeant (row_names rows) 9 c.args.text.now (c.in-At.m + 1) k) c.in-At-giver.is (c.known_at-giver.ensures rows H) in
     λ prows vrows G W.
     no_second_tab (row_names prows) (row_names vrows) (pw prows G) (vw vrows W) c.args.text.now c.args.at c.args.w c.requires.1 is-tab _ _ (mx vrows W) _ _ (mq prows G)
@@ -144,7 +144,7 @@ returns-in_default-taker c =
     let Vars : List Row → Type 0 = λ rows. let r = c.args.roll in Rows rows (part c.args.text.now r.vars_from r.vars_to) r.vars c.args.vars.now in
     let vw : (rows : List Row) → Vars rows → (x : Text) → T (member x (row_names rows)) → T (all word_byte x) = λ rows H. let r = c.args.roll in member_word rows c.args.text.now r.vars_from r.vars_to r.vars c.args.vars.now H in
     let is-tab : get_or c.args.text.now (c.args.at + 1) 0 ≡ 9 = sym c.byte_at.ensures ∙ c.if-byte_at-ne9.false in
-    let mx : (rows : List Row) → Vars rows → Member (row_names rows) 9 c.args.text.now (c.args.at + 2) c.in-At.x c.in-At.m = λ rows H. subst (λ k. KnownMeant (row_names rows) 9 c.args.text.now (c.args.at + 2) k) c.in-At.is (c.known_at_lem.ensures rows H) in
+    let mx : (rows : List Row) → Vars rows → Member (row_names rows) 9 c.args.text.now (c.args.at + 2) c.in-At.x c.in-At.m = λ rows H. subst (λ k. KnownMeant (row_names rows) 9 c.args.text.now (c.args.at + 2) k) c.in-At.is (c.known_at-variable.ensures rows H) in
     let mq : (rows : List Row) → Principals rows → Member (row_names rows) 9 c.args.text.now (c.in-At.m + 1) c.in-At-giver.q c.in-At-giver.n = λ rows H. subst (λ k. KnownMeant (row_names rows) 9 c.args.text.now (c.in-At.m + 1) k) c.in-At-giver.is (c.known_at-giver.ensures rows H) in
     λ prows vrows G W.
     no_taker (row_names prows) (row_names vrows) (pw prows G) (vw vrows W) c.args.text.now c.args.at c.args.w c.requires.1 is-tab _ _ (mx vrows W) _ _ (mq prows G)
@@ -153,7 +153,7 @@ returns-in_default-taker c =
 pub overflow_add-a : goal.overflow_add-a
 overflow_add-a c =
     let Vars : List Row → Type 0 = λ rows. let r = c.args.roll in Rows rows (part c.args.text.now r.vars_from r.vars_to) r.vars c.args.vars.now in
-    let mx : (rows : List Row) → Vars rows → Member (row_names rows) 9 c.args.text.now (c.args.at + 2) c.in-At.x c.in-At.m = λ rows H. subst (λ k. KnownMeant (row_names rows) 9 c.args.text.now (c.args.at + 2) k) c.in-At.is (c.known_at_lem.ensures rows H) in
+    let mx : (rows : List Row) → Vars rows → Member (row_names rows) 9 c.args.text.now (c.args.at + 2) c.in-At.x c.in-At.m = λ rows H. subst (λ k. KnownMeant (row_names rows) 9 c.args.text.now (c.args.at + 2) k) c.in-At.is (c.known_at-variable.ensures rows H) in
     let fx : (c.args.at + 2 ≤ c.in-At.m) × (c.in-At.m < length c.args.text.now) = let f = (mx c.pre.0.vars_some.rows c.pre.0.vars_some.held).field in (f.low, f.high) in
     let f = fx in omega (arith, f.1, c.requires.0.small)
 
@@ -167,28 +167,28 @@ overflow_add-b c =
 pub overflow_add-after : goal.overflow_add-after
 overflow_add-after c =
     let Vars : List Row → Type 0 = λ rows. let r = c.args.roll in Rows rows (part c.args.text.now r.vars_from r.vars_to) r.vars c.args.vars.now in
-    let mx : (rows : List Row) → Vars rows → Member (row_names rows) 9 c.args.text.now (c.args.at + 2) c.in-At.x c.in-At.m = λ rows H. subst (λ k. KnownMeant (row_names rows) 9 c.args.text.now (c.args.at + 2) k) c.in-At.is (c.known_at_lem.ensures rows H) in
+    let mx : (rows : List Row) → Vars rows → Member (row_names rows) 9 c.args.text.now (c.args.at + 2) c.in-At.x c.in-At.m = λ rows H. subst (λ k. KnownMeant (row_names rows) 9 c.args.text.now (c.args.at + 2) k) c.in-At.is (c.known_at-variable.ensures rows H) in
     let fx : (c.args.at + 2 ≤ c.in-At.m) × (c.in-At.m < length c.args.text.now) = let f = (mx c.pre.0.vars_some.rows c.pre.0.vars_some.held).field in (f.low, f.high) in
     let f = fx in omega (arith, f.0, f.1)
 
 pub overflow_sub-after : goal.overflow_sub-after
 overflow_sub-after c =
     let Vars : List Row → Type 0 = λ rows. let r = c.args.roll in Rows rows (part c.args.text.now r.vars_from r.vars_to) r.vars c.args.vars.now in
-    let mx : (rows : List Row) → Vars rows → Member (row_names rows) 9 c.args.text.now (c.args.at + 2) c.in-At.x c.in-At.m = λ rows H. subst (λ k. KnownMeant (row_names rows) 9 c.args.text.now (c.args.at + 2) k) c.in-At.is (c.known_at_lem.ensures rows H) in
+    let mx : (rows : List Row) → Vars rows → Member (row_names rows) 9 c.args.text.now (c.args.at + 2) c.in-At.x c.in-At.m = λ rows H. subst (λ k. KnownMeant (row_names rows) 9 c.args.text.now (c.args.at + 2) k) c.in-At.is (c.known_at-variable.ensures rows H) in
     let fx : (c.args.at + 2 ≤ c.in-At.m) × (c.in-At.m < length c.args.text.now) = let f = (mx c.pre.0.vars_some.rows c.pre.0.vars_some.held).field in (f.low, f.high) in
     let f = fx in omega (arith, f.0)
 
 pub overflow_add-after-2 : goal.overflow_add-after-2
 overflow_add-after-2 c =
     let Vars : List Row → Type 0 = λ rows. let r = c.args.roll in Rows rows (part c.args.text.now r.vars_from r.vars_to) r.vars c.args.vars.now in
-    let mx : (rows : List Row) → Vars rows → Member (row_names rows) 9 c.args.text.now (c.args.at + 2) c.in-At.x c.in-At.m = λ rows H. subst (λ k. KnownMeant (row_names rows) 9 c.args.text.now (c.args.at + 2) k) c.in-At.is (c.known_at_lem.ensures rows H) in
+    let mx : (rows : List Row) → Vars rows → Member (row_names rows) 9 c.args.text.now (c.args.at + 2) c.in-At.x c.in-At.m = λ rows H. subst (λ k. KnownMeant (row_names rows) 9 c.args.text.now (c.args.at + 2) k) c.in-At.is (c.known_at-variable.ensures rows H) in
     let light-x : c.in-At.m - (c.args.at + 2) ≤ 255 = let H = c.requires.0.vars_some in (member_light H.rows c.args.text.now c.args.roll.vars_from c.args.roll.vars_to c.args.roll.vars c.args.vars.now H.held 9 _ _ _ (mx H.rows H.held)).1 in
     let l = light-x in omega (arith, l, c.requires.2)
 
 pub overflow_add-after-3 : goal.overflow_add-after-3
 overflow_add-after-3 c =
     let Vars : List Row → Type 0 = λ rows. let r = c.args.roll in Rows rows (part c.args.text.now r.vars_from r.vars_to) r.vars c.args.vars.now in
-    let mx : (rows : List Row) → Vars rows → Member (row_names rows) 9 c.args.text.now (c.args.at + 2) c.in-At.x c.in-At.m = λ rows H. subst (λ k. KnownMeant (row_names rows) 9 c.args.text.now (c.args.at + 2) k) c.in-At.is (c.known_at_lem.ensures rows H) in
+    let mx : (rows : List Row) → Vars rows → Member (row_names rows) 9 c.args.text.now (c.args.at + 2) c.in-At.x c.in-At.m = λ rows H. subst (λ k. KnownMeant (row_names rows) 9 c.args.text.now (c.args.at + 2) k) c.in-At.is (c.known_at-variable.ensures rows H) in
     let light-x : c.in-At.m - (c.args.at + 2) ≤ 255 = let H = c.requires.0.vars_some in (member_light H.rows c.args.text.now c.args.roll.vars_from c.args.roll.vars_to c.args.roll.vars c.args.vars.now H.held 9 _ _ _ (mx H.rows H.held)).1 in
     let l = light-x in omega (arith, l, c.requires.2)
 
@@ -202,12 +202,12 @@ slice_bounds-name_weight-count c =
 pub overflow_add-after-4 : goal.overflow_add-after-4
 overflow_add-after-4 c =
     let Vars : List Row → Type 0 = λ rows. let r = c.args.roll in Rows rows (part c.args.text.now r.vars_from r.vars_to) r.vars c.args.vars.now in
-    let mx : (rows : List Row) → Vars rows → Member (row_names rows) 9 c.args.text.now (c.args.at + 2) c.in-At.x c.in-At.m = λ rows H. subst (λ k. KnownMeant (row_names rows) 9 c.args.text.now (c.args.at + 2) k) c.in-At.is (c.known_at_lem.ensures rows H) in
+    let mx : (rows : List Row) → Vars rows → Member (row_names rows) 9 c.args.text.now (c.args.at + 2) c.in-At.x c.in-At.m = λ rows H. subst (λ k. KnownMeant (row_names rows) 9 c.args.text.now (c.args.at + 2) k) c.in-At.is (c.known_at-variable.ensures rows H) in
     let light-x : c.in-At.m - (c.args.at + 2) ≤ 255 = let H = c.requires.0.vars_some in (member_light H.rows c.args.text.now c.args.roll.vars_from c.args.roll.vars_to c.args.roll.vars c.args.vars.now H.held 9 _ _ _ (mx H.rows H.held)).1 in
     let Principals : List Row → Type 0 = λ rows. let r = c.args.roll in Rows rows (part c.args.text.now r.principals_from r.principals_to) r.principals c.args.principals.now in
     let mq : (rows : List Row) → Principals rows → Member (row_names rows) 9 c.args.text.now (c.in-At.m + 1) c.in-At-giver.q c.in-At-giver.n = λ rows H. subst (λ k. KnownMeant (row_names rows) 9 c.args.text.now (c.in-At.m + 1) k) c.in-At-giver.is (c.known_at-giver.ensures rows H) in
-    let light-q : c.name_weight_lem.result ≤ 255 = let H = c.requires.0.principals_some in let l = (member_light H.rows c.args.text.now c.args.roll.principals_from c.args.roll.principals_to c.args.roll.principals
-    c.args.principals.now H.held 9 _ _ _ (mq H.rows H.held)).0 in omega (arith, l, c.name_weight_lem.ensures) in
+    let light-q : c.name_weight.result ≤ 255 = let H = c.requires.0.principals_some in let l = (member_light H.rows c.args.text.now c.args.roll.principals_from c.args.roll.principals_to c.args.roll.principals
+    c.args.principals.now H.held 9 _ _ _ (mq H.rows H.held)).0 in omega (arith, l, c.name_weight.ensures) in
     let l = light-x in let q = light-q (c) in omega (arith, l, q, c.requires.2)
 
 pub slice_bounds-name_weight-count-2 : goal.slice_bounds-name_weight-count-2
@@ -220,12 +220,12 @@ slice_bounds-name_weight-count-2 c =
 pub overflow_add-after-5 : goal.overflow_add-after-5
 overflow_add-after-5 c =
     let Vars : List Row → Type 0 = λ rows. let r = c.args.roll in Rows rows (part c.args.text.now r.vars_from r.vars_to) r.vars c.args.vars.now in
-    let mx : (rows : List Row) → Vars rows → Member (row_names rows) 9 c.args.text.now (c.args.at + 2) c.in-At.x c.in-At.m = λ rows H. subst (λ k. KnownMeant (row_names rows) 9 c.args.text.now (c.args.at + 2) k) c.in-At.is (c.known_at_lem.ensures rows H) in
+    let mx : (rows : List Row) → Vars rows → Member (row_names rows) 9 c.args.text.now (c.args.at + 2) c.in-At.x c.in-At.m = λ rows H. subst (λ k. KnownMeant (row_names rows) 9 c.args.text.now (c.args.at + 2) k) c.in-At.is (c.known_at-variable.ensures rows H) in
     let light-x : c.in-At.m - (c.args.at + 2) ≤ 255 = let H = c.requires.0.vars_some in (member_light H.rows c.args.text.now c.args.roll.vars_from c.args.roll.vars_to c.args.roll.vars c.args.vars.now H.held 9 _ _ _ (mx H.rows H.held)).1 in
     let Principals : List Row → Type 0 = λ rows. let r = c.args.roll in Rows rows (part c.args.text.now r.principals_from r.principals_to) r.principals c.args.principals.now in
     let mq : (rows : List Row) → Principals rows → Member (row_names rows) 9 c.args.text.now (c.in-At.m + 1) c.in-At-giver.q c.in-At-giver.n = λ rows H. subst (λ k. KnownMeant (row_names rows) 9 c.args.text.now (c.in-At.m + 1) k) c.in-At-giver.is (c.known_at-giver.ensures rows H) in
-    let light-q : c.name_weight_lem.result ≤ 255 = let H = c.requires.0.principals_some in let l = (member_light H.rows c.args.text.now c.args.roll.principals_from c.args.roll.principals_to c.args.roll.principals
-    c.args.principals.now H.held 9 _ _ _ (mq H.rows H.held)).0 in omega (arith, l, c.name_weight_lem.ensures) in
+    let light-q : c.name_weight.result ≤ 255 = let H = c.requires.0.principals_some in let l = (member_light H.rows c.args.text.now c.args.roll.principals_from c.args.roll.principals_to c.args.roll.principals
+    c.args.principals.now H.held 9 _ _ _ (mq H.rows H.held)).0 in omega (arith, l, c.name_weight.ensures) in
     let mp : (rows : List Row) → Principals rows → Member (row_names rows) 10 c.args.text.now (c.in-At-giver.n + 3) c.in-At-taker.p c.in-At-taker.e = λ rows H. subst (λ k. KnownMeant (row_names rows) 10 c.args.text.now (c.in-At-giver.n + 3) k) c.in-At-taker.is (c.known_at-taker.ensures rows H) in
     let light-p : c.name_weight-2.result ≤ 255 = let H = c.requires.0.principals_some in let l = (member_light H.rows c.args.text.now c.args.roll.principals_from c.args.roll.principals_to c.args.roll.principals
     c.args.principals.now H.held 10 _ _ _ (mp H.rows H.held)).0 in omega (arith, l, c.name_weight-2.ensures) in
@@ -239,18 +239,18 @@ returns-then-after-gt8192 c =
     let vw : (rows : List Row) → Vars rows → (x : Text) → T (member x (row_names rows)) → T (all word_byte x) = λ rows H. let r = c.args.roll in member_word rows c.args.text.now r.vars_from r.vars_to r.vars c.args.vars.now H in
     let is-tab : get_or c.args.text.now (c.args.at + 1) 0 ≡ 9 = sym c.byte_at.ensures ∙ c.if-byte_at-ne9.false in
     let is-tab2 : get_or c.args.text.now (c.in-At-giver.n + 2) 0 ≡ 9 = sym c.byte_at-3.ensures ∙ c.if-byte_at-ne9-2.false in
-    let mx : (rows : List Row) → Vars rows → Member (row_names rows) 9 c.args.text.now (c.args.at + 2) c.in-At.x c.in-At.m = λ rows H. subst (λ k. KnownMeant (row_names rows) 9 c.args.text.now (c.args.at + 2) k) c.in-At.is (c.known_at_lem.ensures rows H) in
+    let mx : (rows : List Row) → Vars rows → Member (row_names rows) 9 c.args.text.now (c.args.at + 2) c.in-At.x c.in-At.m = λ rows H. subst (λ k. KnownMeant (row_names rows) 9 c.args.text.now (c.args.at + 2) k) c.in-At.is (c.known_at-variable.ensures rows H) in
     let mq : (rows : List Row) → Principals rows → Member (row_names rows) 9 c.args.text.now (c.in-At.m + 1) c.in-At-giver.q c.in-At-giver.n = λ rows H. subst (λ k. KnownMeant (row_names rows) 9 c.args.text.now (c.in-At.m + 1) k) c.in-At-giver.is (c.known_at-giver.ensures rows H) in
     let mp : (rows : List Row) → Principals rows → Member (row_names rows) 10 c.args.text.now (c.in-At-giver.n + 3) c.in-At-taker.p c.in-At-taker.e = λ rows H. subst (λ k. KnownMeant (row_names rows) 10 c.args.text.now (c.in-At-giver.n + 3) k) c.in-At-taker.is (c.known_at-taker.ensures rows H) in
-    let is_right : code_of (get_or c.args.text.now (c.in-At-giver.n + 1) 0) ≡ 4 → ⊥ = λ e. c.if-right-eq4.false (c.right_code_lem.ensures ∙ ap code_of c.byte_at-2.ensures ∙ e) in
+    let is_right : code_of (get_or c.args.text.now (c.in-At-giver.n + 1) 0) ≡ 4 → ⊥ = λ e. c.if-right-eq4.false (c.right_code-right.ensures ∙ ap code_of c.byte_at-2.ensures ∙ e) in
     λ prows vrows G W.
     assertion_heavy (row_names prows) (row_names vrows) (pw prows G) (vw vrows W) c.args.text.now c.args.at c.args.w c.requires.1 is-tab _ _ (mx vrows W) _ _ (mq prows G)
-    is_right is-tab2 _ _ (mp prows G) (omega (arith, c.if-after-gt8192.true, c.name_weight_lem.ensures, c.name_weight-2.ensures))
+    is_right is-tab2 _ _ (mp prows G) (omega (arith, c.if-after-gt8192.true, c.name_weight.ensures, c.name_weight-2.ensures))
 
 pub pack-requires : goal.pack-requires
 pack-requires c =
     let Vars : List Row → Type 0 = λ rows. let r = c.args.roll in Rows rows (part c.args.text.now r.vars_from r.vars_to) r.vars c.args.vars.now in
-    let mx : (rows : List Row) → Vars rows → Member (row_names rows) 9 c.args.text.now (c.args.at + 2) c.in-At.x c.in-At.m = λ rows H. subst (λ k. KnownMeant (row_names rows) 9 c.args.text.now (c.args.at + 2) k) c.in-At.is (c.known_at_lem.ensures rows H) in
+    let mx : (rows : List Row) → Vars rows → Member (row_names rows) 9 c.args.text.now (c.args.at + 2) c.in-At.x c.in-At.m = λ rows H. subst (λ k. KnownMeant (row_names rows) 9 c.args.text.now (c.args.at + 2) k) c.in-At.is (c.known_at-variable.ensures rows H) in
     let Principals : List Row → Type 0 = λ rows. let r = c.args.roll in Rows rows (part c.args.text.now r.principals_from r.principals_to) r.principals c.args.principals.now in
     let mq : (rows : List Row) → Principals rows → Member (row_names rows) 9 c.args.text.now (c.in-At.m + 1) c.in-At-giver.q c.in-At-giver.n = λ rows H. subst (λ k. KnownMeant (row_names rows) 9 c.args.text.now (c.in-At.m + 1) k) c.in-At-giver.is (c.known_at-giver.ensures rows H) in
     let mp : (rows : List Row) → Principals rows → Member (row_names rows) 10 c.args.text.now (c.in-At-giver.n + 3) c.in-At-taker.p c.in-At-taker.e = λ rows H. subst (λ k. KnownMeant (row_names rows) 10 c.args.text.now (c.in-At-giver.n + 3) k) c.in-At-taker.is (c.known_at-taker.ensures rows H) in
@@ -277,13 +277,13 @@ returns c =
     let vw : (rows : List Row) → Vars rows → (x : Text) → T (member x (row_names rows)) → T (all word_byte x) = λ rows H. let r = c.args.roll in member_word rows c.args.text.now r.vars_from r.vars_to r.vars c.args.vars.now H in
     let is-tab : get_or c.args.text.now (c.args.at + 1) 0 ≡ 9 = sym c.byte_at.ensures ∙ c.if-byte_at-ne9.false in
     let is-tab2 : get_or c.args.text.now (c.in-At-giver.n + 2) 0 ≡ 9 = sym c.byte_at-3.ensures ∙ c.if-byte_at-ne9-2.false in
-    let mx : (rows : List Row) → Vars rows → Member (row_names rows) 9 c.args.text.now (c.args.at + 2) c.in-At.x c.in-At.m = λ rows H. subst (λ k. KnownMeant (row_names rows) 9 c.args.text.now (c.args.at + 2) k) c.in-At.is (c.known_at_lem.ensures rows H) in
+    let mx : (rows : List Row) → Vars rows → Member (row_names rows) 9 c.args.text.now (c.args.at + 2) c.in-At.x c.in-At.m = λ rows H. subst (λ k. KnownMeant (row_names rows) 9 c.args.text.now (c.args.at + 2) k) c.in-At.is (c.known_at-variable.ensures rows H) in
     let mq : (rows : List Row) → Principals rows → Member (row_names rows) 9 c.args.text.now (c.in-At.m + 1) c.in-At-giver.q c.in-At-giver.n = λ rows H. subst (λ k. KnownMeant (row_names rows) 9 c.args.text.now (c.in-At.m + 1) k) c.in-At-giver.is (c.known_at-giver.ensures rows H) in
     let mp : (rows : List Row) → Principals rows → Member (row_names rows) 10 c.args.text.now (c.in-At-giver.n + 3) c.in-At-taker.p c.in-At-taker.e = λ rows H. subst (λ k. KnownMeant (row_names rows) 10 c.args.text.now (c.in-At-giver.n + 3) k) c.in-At-taker.is (c.known_at-taker.ensures rows H) in
-    let is_right : code_of (get_or c.args.text.now (c.in-At-giver.n + 1) 0) ≡ 4 → ⊥ = λ e. c.if-right-eq4.false (c.right_code_lem.ensures ∙ ap code_of c.byte_at-2.ensures ∙ e) in
+    let is_right : code_of (get_or c.args.text.now (c.in-At-giver.n + 1) 0) ≡ 4 → ⊥ = λ e. c.if-right-eq4.false (c.right_code-right.ensures ∙ ap code_of c.byte_at-2.ensures ∙ e) in
     λ prows vrows G W.
-    let e : c.right_code_lem.result ≡ code_of (get_or c.args.text.now (c.in-At-giver.n + 1) 0) = c.right_code_lem.ensures ∙ ap code_of c.byte_at-2.ensures in
+    let e : c.right_code-right.result ≡ code_of (get_or c.args.text.now (c.in-At-giver.n + 1) 0) = c.right_code-right.ensures ∙ ap code_of c.byte_at-2.ensures in
     assertion_good (row_names prows) (row_names vrows) (pw prows G) (vw vrows W) c.args.text.now c.args.at c.args.w c.requires.1 is-tab _ _ (mx vrows W) _ _ (mq prows G)
     is_right is-tab2 _ _ (mp prows G) _ _
     (c.pack.ensures ∙ ap (λ (i : ℕ). pack c.in-At.x c.in-At-giver.q i c.in-At-taker.p) e)
-    (omega (arith, c.name_weight_lem.ensures, c.name_weight-2.ensures)) c.if-after-gt8192.false
+    (omega (arith, c.name_weight.ensures, c.name_weight-2.ensures)) c.if-after-gt8192.false

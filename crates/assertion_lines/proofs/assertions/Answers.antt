@@ -43,7 +43,7 @@ returns-in_default c =
     let a = c.args in
     let l = c.loop-roll in
     assertions_stuck (row_names prows) (row_names vrows) (pn prows G) (xn vrows W) (fp prows G) (fx vrows W) a.text.now a.at a.w l.assertions l.i l.n l.now (l.invariant.3 prows vrows G W) is-a
-    (subst (λ k. AssertionMeant (row_names prows) (row_names vrows) a.text.now l.i l.now k) c.in_default.is (c.assertion_at_lem.ensures prows vrows G W))
+    (subst (λ k. AssertionMeant (row_names prows) (row_names vrows) a.text.now l.i l.now k) c.in_default.is (c.assertion_at-assertion.ensures prows vrows G W))
 
 pub among_first-requires : goal.among_first-requires
 among_first-requires c =
@@ -75,7 +75,7 @@ returns-then-among_first c =
     let fp : (rows : List Row) → Principals rows → length (row_names rows) ≤ 4096 = λ rows H. let r = c.args.roll in let k = names_count rows c.args.text.now r.principals_from r.principals_to r.principals c.args.principals.now H in omega (arith, k, c.requires.0.principals_few) in
     let fx : (rows : List Row) → Vars rows → length (row_names rows) ≤ 4096 = λ rows H. let r = c.args.roll in let k = names_count rows c.args.text.now r.vars_from r.vars_to r.vars c.args.vars.now H in omega (arith, k, c.requires.0.vars_few) in
     let is-a : get_or c.args.text.now c.loop-roll.i 0 ≡ 65 = sym c.byte_at.ensures ∙ c.loop-roll-test.true in
-    let granting : (prows vrows : List Row) → Principals prows → Vars vrows → Granting (row_names prows) (row_names vrows) c.args.text.now c.loop-roll.i c.loop-roll.now c.in-At.number c.in-At.e c.in-At.after = λ prows vrows G W. subst (λ k. AssertionMeant (row_names prows) (row_names vrows) c.args.text.now c.loop-roll.i c.loop-roll.now k) c.in-At.is (c.assertion_at_lem.ensures prows vrows G W) in
+    let granting : (prows vrows : List Row) → Principals prows → Vars vrows → Granting (row_names prows) (row_names vrows) c.args.text.now c.loop-roll.i c.loop-roll.now c.in-At.number c.in-At.e c.in-At.after = λ prows vrows G W. subst (λ k. AssertionMeant (row_names prows) (row_names vrows) c.args.text.now c.loop-roll.i c.loop-roll.now k) c.in-At.is (c.assertion_at-assertion.ensures prows vrows G W) in
     λ prows vrows G W.
     let a = c.args in
     let l = c.loop-roll in
@@ -111,7 +111,7 @@ bounds-assertions-n c =
     let fx : (rows : List Row) → Vars rows → length (row_names rows) ≤ 4096 = λ rows H. let r = c.args.roll in let k = names_count rows c.args.text.now r.vars_from r.vars_to r.vars c.args.vars.now H in omega (arith, k, c.requires.0.vars_few) in
     let is-a : get_or c.args.text.now c.loop-roll.i 0 ≡ 65 = sym c.byte_at.ensures ∙ c.loop-roll-test.true in
     let whole : length c.loop-roll.assertions ≡ 2048 = c.loop-roll.invariant.0 ∙ c.pre.3 in
-    let granting : (prows vrows : List Row) → Principals prows → Vars vrows → Granting (row_names prows) (row_names vrows) c.args.text.now c.loop-roll.i c.loop-roll.now c.in-At.number c.in-At.e c.in-At.after = λ prows vrows G W. subst (λ k. AssertionMeant (row_names prows) (row_names vrows) c.args.text.now c.loop-roll.i c.loop-roll.now k) c.in-At.is (c.assertion_at_lem.ensures prows vrows G W) in
+    let granting : (prows vrows : List Row) → Principals prows → Vars vrows → Granting (row_names prows) (row_names vrows) c.args.text.now c.loop-roll.i c.loop-roll.now c.in-At.number c.in-At.e c.in-At.after = λ prows vrows G W. subst (λ k. AssertionMeant (row_names prows) (row_names vrows) c.args.text.now c.loop-roll.i c.loop-roll.now k) c.in-At.is (c.assertion_at-assertion.ensures prows vrows G W) in
     let own : (c.loop-roll.i < c.in-At.e) × (c.in-At.e ≤ length c.args.text.now) × (c.in-At.after ≤ 8192) × (c.loop-roll.n < length c.loop-roll.assertions) = let l = c.loop-roll in
     let a = c.args in
     let P = c.requires.0.principals_some in
@@ -156,7 +156,7 @@ loop-roll-smaller c =
     let fx : (rows : List Row) → Vars rows → length (row_names rows) ≤ 4096 = λ rows H. let r = c.args.roll in let k = names_count rows c.args.text.now r.vars_from r.vars_to r.vars c.args.vars.now H in omega (arith, k, c.requires.0.vars_few) in
     let is-a : get_or c.args.text.now c.loop-roll.i 0 ≡ 65 = sym c.byte_at.ensures ∙ c.loop-roll-test.true in
     let whole : length c.loop-roll.assertions ≡ 2048 = c.loop-roll.invariant.0 ∙ c.pre.3 in
-    let granting : (prows vrows : List Row) → Principals prows → Vars vrows → Granting (row_names prows) (row_names vrows) c.args.text.now c.loop-roll.i c.loop-roll.now c.in-At.number c.in-At.e c.in-At.after = λ prows vrows G W. subst (λ k. AssertionMeant (row_names prows) (row_names vrows) c.args.text.now c.loop-roll.i c.loop-roll.now k) c.in-At.is (c.assertion_at_lem.ensures prows vrows G W) in
+    let granting : (prows vrows : List Row) → Principals prows → Vars vrows → Granting (row_names prows) (row_names vrows) c.args.text.now c.loop-roll.i c.loop-roll.now c.in-At.number c.in-At.e c.in-At.after = λ prows vrows G W. subst (λ k. AssertionMeant (row_names prows) (row_names vrows) c.args.text.now c.loop-roll.i c.loop-roll.now k) c.in-At.is (c.assertion_at-assertion.ensures prows vrows G W) in
     let own : (c.loop-roll.i < c.in-At.e) × (c.in-At.e ≤ length c.args.text.now) × (c.in-At.after ≤ 8192) × (c.loop-roll.n < length c.loop-roll.assertions) = let l = c.loop-roll in
     let a = c.args in
     let P = c.requires.0.principals_some in
@@ -183,7 +183,7 @@ loop-roll-preserved c =
     let fx : (rows : List Row) → Vars rows → length (row_names rows) ≤ 4096 = λ rows H. let r = c.args.roll in let k = names_count rows c.args.text.now r.vars_from r.vars_to r.vars c.args.vars.now H in omega (arith, k, c.requires.0.vars_few) in
     let is-a : get_or c.args.text.now c.loop-roll.i 0 ≡ 65 = sym c.byte_at.ensures ∙ c.loop-roll-test.true in
     let whole : length c.loop-roll.assertions ≡ 2048 = c.loop-roll.invariant.0 ∙ c.pre.3 in
-    let granting : (prows vrows : List Row) → Principals prows → Vars vrows → Granting (row_names prows) (row_names vrows) c.args.text.now c.loop-roll.i c.loop-roll.now c.in-At.number c.in-At.e c.in-At.after = λ prows vrows G W. subst (λ k. AssertionMeant (row_names prows) (row_names vrows) c.args.text.now c.loop-roll.i c.loop-roll.now k) c.in-At.is (c.assertion_at_lem.ensures prows vrows G W) in
+    let granting : (prows vrows : List Row) → Principals prows → Vars vrows → Granting (row_names prows) (row_names vrows) c.args.text.now c.loop-roll.i c.loop-roll.now c.in-At.number c.in-At.e c.in-At.after = λ prows vrows G W. subst (λ k. AssertionMeant (row_names prows) (row_names vrows) c.args.text.now c.loop-roll.i c.loop-roll.now k) c.in-At.is (c.assertion_at-assertion.ensures prows vrows G W) in
     let own : (c.loop-roll.i < c.in-At.e) × (c.in-At.e ≤ length c.args.text.now) × (c.in-At.after ≤ 8192) × (c.loop-roll.n < length c.loop-roll.assertions) = let l = c.loop-roll in
     let a = c.args in
     let P = c.requires.0.principals_some in

@@ -17,6 +17,6 @@ pub returns : goal.returns
 returns c =
     let a = c.args in
     let h : c.first-k.result < a.n = omega (arith, c.first-k.ensures.high, c.if-k-n.false) in record {
-      withdrawn = withdrawn_at a.list.now c.close_up.new.0 c.first-k.result a.n a.a c.requires c.first-k.ensures h c.close_up.ensures;
+      withdrawn = withdrawn_at a.list.now c.close_up.new.list c.first-k.result a.n a.a c.requires c.first-k.ensures h c.close_up.ensures;
       others = (omega arith, ap (drop a.n) c.close_up.ensures ∙ closed_rest a.list.now c.first-k.result a.n h c.requires);
     }

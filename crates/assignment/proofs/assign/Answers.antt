@@ -65,7 +65,7 @@ returns-in_default-put c s v R W =
     let b = slices a.principals.now a.principal_slots.now a.vars.now a.variable_slots.now a.locals.now a.local_slots.now a.assertions.now in
     let F = there s.locals (take a.l.locals_len a.locals.now) a.l.locals a.local_slots.now R.local_variables a.name.now c.find-found.result (looked-up s R) c.in-At.number c.in-At.start c.in-At.end c.in-At.is in
     local_full s a.l b R a.name.now v W.held.is_valid _ F.is_value
-    (put_full s.locals (put a.name.now v s.locals) a.l.weight c.replace-put.result c.replace-put.new.0 a.l.locals c.replace-put.new.1.1.0
+    (put_full s.locals (put a.name.now v s.locals) a.l.weight c.replace-put.result c.replace-put.new.buf a.l.locals c.replace-put.new.slots
     (c.replace-put.ensures s.locals a.name.now v (locals_lie s a.l b R) F.number W) c.in_default-put.is)
 
 pub returns : goal.returns
@@ -75,7 +75,7 @@ returns c s v R W =
     let a = c.args in
     let b = slices a.principals.now a.principal_slots.now a.vars.now a.variable_slots.now a.locals.now a.local_slots.now a.assertions.now in
     let F = there s.locals (take a.l.locals_len a.locals.now) a.l.locals a.local_slots.now R.local_variables a.name.now c.find-found.result (looked-up s R) c.in-At.number c.in-At.start c.in-At.end c.in-At.is in
-    subst (λ (k : Layout). Running (assign s a.name.now v) k (slices a.principals.now a.principal_slots.now a.vars.now a.variable_slots.now c.replace-put.new.0 c.replace-put.new.1.1.0 a.assertions.now)) (sym c.with_locals.ensures)
-    (local_done s a.l b R a.name.now v W.held.is_valid _ F.is_value c.replace-put.new.0 c.replace-put.new.1.1.0 c.in-Done.n c.in-Done.w c.replace-put.auto.0
-    (put_done s.locals (put a.name.now v s.locals) a.l.weight c.replace-put.result c.replace-put.new.0 a.l.locals c.replace-put.new.1.1.0
+    subst (λ (k : Layout). Running (assign s a.name.now v) k (slices a.principals.now a.principal_slots.now a.vars.now a.variable_slots.now c.replace-put.new.buf c.replace-put.new.slots a.assertions.now)) (sym c.with_locals.ensures)
+    (local_done s a.l b R a.name.now v W.held.is_valid _ F.is_value c.replace-put.new.buf c.replace-put.new.slots c.in-Done.n c.in-Done.w c.replace-put.auto.buf
+    (put_done s.locals (put a.name.now v s.locals) a.l.weight c.replace-put.result c.replace-put.new.buf a.l.locals c.replace-put.new.slots
     (c.replace-put.ensures s.locals a.name.now v (locals_lie s a.l b R) F.number W) c.in-Done.n c.in-Done.w c.in-Done.is))

@@ -80,7 +80,7 @@ returns-in_default-put c s lo lm v R el W =
     let b = slices a.principals.now a.principal_slots.now a.vars.now a.variable_slots.now lo lm a.assertions.now in
     let F = there s.store.variables (take a.l.vars_len a.vars.now) a.l.vars a.variable_slots.now R.variables a.name.now c.find-found.result (looked-up s lo lm R) c.in-At.number c.in-At.start c.in-At.end c.in-At.is in
     shared_full s a.l b R a.name.now v W.held.is_valid c.requires.1 el _ F.is_value
-    (put_full s.store.variables (put a.name.now v s.store.variables) a.l.weight c.replace-put.result c.replace-put.new.0 a.l.vars c.replace-put.new.1.1.0
+    (put_full s.store.variables (put a.name.now v s.store.variables) a.l.weight c.replace-put.result c.replace-put.new.buf a.l.vars c.replace-put.new.slots
     (c.replace-put.ensures s.store.variables a.name.now v (shared_lie s a.l b R a.l.weight (omega arith)) F.number W) c.in_default-put.is)
 
 pub returns : goal.returns
@@ -90,7 +90,7 @@ returns c s lo lm v R el W =
     let a = c.args in
     let b = slices a.principals.now a.principal_slots.now a.vars.now a.variable_slots.now lo lm a.assertions.now in
     let F = there s.store.variables (take a.l.vars_len a.vars.now) a.l.vars a.variable_slots.now R.variables a.name.now c.find-found.result (looked-up s lo lm R) c.in-At.number c.in-At.start c.in-At.end c.in-At.is in
-    subst (λ (k : Layout). Running (assign s a.name.now v) k (slices a.principals.now a.principal_slots.now c.replace-put.new.0 c.replace-put.new.1.1.0 lo lm a.assertions.now)) (sym c.with_shared.ensures)
-    (shared_done s a.l b R a.name.now v W.held.is_valid c.requires.1 el _ F.is_value c.replace-put.new.0 c.replace-put.new.1.1.0 c.in-Done.n c.in-Done.w c.replace-put.auto.0
-    (put_done s.store.variables (put a.name.now v s.store.variables) a.l.weight c.replace-put.result c.replace-put.new.0 a.l.vars c.replace-put.new.1.1.0
+    subst (λ (k : Layout). Running (assign s a.name.now v) k (slices a.principals.now a.principal_slots.now c.replace-put.new.buf c.replace-put.new.slots lo lm a.assertions.now)) (sym c.with_shared.ensures)
+    (shared_done s a.l b R a.name.now v W.held.is_valid c.requires.1 el _ F.is_value c.replace-put.new.buf c.replace-put.new.slots c.in-Done.n c.in-Done.w c.replace-put.auto.buf
+    (put_done s.store.variables (put a.name.now v s.store.variables) a.l.weight c.replace-put.result c.replace-put.new.buf a.l.vars c.replace-put.new.slots
     (c.replace-put.ensures s.store.variables a.name.now v (shared_lie s a.l b R a.l.weight (omega arith)) F.number W) c.in-Done.n c.in-Done.w c.in-Done.is))

@@ -20,7 +20,7 @@ returns-in_default c s pe pm sv sm st v R u W =
     let b = slices pe pm sv sm a.locals.now a.local_slots.now st in
     let n = neither (value_in s.locals a.name.now) (value_in s.store.variables a.name.now) u in
     locals_full s a.l b R a.name.now v W.held.is_valid
-    (put_full s.locals (put a.name.now v s.locals) a.l.weight c.add-put.result c.add-put.new.0 _ c.add-put.new.1.1.0 (c.add-put.ensures s.locals v (locals_lie s a.l b R) n W) c.in_default.is)
+    (put_full s.locals (put a.name.now v s.locals) a.l.weight c.add-put.result c.add-put.new.buf _ c.add-put.new.slots (c.add-put.ensures s.locals v (locals_lie s a.l b R) n W) c.in_default.is)
 
 pub overflow_add-count : goal.overflow_add-count
 overflow_add-count c = omega (arith, few c.requires.0.lies, c.requires.3)
@@ -30,6 +30,6 @@ returns c s pe pm sv sm st v R u W =
     let a = c.args in
     let b = slices pe pm sv sm a.locals.now a.local_slots.now st in
     let n = neither (value_in s.locals a.name.now) (value_in s.store.variables a.name.now) u in
-    subst (λ (k : Layout). Running (with_locals s (put a.name.now v s.locals)) k (slices pe pm sv sm c.add-put.new.0 c.add-put.new.1.1.0 st)) (sym c.with_locals.ensures)
-    (local_put s a.l b R a.name.now v W.held.is_valid c.add-put.new.0 c.add-put.new.1.1.0 c.in-Done.len _ c.in-Done.w c.add-put.auto.0
-    (put_done s.locals (put a.name.now v s.locals) a.l.weight c.add-put.result c.add-put.new.0 _ c.add-put.new.1.1.0 (c.add-put.ensures s.locals v (locals_lie s a.l b R) n W) c.in-Done.len c.in-Done.w c.in-Done.is))
+    subst (λ (k : Layout). Running (with_locals s (put a.name.now v s.locals)) k (slices pe pm sv sm c.add-put.new.buf c.add-put.new.slots st)) (sym c.with_locals.ensures)
+    (local_put s a.l b R a.name.now v W.held.is_valid c.add-put.new.buf c.add-put.new.slots c.in-Done.len _ c.in-Done.w c.add-put.auto.buf
+    (put_done s.locals (put a.name.now v s.locals) a.l.weight c.add-put.result c.add-put.new.buf _ c.add-put.new.slots (c.add-put.ensures s.locals v (locals_lie s a.l b R) n W) c.in-Done.len c.in-Done.w c.in-Done.is))

@@ -57,15 +57,15 @@ returns-in_default c s lo lm v R el en W =
     let a = c.args in
     let b = slices a.principals.now a.principal_slots.now a.vars.now a.variable_slots.now lo lm a.assertions.now in
     new_full s a.l b R a.name.now v W.held.is_valid c.requires.1 en c.grant_weight-extra.result (extra-is s lo lm R) el
-    (put_full s.store.variables (put a.name.now v s.store.variables) (a.l.weight + c.grant_weight-extra.result) c.add-put.result c.add-put.new.0 (a.l.vars + 1) c.add-put.new.1.1.0
+    (put_full s.store.variables (put a.name.now v s.store.variables) (a.l.weight + c.grant_weight-extra.result) c.add-put.result c.add-put.new.buf (a.l.vars + 1) c.add-put.new.slots
     (c.add-put.ensures s.store.variables v (shared_lie s a.l b R (a.l.weight + c.grant_weight-extra.result) (omega arith)) en W) c.in_default.is)
 
 pub grant-asserted-requires : goal.grant-asserted-requires
 grant-asserted-requires c =
     let extra-is : let a = c.args in (s : Session) (lo : Text) (lm : List ℕ) → Running s a.l (slices a.principals.now a.principal_slots.now a.vars.now a.variable_slots.now lo lm a.assertions.now) → c.grant_weight-extra.result ≡ grant_weight (length a.name.now) s.sender = λ s lo lm R. c.grant_weight-extra.ensures.weighs s.store.principals s.sender R.principals R.ready.is_good.store_shape.order R.sender in
-    let became : let a = c.args in (s : Session) (lo : Text) (lm : List ℕ) (v : Value) → Running s a.l (slices a.principals.now a.principal_slots.now a.vars.now a.variable_slots.now lo lm a.assertions.now) → value_in s.store.variables a.name.now ≡ none → Weighs v a.value.now a.weight → Became s.store.variables (put a.name.now v s.store.variables) (a.l.weight + c.grant_weight-extra.result) c.add-put.new.0 c.in-Done.len (a.l.vars + 1) c.add-put.new.1.1.0 c.in-Done.w = λ s lo lm v R n W. let a = c.args in
+    let became : let a = c.args in (s : Session) (lo : Text) (lm : List ℕ) (v : Value) → Running s a.l (slices a.principals.now a.principal_slots.now a.vars.now a.variable_slots.now lo lm a.assertions.now) → value_in s.store.variables a.name.now ≡ none → Weighs v a.value.now a.weight → Became s.store.variables (put a.name.now v s.store.variables) (a.l.weight + c.grant_weight-extra.result) c.add-put.new.buf c.in-Done.len (a.l.vars + 1) c.add-put.new.slots c.in-Done.w = λ s lo lm v R n W. let a = c.args in
     let b = slices a.principals.now a.principal_slots.now a.vars.now a.variable_slots.now lo lm a.assertions.now in
-    put_done s.store.variables (put a.name.now v s.store.variables) (a.l.weight + c.grant_weight-extra.result) c.add-put.result c.add-put.new.0 (a.l.vars + 1) c.add-put.new.1.1.0
+    put_done s.store.variables (put a.name.now v s.store.variables) (a.l.weight + c.grant_weight-extra.result) c.add-put.result c.add-put.new.buf (a.l.vars + 1) c.add-put.new.slots
     (c.add-put.ensures s.store.variables v (shared_lie s a.l b R (a.l.weight + c.grant_weight-extra.result) (omega arith)) n W) c.in-Done.len c.in-Done.w c.in-Done.is in
     let a = c.args in
     let S = c.requires.0.some in
@@ -85,12 +85,12 @@ overflow_add-count c =
 pub returns : goal.returns
 returns c s lo lm v R el en W =
     let extra-is : let a = c.args in (s : Session) (lo : Text) (lm : List ℕ) → Running s a.l (slices a.principals.now a.principal_slots.now a.vars.now a.variable_slots.now lo lm a.assertions.now) → c.grant_weight-extra.result ≡ grant_weight (length a.name.now) s.sender = λ s lo lm R. c.grant_weight-extra.ensures.weighs s.store.principals s.sender R.principals R.ready.is_good.store_shape.order R.sender in
-    let became : let a = c.args in (s : Session) (lo : Text) (lm : List ℕ) (v : Value) → Running s a.l (slices a.principals.now a.principal_slots.now a.vars.now a.variable_slots.now lo lm a.assertions.now) → value_in s.store.variables a.name.now ≡ none → Weighs v a.value.now a.weight → Became s.store.variables (put a.name.now v s.store.variables) (a.l.weight + c.grant_weight-extra.result) c.add-put.new.0 c.in-Done.len (a.l.vars + 1) c.add-put.new.1.1.0 c.in-Done.w = λ s lo lm v R n W. let a = c.args in
+    let became : let a = c.args in (s : Session) (lo : Text) (lm : List ℕ) (v : Value) → Running s a.l (slices a.principals.now a.principal_slots.now a.vars.now a.variable_slots.now lo lm a.assertions.now) → value_in s.store.variables a.name.now ≡ none → Weighs v a.value.now a.weight → Became s.store.variables (put a.name.now v s.store.variables) (a.l.weight + c.grant_weight-extra.result) c.add-put.new.buf c.in-Done.len (a.l.vars + 1) c.add-put.new.slots c.in-Done.w = λ s lo lm v R n W. let a = c.args in
     let b = slices a.principals.now a.principal_slots.now a.vars.now a.variable_slots.now lo lm a.assertions.now in
-    put_done s.store.variables (put a.name.now v s.store.variables) (a.l.weight + c.grant_weight-extra.result) c.add-put.result c.add-put.new.0 (a.l.vars + 1) c.add-put.new.1.1.0
+    put_done s.store.variables (put a.name.now v s.store.variables) (a.l.weight + c.grant_weight-extra.result) c.add-put.result c.add-put.new.buf (a.l.vars + 1) c.add-put.new.slots
     (c.add-put.ensures s.store.variables v (shared_lie s a.l b R (a.l.weight + c.grant_weight-extra.result) (omega arith)) n W) c.in-Done.len c.in-Done.w c.in-Done.is in
     let a = c.args in
     let b = slices a.principals.now a.principal_slots.now a.vars.now a.variable_slots.now lo lm a.assertions.now in
-    subst (λ (k : Layout). Running (assign s a.name.now v) k (slices a.principals.now a.principal_slots.now c.add-put.new.0 c.add-put.new.1.1.0 lo lm c.grant-asserted.new.0)) (sym c.with_shared.ensures)
-    (new_done s a.l b R a.name.now v W.held.is_valid c.requires.1 en c.grant_weight-extra.result (extra-is s lo lm R) el c.add-put.new.0 c.add-put.new.1.1.0
-    c.grant-asserted.new.0 c.in-Done.len c.in-Done.w c.grant-asserted.result c.add-put.auto.0 (became s lo lm v R en W) (c.grant-asserted.auto.0 ∙ R.sized.assertions_size) (omega (arith, c.grant-asserted.auto.0, c.grant-asserted.ensures.0)) c.grant-asserted.ensures.1)
+    subst (λ (k : Layout). Running (assign s a.name.now v) k (slices a.principals.now a.principal_slots.now c.add-put.new.buf c.add-put.new.slots lo lm c.grant-asserted.new.assertions)) (sym c.with_shared.ensures)
+    (new_done s a.l b R a.name.now v W.held.is_valid c.requires.1 en c.grant_weight-extra.result (extra-is s lo lm R) el c.add-put.new.buf c.add-put.new.slots
+    c.grant-asserted.new.assertions c.in-Done.len c.in-Done.w c.grant-asserted.result c.add-put.auto.buf (became s lo lm v R en W) (c.grant-asserted.auto.assertions ∙ R.sized.assertions_size) (omega (arith, c.grant-asserted.auto.assertions, c.grant-asserted.ensures.0)) c.grant-asserted.ensures.1)

@@ -16,8 +16,8 @@ none = record { variable = 0; from = 0; right = 0; to = 0 }
 
 pub loop-k-init : goal.loop-k-init
 loop-k-init c =
-    let sized : length (take c.args.n c.args.t1) ≡ c.args.n = let whole : length c.args.t1 ≡ 2048 = c.well_formed.0.1.0.1 in
-    length-take-le c.args.n c.args.t1 (omega (arith, c.requires)) in
+    let sized : length (take c.args.n c.args.list) ≡ c.args.n = let whole : length c.args.list ≡ 2048 = c.well_formed.0.1.0.1 in
+    length-take-le c.args.n c.args.list (omega (arith, c.requires)) in
     let a = c.args in
     let e : a.board.now ≡ replicate (board_size a.count (length (take a.n a.t1))) unreached =
     c.requires.2 ∙ ap (λ (m : ℕ). replicate (board_size a.count m) unreached) (sym sized) in
@@ -25,15 +25,15 @@ loop-k-init c =
 
 pub enter-requires : goal.enter-requires
 enter-requires c =
-    let sized : length (take c.args.n c.args.t1) ≡ c.args.n = let whole : length c.args.t1 ≡ 2048 = c.well_formed.0.1.0.1 in
-    length-take-le c.args.n c.args.t1 (omega (arith, c.requires)) in
+    let sized : length (take c.args.n c.args.list) ≡ c.args.n = let whole : length c.args.list ≡ 2048 = c.well_formed.0.1.0.1 in
+    length-take-le c.args.n c.args.list (omega (arith, c.requires)) in
     let l = c.loop-k in
     (c.requires.1, omega arith, omega (arith, l.invariant.1.sized, sized))
 
 pub loop-k-preserved : goal.loop-k-preserved
 loop-k-preserved c =
-    let sized : length (take c.args.n c.args.t1) ≡ c.args.n = let whole : length c.args.t1 ≡ 2048 = c.well_formed.0.1.0.1 in
-    length-take-le c.args.n c.args.t1 (omega (arith, c.requires)) in
+    let sized : length (take c.args.n c.args.list) ≡ c.args.n = let whole : length c.args.list ≡ 2048 = c.well_formed.0.1.0.1 in
+    length-take-le c.args.n c.args.list (omega (arith, c.requires)) in
     let l = c.loop-k in
     let a = c.args in
     let k-in : l.k < a.n = c.loop-k-test.true in
@@ -41,13 +41,13 @@ loop-k-preserved c =
     let size = sized in
     let own : (at ys l.k).from ≡ (at a.t1 l.k).from = ap (λ (x : Assertion). x.from) (get_or-take a.n a.t1 l.k none k-in) in (
       omega arith,
-      filed_next a.count ys l.k (at a.t1 l.k).from l.board c.enter.new.1.1.1.0 (omega (arith, c.requires)) (omega arith) own c.enter.ensures l.invariant.1,
+      filed_next a.count ys l.k (at a.t1 l.k).from l.board c.enter.new.board (omega (arith, c.requires)) (omega arith) own c.enter.ensures l.invariant.1,
     )
 
 pub shape_of-board : goal.shape_of-board
 shape_of-board c =
-    let sized : length (take c.args.n c.args.t1) ≡ c.args.n = let whole : length c.args.t1 ≡ 2048 = c.well_formed.0.1.0.1 in
-    length-take-le c.args.n c.args.t1 (omega (arith, c.requires)) in
+    let sized : length (take c.args.n c.args.list) ≡ c.args.n = let whole : length c.args.list ≡ 2048 = c.well_formed.0.1.0.1 in
+    length-take-le c.args.n c.args.list (omega (arith, c.requires)) in
     let a = c.args in
     c.loop-k.invariant.1.sized ∙ ap (board_size a.count) sized
     ∙ sym (ap length c.requires.2 ∙ length-replicate (board_size a.count a.n) unreached)
@@ -56,4 +56,4 @@ pub returns : goal.returns
 returns c =
     let l = c.loop-k in
     let all : l.k ≡ c.args.n = omega arith in
-    subst (λ (m : ℕ). Filed c.args.count (take c.args.n c.args.t1) m l.board) all l.invariant.1
+    subst (λ (m : ℕ). Filed c.args.count (take c.args.n c.args.list) m l.board) all l.invariant.1

@@ -30,7 +30,7 @@ returns-in_default-value c =
     let a = c.args in
     let t = a.text.now in
     let e1 = told (next_meant t) c.expect-open.ensures.meant c.in-At.is in
-    let e2 = told (operand_read_meant t) c.Operand-at.ensures.0 c.in_default-value.is in record {
+    let e2 = told (operand_read_meant t) c.operand_at-value.ensures.meant c.in_default-value.is in record {
       meant = sym (lower_no_value (lex (drop a.at t)) e1 e2);
       placed = tt;
     }
@@ -40,7 +40,7 @@ expect-end-requires c =
     let a = c.args in
     let t = a.text.now in
     let p1 = known (NextPlaced t a.at) c.expect-open.ensures.placed c.in-At.is in
-    let p2 = known (OperandPlaced t c.in-At.a) c.Operand-at.ensures.1 c.in-Found.is in
+    let p2 = known (OperandPlaced t c.in-At.a) c.operand_at-value.ensures.placed c.in-Found.is in
     omega arith
 
 pub returns-in_default-end : goal.returns-in_default-end
@@ -48,7 +48,7 @@ returns-in_default-end c =
     let a = c.args in
     let t = a.text.now in
     let e1 = told (next_meant t) c.expect-open.ensures.meant c.in-At.is in
-    let e2 = told (operand_read_meant t) c.Operand-at.ensures.0 c.in-Found.is in
+    let e2 = told (operand_read_meant t) c.operand_at-value.ensures.meant c.in-Found.is in
     let e3 = told (next_meant t) c.expect-end.ensures.meant c.in_default-end.is in record {
       meant = sym (lower_not_closed (lex (drop a.at t)) e1 e2 e3);
       placed = tt;
@@ -60,8 +60,8 @@ returns c =
     let t = a.text.now in
     let e1 = told (next_meant t) c.expect-open.ensures.meant c.in-At.is in
     let p1 = known (NextPlaced t a.at) c.expect-open.ensures.placed c.in-At.is in
-    let e2 = told (operand_read_meant t) c.Operand-at.ensures.0 c.in-Found.is in
-    let p2 = known (OperandPlaced t c.in-At.a) c.Operand-at.ensures.1 c.in-Found.is in
+    let e2 = told (operand_read_meant t) c.operand_at-value.ensures.meant c.in-Found.is in
+    let p2 = known (OperandPlaced t c.in-At.a) c.operand_at-value.ensures.placed c.in-Found.is in
     let e3 = told (next_meant t) c.expect-end.ensures.meant c.in-At-end.is in
     let p3 = known (NextPlaced t c.in-Found.b) c.expect-end.ensures.placed c.in-At-end.is in record {
       meant = sym (lower_read (lex (drop a.at t)) e1 e2 e3);

@@ -30,7 +30,7 @@ returns-in_default-first c =
     let a = c.args in
     let t = a.text.now in
     let e1 = told (next_meant t) c.expect-open.ensures.meant c.in-At.is in
-    let e2 = told (operand_read_meant t) c.Operand-at.ensures.0 c.in_default-first.is in record {
+    let e2 = told (operand_read_meant t) c.operand_at-first.ensures.meant c.in_default-first.is in record {
       meant = λ made. sym (no_first made (lex (drop a.at t)) e1 e2);
       placed = tt;
     }
@@ -40,7 +40,7 @@ expect-comma-requires c =
     let a = c.args in
     let t = a.text.now in
     let p1 = known (NextPlaced t a.at) c.expect-open.ensures.placed c.in-At.is in
-    let p2 = known (OperandPlaced t c.in-At.a) c.Operand-at.ensures.1 c.in-Found.is in
+    let p2 = known (OperandPlaced t c.in-At.a) c.operand_at-first.ensures.placed c.in-Found.is in
     omega arith
 
 pub returns-in_default-comma : goal.returns-in_default-comma
@@ -48,7 +48,7 @@ returns-in_default-comma c =
     let a = c.args in
     let t = a.text.now in
     let e1 = told (next_meant t) c.expect-open.ensures.meant c.in-At.is in
-    let e2 = told (operand_read_meant t) c.Operand-at.ensures.0 c.in-Found.is in
+    let e2 = told (operand_read_meant t) c.operand_at-first.ensures.meant c.in-Found.is in
     let e3 = told (next_meant t) c.expect-comma.ensures.meant c.in_default-comma.is in record {
       meant = λ made. sym (no_comma made (lex (drop a.at t)) e1 e2 e3);
       placed = tt;
@@ -59,7 +59,7 @@ operand_at-second-requires c =
     let a = c.args in
     let t = a.text.now in
     let p1 = known (NextPlaced t a.at) c.expect-open.ensures.placed c.in-At.is in
-    let p2 = known (OperandPlaced t c.in-At.a) c.Operand-at.ensures.1 c.in-Found.is in
+    let p2 = known (OperandPlaced t c.in-At.a) c.operand_at-first.ensures.placed c.in-Found.is in
     let p3 = known (NextPlaced t c.in-Found.b) c.expect-comma.ensures.placed c.in-At-comma.is in
     omega arith
 
@@ -68,7 +68,7 @@ returns-in_default-second c =
     let a = c.args in
     let t = a.text.now in
     let e1 = told (next_meant t) c.expect-open.ensures.meant c.in-At.is in
-    let e2 = told (operand_read_meant t) c.Operand-at.ensures.0 c.in-Found.is in
+    let e2 = told (operand_read_meant t) c.operand_at-first.ensures.meant c.in-Found.is in
     let e3 = told (next_meant t) c.expect-comma.ensures.meant c.in-At-comma.is in
     let e4 = told (operand_read_meant t) c.operand_at-second.ensures.meant c.in_default-second.is in record {
       meant = λ made. sym (no_second made (lex (drop a.at t)) e1 e2 e3 e4);
@@ -80,7 +80,7 @@ expect-close-requires c =
     let a = c.args in
     let t = a.text.now in
     let p1 = known (NextPlaced t a.at) c.expect-open.ensures.placed c.in-At.is in
-    let p2 = known (OperandPlaced t c.in-At.a) c.Operand-at.ensures.1 c.in-Found.is in
+    let p2 = known (OperandPlaced t c.in-At.a) c.operand_at-first.ensures.placed c.in-Found.is in
     let p3 = known (NextPlaced t c.in-Found.b) c.expect-comma.ensures.placed c.in-At-comma.is in
     let p4 = known (OperandPlaced t c.in-At-comma.d) c.operand_at-second.ensures.placed c.in-Found-second.is in
     omega arith
@@ -90,7 +90,7 @@ returns-in_default-close c =
     let a = c.args in
     let t = a.text.now in
     let e1 = told (next_meant t) c.expect-open.ensures.meant c.in-At.is in
-    let e2 = told (operand_read_meant t) c.Operand-at.ensures.0 c.in-Found.is in
+    let e2 = told (operand_read_meant t) c.operand_at-first.ensures.meant c.in-Found.is in
     let e3 = told (next_meant t) c.expect-comma.ensures.meant c.in-At-comma.is in
     let e4 = told (operand_read_meant t) c.operand_at-second.ensures.meant c.in-Found-second.is in
     let e5 = told (next_meant t) c.expect-close.ensures.meant c.in_default-close.is in record {
@@ -104,8 +104,8 @@ returns c =
     let t = a.text.now in
     let e1 = told (next_meant t) c.expect-open.ensures.meant c.in-At.is in
     let p1 = known (NextPlaced t a.at) c.expect-open.ensures.placed c.in-At.is in
-    let e2 = told (operand_read_meant t) c.Operand-at.ensures.0 c.in-Found.is in
-    let p2 = known (OperandPlaced t c.in-At.a) c.Operand-at.ensures.1 c.in-Found.is in
+    let e2 = told (operand_read_meant t) c.operand_at-first.ensures.meant c.in-Found.is in
+    let p2 = known (OperandPlaced t c.in-At.a) c.operand_at-first.ensures.placed c.in-Found.is in
     let e3 = told (next_meant t) c.expect-comma.ensures.meant c.in-At-comma.is in
     let p3 = known (NextPlaced t c.in-Found.b) c.expect-comma.ensures.placed c.in-At-comma.is in
     let e4 = told (operand_read_meant t) c.operand_at-second.ensures.meant c.in-Found-second.is in

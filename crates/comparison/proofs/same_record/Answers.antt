@@ -12,4 +12,4 @@ pub returns-then-same_bytes : goal.returns-then-same_bytes
 returns-then-same_bytes c fs gs h k = same_text c.args.first.now c.args.second.now fs gs h k (sym c.same_bytes.ensures ∙ c.if-same_bytes.true)
 
 pub returns : goal.returns
-returns c fs gs h k = c.holds_all_lem.ensures fs gs h k ∙ one_way_round c.args.first.now c.args.second.now fs gs h k c.if-first-second.false
+returns c fs gs h k = c.holds_all.ensures fs gs h k ∙ one_way_round c.args.first.now c.args.second.now fs gs h k c.if-first-second.false

@@ -22,4 +22,4 @@ slice_bounds-name_weight-count c =
 pub returns : goal.returns
 returns c rows H =
     let a = c.args in
-    c.name_weight_lem.ensures ∙ ap name_weight (name_is rows a.principals.now a.count a.slots.now H a.number c.requires.1 c.nth-place.result (c.nth-place.ensures rows H) (c.nth-place.result.start + 2) (omega arith))
+    c.name_weight.ensures ∙ ap name_weight (name_is rows a.principals.now a.count a.slots.now H a.number c.requires.1 c.nth-place.result (c.nth-place.ensures rows H) (c.nth-place.result.start + 2) (omega arith))

@@ -36,6 +36,6 @@ pub returns : goal.returns
 returns c s b N =
     let a = c.args in
     added_running s a.l b a.principals.now a.principal_slots.now a.name.now a.password.now N c.if-weight-gt8192.false
-    c.add_principal-end.new.0 c.add_principal-end.new.1.1.0 c.add_principal-end.result
+    c.add_principal-end.new.buf c.add_principal-end.new.slots c.add_principal-end.result
     (c.add_principal-end.ensures.held s.store.principals (added_held s a.l b a.principals.now a.principal_slots.now a.name.now a.password.now N)
-    (added_name s a.l b a.principals.now a.principal_slots.now a.name.now a.password.now N)) c.add_principal-end.ensures.outside.within c.add_principal-end.auto.0 c.add_principal-end.auto.1.1.0
+    (added_name s a.l b a.principals.now a.principal_slots.now a.name.now a.password.now N)) c.add_principal-end.ensures.outside.within c.add_principal-end.auto.buf c.add_principal-end.auto.slots

@@ -32,17 +32,17 @@ delegate_all-next-requires c =
     }
 
 pub shape_of-assertions-in_default : goal.shape_of-assertions-in_default
-shape_of-assertions-in_default c = c.delegate_all-next.auto.1.1.1.1.1.1.0 ∙ c.loop-right.invariant.1
+shape_of-assertions-in_default c = c.delegate_all-next.auto.assertions ∙ c.loop-right.invariant.1
 
 pub shape_of-targets-in_default : goal.shape_of-targets-in_default
-shape_of-targets-in_default c = c.delegate_all-next.auto.1.1.1.1.1.1.1.0 ∙ c.loop-right.invariant.2
+shape_of-targets-in_default c = c.delegate_all-next.auto.targets ∙ c.loop-right.invariant.2
 
 pub returns-in_default : goal.returns-in_default
 returns-in_default c s from to G =
-    let given_next : (s : Session) (from to : Name) → let a = c.args in let w = c.loop-right in Gives s a.l (slices a.principals.now a.principal_slots.now a.vars.now a.variable_slots.now a.locals.now a.local_slots.now a.assertions.now) a.q a.p from to → (r : Entered) → c.delegate_all-next.result ≡ r → Ends r (first_given s from to (suc w.right)) (slices a.principals.now a.principal_slots.now a.vars.now a.variable_slots.now a.locals.now a.local_slots.now c.delegate_all-next.new.1.1.1.1.1.1.0) = λ s from to G r e. let a = c.args in
+    let given_next : (s : Session) (from to : Name) → let a = c.args in let w = c.loop-right in Gives s a.l (slices a.principals.now a.principal_slots.now a.vars.now a.variable_slots.now a.locals.now a.local_slots.now a.assertions.now) a.q a.p from to → (r : Entered) → c.delegate_all-next.result ≡ r → Ends r (first_given s from to (suc w.right)) (slices a.principals.now a.principal_slots.now a.vars.now a.variable_slots.now a.locals.now a.local_slots.now c.delegate_all-next.new.assertions) = λ s from to G r e. let a = c.args in
     let w = c.loop-right in
     subst (λ (r : Entered). Ends r (first_given s from to (suc w.right))
-    (slices a.principals.now a.principal_slots.now a.vars.now a.variable_slots.now a.locals.now a.local_slots.now c.delegate_all-next.new.1.1.1.1.1.1.0)) e
+    (slices a.principals.now a.principal_slots.now a.vars.now a.variable_slots.now a.locals.now a.local_slots.now c.delegate_all-next.new.assertions)) e
     (c.delegate_all-next.ensures (first_given s from to w.right) from to (gives_next s from to w.right a.l w.k _ _ a.q a.p G (w.invariant.3 s from to G))) in
     let w = c.loop-right in
     too_heavy s from to w.right (omega (arith, c.loop-right-test.true)) (given_next s from to G _ c.in_default.is)
@@ -55,15 +55,15 @@ loop-right-smaller c = omega (arith, c.loop-right-test.true)
 
 pub loop-right-preserved : goal.loop-right-preserved
 loop-right-preserved c =
-    let given_next : (s : Session) (from to : Name) → let a = c.args in let w = c.loop-right in Gives s a.l (slices a.principals.now a.principal_slots.now a.vars.now a.variable_slots.now a.locals.now a.local_slots.now a.assertions.now) a.q a.p from to → (r : Entered) → c.delegate_all-next.result ≡ r → Ends r (first_given s from to (suc w.right)) (slices a.principals.now a.principal_slots.now a.vars.now a.variable_slots.now a.locals.now a.local_slots.now c.delegate_all-next.new.1.1.1.1.1.1.0) = λ s from to G r e. let a = c.args in
+    let given_next : (s : Session) (from to : Name) → let a = c.args in let w = c.loop-right in Gives s a.l (slices a.principals.now a.principal_slots.now a.vars.now a.variable_slots.now a.locals.now a.local_slots.now a.assertions.now) a.q a.p from to → (r : Entered) → c.delegate_all-next.result ≡ r → Ends r (first_given s from to (suc w.right)) (slices a.principals.now a.principal_slots.now a.vars.now a.variable_slots.now a.locals.now a.local_slots.now c.delegate_all-next.new.assertions) = λ s from to G r e. let a = c.args in
     let w = c.loop-right in
     subst (λ (r : Entered). Ends r (first_given s from to (suc w.right))
-    (slices a.principals.now a.principal_slots.now a.vars.now a.variable_slots.now a.locals.now a.local_slots.now c.delegate_all-next.new.1.1.1.1.1.1.0)) e
+    (slices a.principals.now a.principal_slots.now a.vars.now a.variable_slots.now a.locals.now a.local_slots.now c.delegate_all-next.new.assertions)) e
     (c.delegate_all-next.ensures (first_given s from to w.right) from to (gives_next s from to w.right a.l w.k _ _ a.q a.p G (w.invariant.3 s from to G))) in
     let w = c.loop-right in (
       omega (arith, c.loop-right-test.true),
-      c.delegate_all-next.auto.1.1.1.1.1.1.0 ∙ w.invariant.1,
-      c.delegate_all-next.auto.1.1.1.1.1.1.1.0 ∙ w.invariant.2,
+      c.delegate_all-next.auto.assertions ∙ w.invariant.1,
+      c.delegate_all-next.auto.targets ∙ w.invariant.2,
       λ s from to G. given_on s from to w.right (given_next s from to G _ c.in-Done.is),
     )
 

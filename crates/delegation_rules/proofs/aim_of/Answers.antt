@@ -18,4 +18,4 @@ pub returns-in-All : goal.returns-in-All
 returns-in-All c l H = sym (ap (λ (t : Target). aim_of (row_names l) (target_meant c.args.text.now t)) c.in-All.is)
 
 pub returns-in-Only : goal.returns-in-Only
-returns-in-Only c l H = ap One (c.number_of_lem.ensures l H) ∙ sym (ap (λ (t : Target). aim_of (row_names l) (target_meant c.args.text.now t)) c.in-Only.is)
+returns-in-Only c l H = ap One (c.number_of.ensures l H) ∙ sym (ap (λ (t : Target). aim_of (row_names l) (target_meant c.args.text.now t)) c.in-Only.is)

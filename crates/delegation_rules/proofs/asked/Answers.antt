@@ -18,6 +18,6 @@ returns c s locals ms assertions R =
     let W = variables_rows s.store.variables _ _ _ R.variables in
     record {
       aim_is = c.aim_of-aim.ensures (map variable_row s.store.variables) W ∙ ap (λ (l : List Name). aim_of l (target_meant t a.target)) (variable_names_lem s.store.variables);
-      giver_is = c.number_of_lem.ensures (map principal_row s.store.principals) K ∙ ap (λ (l : List Name). position l (part t a.q)) (principal_names_lem s.store.principals);
+      giver_is = c.number_of-giver.ensures (map principal_row s.store.principals) K ∙ ap (λ (l : List Name). position l (part t a.q)) (principal_names_lem s.store.principals);
       taker_is = c.number_of-taker.ensures (map principal_row s.store.principals) K ∙ ap (λ (l : List Name). position l (part t a.p)) (principal_names_lem s.store.principals);
     }

@@ -98,7 +98,7 @@ enter_one-next-requires c =
     record { session = _; buffers = _; assertion = _; asserts = one P.session P.variables_named P.from P.of_right P.to P.delegates }
 
 pub shape_of-assertions-in_default : goal.shape_of-assertions-in_default
-shape_of-assertions-in_default c = c.enter_one-next.auto.0 ∙ c.loop-i.invariant.1
+shape_of-assertions-in_default c = c.enter_one-next.auto.assertions ∙ c.loop-i.invariant.1
 
 pub returns-in_default : goal.returns-in_default
 returns-in_default c s xs from of to D =
@@ -110,10 +110,10 @@ returns-in_default c s xs from of to D =
     (l.invariant.2 s xs from of to D) c.packed-number.ensures
     (c.pair-pair.ensures (map principal_row s.store.principals) (principals_rows s.store.principals _ _ _ R.principals))
     (ap (λ (n : ℕ). n + 1 + c.pair-pair.result) (c.variable.ensures (map variable_row s.store.variables) (variables_rows s.store.variables _ _ _ R.variables))) in
-    let next-ends : (s : Session) (xs : List Name) (from : Name) (of : Right) (to : Name) → let a = c.args in let l = c.loop-i in Delegates s a.l (slices a.principals.now a.principal_slots.now a.vars.now a.variable_slots.now a.locals.now a.local_slots.now a.assertions.now) a.targets.now a.count a.q a.right a.p xs from of to → (r : Entered) → c.enter_one-next.result ≡ r → Ends r (entered (entered s (assertions_on (take l.i xs) from of to)) (assertion_at xs from of to l.i ∷ [])) (slices a.principals.now a.principal_slots.now a.vars.now a.variable_slots.now a.locals.now a.local_slots.now c.enter_one-next.new.0) = λ s xs from of to D r e. let a = c.args in
+    let next-ends : (s : Session) (xs : List Name) (from : Name) (of : Right) (to : Name) → let a = c.args in let l = c.loop-i in Delegates s a.l (slices a.principals.now a.principal_slots.now a.vars.now a.variable_slots.now a.locals.now a.local_slots.now a.assertions.now) a.targets.now a.count a.q a.right a.p xs from of to → (r : Entered) → c.enter_one-next.result ≡ r → Ends r (entered (entered s (assertions_on (take l.i xs) from of to)) (assertion_at xs from of to l.i ∷ [])) (slices a.principals.now a.principal_slots.now a.vars.now a.variable_slots.now a.locals.now a.local_slots.now c.enter_one-next.new.assertions) = λ s xs from of to D r e. let a = c.args in
     let l = c.loop-i in
     subst (λ (r : Entered). Ends r (entered (entered s (assertions_on (take l.i xs) from of to)) (assertion_at xs from of to l.i ∷ []))
-    (slices a.principals.now a.principal_slots.now a.vars.now a.variable_slots.now a.locals.now a.local_slots.now c.enter_one-next.new.0)) e
+    (slices a.principals.now a.principal_slots.now a.vars.now a.variable_slots.now a.locals.now a.local_slots.now c.enter_one-next.new.assertions)) e
     (c.enter_one-next.ensures _ _ _ (one s xs from of to D)) in
     let a = c.args in
     entered_over s a.l _ a.targets.now a.count a.q a.right a.p xs from of to D c.loop-i.i c.loop-i-test.true
@@ -135,14 +135,14 @@ loop-i-preserved c =
     (l.invariant.2 s xs from of to D) c.packed-number.ensures
     (c.pair-pair.ensures (map principal_row s.store.principals) (principals_rows s.store.principals _ _ _ R.principals))
     (ap (λ (n : ℕ). n + 1 + c.pair-pair.result) (c.variable.ensures (map variable_row s.store.variables) (variables_rows s.store.variables _ _ _ R.variables))) in
-    let next-ends : (s : Session) (xs : List Name) (from : Name) (of : Right) (to : Name) → let a = c.args in let l = c.loop-i in Delegates s a.l (slices a.principals.now a.principal_slots.now a.vars.now a.variable_slots.now a.locals.now a.local_slots.now a.assertions.now) a.targets.now a.count a.q a.right a.p xs from of to → (r : Entered) → c.enter_one-next.result ≡ r → Ends r (entered (entered s (assertions_on (take l.i xs) from of to)) (assertion_at xs from of to l.i ∷ [])) (slices a.principals.now a.principal_slots.now a.vars.now a.variable_slots.now a.locals.now a.local_slots.now c.enter_one-next.new.0) = λ s xs from of to D r e. let a = c.args in
+    let next-ends : (s : Session) (xs : List Name) (from : Name) (of : Right) (to : Name) → let a = c.args in let l = c.loop-i in Delegates s a.l (slices a.principals.now a.principal_slots.now a.vars.now a.variable_slots.now a.locals.now a.local_slots.now a.assertions.now) a.targets.now a.count a.q a.right a.p xs from of to → (r : Entered) → c.enter_one-next.result ≡ r → Ends r (entered (entered s (assertions_on (take l.i xs) from of to)) (assertion_at xs from of to l.i ∷ [])) (slices a.principals.now a.principal_slots.now a.vars.now a.variable_slots.now a.locals.now a.local_slots.now c.enter_one-next.new.assertions) = λ s xs from of to D r e. let a = c.args in
     let l = c.loop-i in
     subst (λ (r : Entered). Ends r (entered (entered s (assertions_on (take l.i xs) from of to)) (assertion_at xs from of to l.i ∷ []))
-    (slices a.principals.now a.principal_slots.now a.vars.now a.variable_slots.now a.locals.now a.local_slots.now c.enter_one-next.new.0)) e
+    (slices a.principals.now a.principal_slots.now a.vars.now a.variable_slots.now a.locals.now a.local_slots.now c.enter_one-next.new.assertions)) e
     (c.enter_one-next.ensures _ _ _ (one s xs from of to D)) in
     (
       omega (arith, c.loop-i-test.true),
-      c.enter_one-next.auto.0 ∙ c.loop-i.invariant.1,
+      c.enter_one-next.auto.assertions ∙ c.loop-i.invariant.1,
       λ s xs from of to D.
           let a = c.args in
           entered_next s a.l _ a.targets.now a.count a.q a.right a.p xs from of to D c.loop-i.i c.loop-i-test.true c.in-Done.after _

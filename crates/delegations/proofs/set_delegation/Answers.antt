@@ -86,13 +86,13 @@ enter_all-done-requires c =
     let to-of : Name = part c.args.text.now c.args.p in
     let named : (s : Session) → Running s c.args.l lent → Names s target-of from-of to-of.asked-k.result = λ s R. let a = c.args in c.asked-k.ensures s a.locals.now a.local_slots.now a.assertions.now R in
     let whole : (s : Session) → Running s c.args.l lent → complete s target-of from-of to-of ≡ true = λ s R. not-false _ (sym (c.missing.ensures s lent target-of from-of to-of R (named s R)) ∙ c.if-missing.false) in
-    let delegating : (s : Session) → Running s c.args.l lent → Delegates s c.args.l lent.choose-count.new.1.1.1.0 c.choose-count.result c.asked-k.result.giver c.right_code_lem.result c.asked-k.result.taker (targets s.store target-of from-of) from-of right_of to-of = λ s R. let z : length c.choose-count.new.1.1.1.0 ≡ length c.args.targets.now = c.choose-count.auto.1.1.1.0 in
-    let w : c.choose-count.result ≤ length c.choose-count.new.1.1.1.0 = omega (arith, z, c.choose-count.ensures.within, c.requires.target_within.3) in
+    let delegating : (s : Session) → Running s c.args.l lent → Delegates s c.args.l lent.choose-count.new.chosen c.choose-count.result c.asked-k.result.giver c.right_code-code.result c.asked-k.result.taker (targets s.store target-of from-of) from-of right_of to-of = λ s R. let z : length c.choose-count.new.chosen ≡ length c.args.targets.now = c.choose-count.auto.chosen in
+    let w : c.choose-count.result ≤ length c.choose-count.new.chosen = omega (arith, z, c.choose-count.ensures.within, c.requires.target_within.3) in
     let N = named s R in
     let k = whole s R in
-    delegates s target-of from-of right_of to-of.args.l lent.asked-k.result c.choose-count.new.1.1.1.0 c.choose-count.result c.right_code_lem.result R N k w
+    delegates s target-of from-of right_of to-of.args.l lent.asked-k.result c.choose-count.new.chosen c.choose-count.result c.right_code-code.result R N k w
     (c.choose-count.ensures.are s lent target-of from-of to-of (record { running = R; stood = refl }) N (giver_there s target-of from-of right_of to-of k))
-    c.right_code_lem.ensures in
+    c.right_code-code.ensures in
     record { session = c.requires.some_running.session; variables_named = _; from = _; of_right = _; to = _; delegates = delegating c.requires.some_running.session c.requires.some_running.running }
 
 pub returns-in-Full : goal.returns-in-Full
@@ -106,16 +106,16 @@ returns-in-Full c s R =
     let named : (s : Session) → Running s c.args.l lent → Names s target-of from-of to-of.asked-k.result = λ s R. let a = c.args in c.asked-k.ensures s a.locals.now a.local_slots.now a.assertions.now R in
     let judged : (s : Session) → Running s c.args.l lent → c.set_denied.result ≡ denied s command = λ s R. c.set_denied.ensures s lent target-of from-of right_of to-of (record { running = R; stood = refl }) (named s R) in
     let whole : (s : Session) → Running s c.args.l lent → complete s target-of from-of to-of ≡ true = λ s R. not-false _ (sym (c.missing.ensures s lent target-of from-of to-of R (named s R)) ∙ c.if-missing.false) in
-    let delegating : (s : Session) → Running s c.args.l lent → Delegates s c.args.l lent.choose-count.new.1.1.1.0 c.choose-count.result c.asked-k.result.giver c.right_code_lem.result c.asked-k.result.taker (targets s.store target-of from-of) from-of right_of to-of = λ s R. let z : length c.choose-count.new.1.1.1.0 ≡ length c.args.targets.now = c.choose-count.auto.1.1.1.0 in
-    let w : c.choose-count.result ≤ length c.choose-count.new.1.1.1.0 = omega (arith, z, c.choose-count.ensures.within, c.requires.target_within.3) in
+    let delegating : (s : Session) → Running s c.args.l lent → Delegates s c.args.l lent.choose-count.new.chosen c.choose-count.result c.asked-k.result.giver c.right_code-code.result c.asked-k.result.taker (targets s.store target-of from-of) from-of right_of to-of = λ s R. let z : length c.choose-count.new.chosen ≡ length c.args.targets.now = c.choose-count.auto.chosen in
+    let w : c.choose-count.result ≤ length c.choose-count.new.chosen = omega (arith, z, c.choose-count.ensures.within, c.requires.target_within.3) in
     let N = named s R in
     let k = whole s R in
-    delegates s target-of from-of right_of to-of.args.l lent.asked-k.result c.choose-count.new.1.1.1.0 c.choose-count.result c.right_code_lem.result R N k w
+    delegates s target-of from-of right_of to-of.args.l lent.asked-k.result c.choose-count.new.chosen c.choose-count.result c.right_code-code.result R N k w
     (c.choose-count.ensures.are s lent target-of from-of to-of (record { running = R; stood = refl }) N (giver_there s target-of from-of right_of to-of k))
-    c.right_code_lem.ensures in
-    let ended : (s : Session) → Running s c.args.l lent → (r : Entered) → c.enter_all-done.result ≡ r → let a = c.args in Ends r (entered s (assertions_on (targets s.store target-of from-of) from-of right_of to-of)) (slices a.principals.now a.principal_slots.now a.vars.now a.variable_slots.now a.locals.now a.local_slots.now c.enter_all-done.new.1.1.1.1.1.1.0) = λ s R r e. let a = c.args in
+    c.right_code-code.ensures in
+    let ended : (s : Session) → Running s c.args.l lent → (r : Entered) → c.enter_all-done.result ≡ r → let a = c.args in Ends r (entered s (assertions_on (targets s.store target-of from-of) from-of right_of to-of)) (slices a.principals.now a.principal_slots.now a.vars.now a.variable_slots.now a.locals.now a.local_slots.now c.enter_all-done.new.assertions) = λ s R r e. let a = c.args in
     subst (λ (r : Entered). Ends r (entered s (assertions_on (targets s.store target-of from-of) from-of right_of to-of))
-    (slices a.principals.now a.principal_slots.now a.vars.now a.variable_slots.now a.locals.now a.local_slots.now c.enter_all-done.new.1.1.1.1.1.1.0)) e
+    (slices a.principals.now a.principal_slots.now a.vars.now a.variable_slots.now a.locals.now a.local_slots.now c.enter_all-done.new.assertions)) e
     (c.enter_all-done.ensures s _ _ _ _ (delegating s R)) in
     let t = target-of in
     ends_full s command (setting s t from-of right_of to-of)
@@ -133,16 +133,16 @@ returns-in-Done c s R =
     let named : (s : Session) → Running s c.args.l lent → Names s target-of from-of to-of.asked-k.result = λ s R. let a = c.args in c.asked-k.ensures s a.locals.now a.local_slots.now a.assertions.now R in
     let judged : (s : Session) → Running s c.args.l lent → c.set_denied.result ≡ denied s command = λ s R. c.set_denied.ensures s lent target-of from-of right_of to-of (record { running = R; stood = refl }) (named s R) in
     let whole : (s : Session) → Running s c.args.l lent → complete s target-of from-of to-of ≡ true = λ s R. not-false _ (sym (c.missing.ensures s lent target-of from-of to-of R (named s R)) ∙ c.if-missing.false) in
-    let delegating : (s : Session) → Running s c.args.l lent → Delegates s c.args.l lent.choose-count.new.1.1.1.0 c.choose-count.result c.asked-k.result.giver c.right_code_lem.result c.asked-k.result.taker (targets s.store target-of from-of) from-of right_of to-of = λ s R. let z : length c.choose-count.new.1.1.1.0 ≡ length c.args.targets.now = c.choose-count.auto.1.1.1.0 in
-    let w : c.choose-count.result ≤ length c.choose-count.new.1.1.1.0 = omega (arith, z, c.choose-count.ensures.within, c.requires.target_within.3) in
+    let delegating : (s : Session) → Running s c.args.l lent → Delegates s c.args.l lent.choose-count.new.chosen c.choose-count.result c.asked-k.result.giver c.right_code-code.result c.asked-k.result.taker (targets s.store target-of from-of) from-of right_of to-of = λ s R. let z : length c.choose-count.new.chosen ≡ length c.args.targets.now = c.choose-count.auto.chosen in
+    let w : c.choose-count.result ≤ length c.choose-count.new.chosen = omega (arith, z, c.choose-count.ensures.within, c.requires.target_within.3) in
     let N = named s R in
     let k = whole s R in
-    delegates s target-of from-of right_of to-of.args.l lent.asked-k.result c.choose-count.new.1.1.1.0 c.choose-count.result c.right_code_lem.result R N k w
+    delegates s target-of from-of right_of to-of.args.l lent.asked-k.result c.choose-count.new.chosen c.choose-count.result c.right_code-code.result R N k w
     (c.choose-count.ensures.are s lent target-of from-of to-of (record { running = R; stood = refl }) N (giver_there s target-of from-of right_of to-of k))
-    c.right_code_lem.ensures in
-    let ended : (s : Session) → Running s c.args.l lent → (r : Entered) → c.enter_all-done.result ≡ r → let a = c.args in Ends r (entered s (assertions_on (targets s.store target-of from-of) from-of right_of to-of)) (slices a.principals.now a.principal_slots.now a.vars.now a.variable_slots.now a.locals.now a.local_slots.now c.enter_all-done.new.1.1.1.1.1.1.0) = λ s R r e. let a = c.args in
+    c.right_code-code.ensures in
+    let ended : (s : Session) → Running s c.args.l lent → (r : Entered) → c.enter_all-done.result ≡ r → let a = c.args in Ends r (entered s (assertions_on (targets s.store target-of from-of) from-of right_of to-of)) (slices a.principals.now a.principal_slots.now a.vars.now a.variable_slots.now a.locals.now a.local_slots.now c.enter_all-done.new.assertions) = λ s R r e. let a = c.args in
     subst (λ (r : Entered). Ends r (entered s (assertions_on (targets s.store target-of from-of) from-of right_of to-of))
-    (slices a.principals.now a.principal_slots.now a.vars.now a.variable_slots.now a.locals.now a.local_slots.now c.enter_all-done.new.1.1.1.1.1.1.0)) e
+    (slices a.principals.now a.principal_slots.now a.vars.now a.variable_slots.now a.locals.now a.local_slots.now c.enter_all-done.new.assertions)) e
     (c.enter_all-done.ensures s _ _ _ _ (delegating s R)) in
     let t = target-of in
     ends_done s command (setting s t from-of right_of to-of)

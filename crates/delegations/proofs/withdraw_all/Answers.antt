@@ -113,7 +113,7 @@ loop-i-preserved c =
     (ap (λ (n : ℕ). n + 1 + c.pair-pair.result) (c.variable.ensures (map variable_row s.store.variables) (variables_rows s.store.variables _ _ _ R.variables))) in
     (
       omega (arith, c.loop-i-test.true),
-      c.withdraw_one-k.auto.0 ∙ c.loop-i.invariant.1,
+      c.withdraw_one-k.auto.assertions ∙ c.loop-i.invariant.1,
       λ s xs from of to D.
           let a = c.args in
           withdrawn_next s a.l _ a.targets.now a.count a.q a.right a.p xs from of to D c.loop-i.i c.loop-i-test.true c.withdraw_one-k.result _

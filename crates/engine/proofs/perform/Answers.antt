@@ -104,7 +104,7 @@ tell-done-requires c =
       record {
         step = step S.session F.command;
         session = S.session;
-        buffers = slices c.act-acted.new.0 c.act-acted.new.1.0 c.act-acted.new.1.1.0 c.act-acted.new.1.1.1.0 c.act-acted.new.1.1.1.1.0 c.act-acted.new.1.1.1.1.1.0 c.act-acted.new.1.1.1.1.1.1.0;
+        buffers = slices c.act-acted.new.principals c.act-acted.new.principal_slots c.act-acted.new.vars c.act-acted.new.variable_slots c.act-acted.new.locals c.act-acted.new.local_slots c.act-acted.new.assertions;
         acts = c.act-acted.ensures S.session F.command S.running F.meant;
       },
       omega (arith, i.2.9, c.requires.at_in_bounds.2, has_room S i.0 c.requires.at_in_bounds.1),
@@ -118,161 +118,161 @@ refused-requires c =
 
 pub shape_of-principals-in-Refused : goal.shape_of-principals-in-Refused
 shape_of-principals-in-Refused c =
-    let lengths : (length c.act-acted.new.0 ≡ length c.args.principals.now) × (length c.act-acted.new.1.0 ≡ length c.args.principal_slots.now) × (length c.act-acted.new.1.1.0 ≡ length c.args.vars.now) × (length c.act-acted.new.1.1.1.0 ≡ length c.args.variable_slots.now) × (length c.act-acted.new.1.1.1.1.0 ≡ length c.args.locals.now) × (length c.act-acted.new.1.1.1.1.1.0 ≡ length c.args.local_slots.now) × (length c.act-acted.new.1.1.1.1.1.1.0 ≡ length c.args.assertions.now) × (length c.act-acted.new.1.1.1.1.1.1.1.0 ≡ length c.args.value.now) × (length c.act-acted.new.1.1.1.1.1.1.1.1.0 ≡ length c.args.labels.now) × (length c.tell-done.new.1.1.1.0 ≡ length c.args.output.now) = let i = c.loop-c.invariant.2 in (
-      c.act-acted.auto.0 ∙ i.0,
-      c.act-acted.auto.1.0 ∙ i.1,
-      c.act-acted.auto.1.1.0 ∙ i.2,
-      c.act-acted.auto.1.1.1.0 ∙ i.3,
-      c.act-acted.auto.1.1.1.1.0 ∙ i.4,
-      c.act-acted.auto.1.1.1.1.1.0 ∙ i.5,
-      c.act-acted.auto.1.1.1.1.1.1.0 ∙ i.6,
-      c.act-acted.auto.1.1.1.1.1.1.1.0 ∙ i.7,
-      c.act-acted.auto.1.1.1.1.1.1.1.1.0 ∙ i.8,
-      c.tell-done.auto.1.1.1.0 ∙ i.9,
+    let lengths : (length c.act-acted.new.principals ≡ length c.args.principals.now) × (length c.act-acted.new.principal_slots ≡ length c.args.principal_slots.now) × (length c.act-acted.new.vars ≡ length c.args.vars.now) × (length c.act-acted.new.variable_slots ≡ length c.args.variable_slots.now) × (length c.act-acted.new.locals ≡ length c.args.locals.now) × (length c.act-acted.new.local_slots ≡ length c.args.local_slots.now) × (length c.act-acted.new.assertions ≡ length c.args.assertions.now) × (length c.act-acted.new.value ≡ length c.args.value.now) × (length c.act-acted.new.labels ≡ length c.args.labels.now) × (length c.tell-done.new.output ≡ length c.args.output.now) = let i = c.loop-c.invariant.2 in (
+      c.act-acted.auto.principals ∙ i.0,
+      c.act-acted.auto.principal_slots ∙ i.1,
+      c.act-acted.auto.vars ∙ i.2,
+      c.act-acted.auto.variable_slots ∙ i.3,
+      c.act-acted.auto.locals ∙ i.4,
+      c.act-acted.auto.local_slots ∙ i.5,
+      c.act-acted.auto.assertions ∙ i.6,
+      c.act-acted.auto.value ∙ i.7,
+      c.act-acted.auto.labels ∙ i.8,
+      c.tell-done.auto.output ∙ i.9,
     ) in
     lengths.0
 
 pub shape_of-principal_slots-in-Refused : goal.shape_of-principal_slots-in-Refused
 shape_of-principal_slots-in-Refused c =
-    let lengths : (length c.act-acted.new.0 ≡ length c.args.principals.now) × (length c.act-acted.new.1.0 ≡ length c.args.principal_slots.now) × (length c.act-acted.new.1.1.0 ≡ length c.args.vars.now) × (length c.act-acted.new.1.1.1.0 ≡ length c.args.variable_slots.now) × (length c.act-acted.new.1.1.1.1.0 ≡ length c.args.locals.now) × (length c.act-acted.new.1.1.1.1.1.0 ≡ length c.args.local_slots.now) × (length c.act-acted.new.1.1.1.1.1.1.0 ≡ length c.args.assertions.now) × (length c.act-acted.new.1.1.1.1.1.1.1.0 ≡ length c.args.value.now) × (length c.act-acted.new.1.1.1.1.1.1.1.1.0 ≡ length c.args.labels.now) × (length c.tell-done.new.1.1.1.0 ≡ length c.args.output.now) = let i = c.loop-c.invariant.2 in (
-      c.act-acted.auto.0 ∙ i.0,
-      c.act-acted.auto.1.0 ∙ i.1,
-      c.act-acted.auto.1.1.0 ∙ i.2,
-      c.act-acted.auto.1.1.1.0 ∙ i.3,
-      c.act-acted.auto.1.1.1.1.0 ∙ i.4,
-      c.act-acted.auto.1.1.1.1.1.0 ∙ i.5,
-      c.act-acted.auto.1.1.1.1.1.1.0 ∙ i.6,
-      c.act-acted.auto.1.1.1.1.1.1.1.0 ∙ i.7,
-      c.act-acted.auto.1.1.1.1.1.1.1.1.0 ∙ i.8,
-      c.tell-done.auto.1.1.1.0 ∙ i.9,
+    let lengths : (length c.act-acted.new.principals ≡ length c.args.principals.now) × (length c.act-acted.new.principal_slots ≡ length c.args.principal_slots.now) × (length c.act-acted.new.vars ≡ length c.args.vars.now) × (length c.act-acted.new.variable_slots ≡ length c.args.variable_slots.now) × (length c.act-acted.new.locals ≡ length c.args.locals.now) × (length c.act-acted.new.local_slots ≡ length c.args.local_slots.now) × (length c.act-acted.new.assertions ≡ length c.args.assertions.now) × (length c.act-acted.new.value ≡ length c.args.value.now) × (length c.act-acted.new.labels ≡ length c.args.labels.now) × (length c.tell-done.new.output ≡ length c.args.output.now) = let i = c.loop-c.invariant.2 in (
+      c.act-acted.auto.principals ∙ i.0,
+      c.act-acted.auto.principal_slots ∙ i.1,
+      c.act-acted.auto.vars ∙ i.2,
+      c.act-acted.auto.variable_slots ∙ i.3,
+      c.act-acted.auto.locals ∙ i.4,
+      c.act-acted.auto.local_slots ∙ i.5,
+      c.act-acted.auto.assertions ∙ i.6,
+      c.act-acted.auto.value ∙ i.7,
+      c.act-acted.auto.labels ∙ i.8,
+      c.tell-done.auto.output ∙ i.9,
     ) in
     lengths.1
 
 pub shape_of-vars-in-Refused : goal.shape_of-vars-in-Refused
 shape_of-vars-in-Refused c =
-    let lengths : (length c.act-acted.new.0 ≡ length c.args.principals.now) × (length c.act-acted.new.1.0 ≡ length c.args.principal_slots.now) × (length c.act-acted.new.1.1.0 ≡ length c.args.vars.now) × (length c.act-acted.new.1.1.1.0 ≡ length c.args.variable_slots.now) × (length c.act-acted.new.1.1.1.1.0 ≡ length c.args.locals.now) × (length c.act-acted.new.1.1.1.1.1.0 ≡ length c.args.local_slots.now) × (length c.act-acted.new.1.1.1.1.1.1.0 ≡ length c.args.assertions.now) × (length c.act-acted.new.1.1.1.1.1.1.1.0 ≡ length c.args.value.now) × (length c.act-acted.new.1.1.1.1.1.1.1.1.0 ≡ length c.args.labels.now) × (length c.tell-done.new.1.1.1.0 ≡ length c.args.output.now) = let i = c.loop-c.invariant.2 in (
-      c.act-acted.auto.0 ∙ i.0,
-      c.act-acted.auto.1.0 ∙ i.1,
-      c.act-acted.auto.1.1.0 ∙ i.2,
-      c.act-acted.auto.1.1.1.0 ∙ i.3,
-      c.act-acted.auto.1.1.1.1.0 ∙ i.4,
-      c.act-acted.auto.1.1.1.1.1.0 ∙ i.5,
-      c.act-acted.auto.1.1.1.1.1.1.0 ∙ i.6,
-      c.act-acted.auto.1.1.1.1.1.1.1.0 ∙ i.7,
-      c.act-acted.auto.1.1.1.1.1.1.1.1.0 ∙ i.8,
-      c.tell-done.auto.1.1.1.0 ∙ i.9,
+    let lengths : (length c.act-acted.new.principals ≡ length c.args.principals.now) × (length c.act-acted.new.principal_slots ≡ length c.args.principal_slots.now) × (length c.act-acted.new.vars ≡ length c.args.vars.now) × (length c.act-acted.new.variable_slots ≡ length c.args.variable_slots.now) × (length c.act-acted.new.locals ≡ length c.args.locals.now) × (length c.act-acted.new.local_slots ≡ length c.args.local_slots.now) × (length c.act-acted.new.assertions ≡ length c.args.assertions.now) × (length c.act-acted.new.value ≡ length c.args.value.now) × (length c.act-acted.new.labels ≡ length c.args.labels.now) × (length c.tell-done.new.output ≡ length c.args.output.now) = let i = c.loop-c.invariant.2 in (
+      c.act-acted.auto.principals ∙ i.0,
+      c.act-acted.auto.principal_slots ∙ i.1,
+      c.act-acted.auto.vars ∙ i.2,
+      c.act-acted.auto.variable_slots ∙ i.3,
+      c.act-acted.auto.locals ∙ i.4,
+      c.act-acted.auto.local_slots ∙ i.5,
+      c.act-acted.auto.assertions ∙ i.6,
+      c.act-acted.auto.value ∙ i.7,
+      c.act-acted.auto.labels ∙ i.8,
+      c.tell-done.auto.output ∙ i.9,
     ) in
     lengths.2
 
 pub shape_of-variable_slots-in-Refused : goal.shape_of-variable_slots-in-Refused
 shape_of-variable_slots-in-Refused c =
-    let lengths : (length c.act-acted.new.0 ≡ length c.args.principals.now) × (length c.act-acted.new.1.0 ≡ length c.args.principal_slots.now) × (length c.act-acted.new.1.1.0 ≡ length c.args.vars.now) × (length c.act-acted.new.1.1.1.0 ≡ length c.args.variable_slots.now) × (length c.act-acted.new.1.1.1.1.0 ≡ length c.args.locals.now) × (length c.act-acted.new.1.1.1.1.1.0 ≡ length c.args.local_slots.now) × (length c.act-acted.new.1.1.1.1.1.1.0 ≡ length c.args.assertions.now) × (length c.act-acted.new.1.1.1.1.1.1.1.0 ≡ length c.args.value.now) × (length c.act-acted.new.1.1.1.1.1.1.1.1.0 ≡ length c.args.labels.now) × (length c.tell-done.new.1.1.1.0 ≡ length c.args.output.now) = let i = c.loop-c.invariant.2 in (
-      c.act-acted.auto.0 ∙ i.0,
-      c.act-acted.auto.1.0 ∙ i.1,
-      c.act-acted.auto.1.1.0 ∙ i.2,
-      c.act-acted.auto.1.1.1.0 ∙ i.3,
-      c.act-acted.auto.1.1.1.1.0 ∙ i.4,
-      c.act-acted.auto.1.1.1.1.1.0 ∙ i.5,
-      c.act-acted.auto.1.1.1.1.1.1.0 ∙ i.6,
-      c.act-acted.auto.1.1.1.1.1.1.1.0 ∙ i.7,
-      c.act-acted.auto.1.1.1.1.1.1.1.1.0 ∙ i.8,
-      c.tell-done.auto.1.1.1.0 ∙ i.9,
+    let lengths : (length c.act-acted.new.principals ≡ length c.args.principals.now) × (length c.act-acted.new.principal_slots ≡ length c.args.principal_slots.now) × (length c.act-acted.new.vars ≡ length c.args.vars.now) × (length c.act-acted.new.variable_slots ≡ length c.args.variable_slots.now) × (length c.act-acted.new.locals ≡ length c.args.locals.now) × (length c.act-acted.new.local_slots ≡ length c.args.local_slots.now) × (length c.act-acted.new.assertions ≡ length c.args.assertions.now) × (length c.act-acted.new.value ≡ length c.args.value.now) × (length c.act-acted.new.labels ≡ length c.args.labels.now) × (length c.tell-done.new.output ≡ length c.args.output.now) = let i = c.loop-c.invariant.2 in (
+      c.act-acted.auto.principals ∙ i.0,
+      c.act-acted.auto.principal_slots ∙ i.1,
+      c.act-acted.auto.vars ∙ i.2,
+      c.act-acted.auto.variable_slots ∙ i.3,
+      c.act-acted.auto.locals ∙ i.4,
+      c.act-acted.auto.local_slots ∙ i.5,
+      c.act-acted.auto.assertions ∙ i.6,
+      c.act-acted.auto.value ∙ i.7,
+      c.act-acted.auto.labels ∙ i.8,
+      c.tell-done.auto.output ∙ i.9,
     ) in
     lengths.3
 
 pub shape_of-locals-in-Refused : goal.shape_of-locals-in-Refused
 shape_of-locals-in-Refused c =
-    let lengths : (length c.act-acted.new.0 ≡ length c.args.principals.now) × (length c.act-acted.new.1.0 ≡ length c.args.principal_slots.now) × (length c.act-acted.new.1.1.0 ≡ length c.args.vars.now) × (length c.act-acted.new.1.1.1.0 ≡ length c.args.variable_slots.now) × (length c.act-acted.new.1.1.1.1.0 ≡ length c.args.locals.now) × (length c.act-acted.new.1.1.1.1.1.0 ≡ length c.args.local_slots.now) × (length c.act-acted.new.1.1.1.1.1.1.0 ≡ length c.args.assertions.now) × (length c.act-acted.new.1.1.1.1.1.1.1.0 ≡ length c.args.value.now) × (length c.act-acted.new.1.1.1.1.1.1.1.1.0 ≡ length c.args.labels.now) × (length c.tell-done.new.1.1.1.0 ≡ length c.args.output.now) = let i = c.loop-c.invariant.2 in (
-      c.act-acted.auto.0 ∙ i.0,
-      c.act-acted.auto.1.0 ∙ i.1,
-      c.act-acted.auto.1.1.0 ∙ i.2,
-      c.act-acted.auto.1.1.1.0 ∙ i.3,
-      c.act-acted.auto.1.1.1.1.0 ∙ i.4,
-      c.act-acted.auto.1.1.1.1.1.0 ∙ i.5,
-      c.act-acted.auto.1.1.1.1.1.1.0 ∙ i.6,
-      c.act-acted.auto.1.1.1.1.1.1.1.0 ∙ i.7,
-      c.act-acted.auto.1.1.1.1.1.1.1.1.0 ∙ i.8,
-      c.tell-done.auto.1.1.1.0 ∙ i.9,
+    let lengths : (length c.act-acted.new.principals ≡ length c.args.principals.now) × (length c.act-acted.new.principal_slots ≡ length c.args.principal_slots.now) × (length c.act-acted.new.vars ≡ length c.args.vars.now) × (length c.act-acted.new.variable_slots ≡ length c.args.variable_slots.now) × (length c.act-acted.new.locals ≡ length c.args.locals.now) × (length c.act-acted.new.local_slots ≡ length c.args.local_slots.now) × (length c.act-acted.new.assertions ≡ length c.args.assertions.now) × (length c.act-acted.new.value ≡ length c.args.value.now) × (length c.act-acted.new.labels ≡ length c.args.labels.now) × (length c.tell-done.new.output ≡ length c.args.output.now) = let i = c.loop-c.invariant.2 in (
+      c.act-acted.auto.principals ∙ i.0,
+      c.act-acted.auto.principal_slots ∙ i.1,
+      c.act-acted.auto.vars ∙ i.2,
+      c.act-acted.auto.variable_slots ∙ i.3,
+      c.act-acted.auto.locals ∙ i.4,
+      c.act-acted.auto.local_slots ∙ i.5,
+      c.act-acted.auto.assertions ∙ i.6,
+      c.act-acted.auto.value ∙ i.7,
+      c.act-acted.auto.labels ∙ i.8,
+      c.tell-done.auto.output ∙ i.9,
     ) in
     lengths.4
 
 pub shape_of-local_slots-in-Refused : goal.shape_of-local_slots-in-Refused
 shape_of-local_slots-in-Refused c =
-    let lengths : (length c.act-acted.new.0 ≡ length c.args.principals.now) × (length c.act-acted.new.1.0 ≡ length c.args.principal_slots.now) × (length c.act-acted.new.1.1.0 ≡ length c.args.vars.now) × (length c.act-acted.new.1.1.1.0 ≡ length c.args.variable_slots.now) × (length c.act-acted.new.1.1.1.1.0 ≡ length c.args.locals.now) × (length c.act-acted.new.1.1.1.1.1.0 ≡ length c.args.local_slots.now) × (length c.act-acted.new.1.1.1.1.1.1.0 ≡ length c.args.assertions.now) × (length c.act-acted.new.1.1.1.1.1.1.1.0 ≡ length c.args.value.now) × (length c.act-acted.new.1.1.1.1.1.1.1.1.0 ≡ length c.args.labels.now) × (length c.tell-done.new.1.1.1.0 ≡ length c.args.output.now) = let i = c.loop-c.invariant.2 in (
-      c.act-acted.auto.0 ∙ i.0,
-      c.act-acted.auto.1.0 ∙ i.1,
-      c.act-acted.auto.1.1.0 ∙ i.2,
-      c.act-acted.auto.1.1.1.0 ∙ i.3,
-      c.act-acted.auto.1.1.1.1.0 ∙ i.4,
-      c.act-acted.auto.1.1.1.1.1.0 ∙ i.5,
-      c.act-acted.auto.1.1.1.1.1.1.0 ∙ i.6,
-      c.act-acted.auto.1.1.1.1.1.1.1.0 ∙ i.7,
-      c.act-acted.auto.1.1.1.1.1.1.1.1.0 ∙ i.8,
-      c.tell-done.auto.1.1.1.0 ∙ i.9,
+    let lengths : (length c.act-acted.new.principals ≡ length c.args.principals.now) × (length c.act-acted.new.principal_slots ≡ length c.args.principal_slots.now) × (length c.act-acted.new.vars ≡ length c.args.vars.now) × (length c.act-acted.new.variable_slots ≡ length c.args.variable_slots.now) × (length c.act-acted.new.locals ≡ length c.args.locals.now) × (length c.act-acted.new.local_slots ≡ length c.args.local_slots.now) × (length c.act-acted.new.assertions ≡ length c.args.assertions.now) × (length c.act-acted.new.value ≡ length c.args.value.now) × (length c.act-acted.new.labels ≡ length c.args.labels.now) × (length c.tell-done.new.output ≡ length c.args.output.now) = let i = c.loop-c.invariant.2 in (
+      c.act-acted.auto.principals ∙ i.0,
+      c.act-acted.auto.principal_slots ∙ i.1,
+      c.act-acted.auto.vars ∙ i.2,
+      c.act-acted.auto.variable_slots ∙ i.3,
+      c.act-acted.auto.locals ∙ i.4,
+      c.act-acted.auto.local_slots ∙ i.5,
+      c.act-acted.auto.assertions ∙ i.6,
+      c.act-acted.auto.value ∙ i.7,
+      c.act-acted.auto.labels ∙ i.8,
+      c.tell-done.auto.output ∙ i.9,
     ) in
     lengths.5
 
 pub shape_of-assertions-in-Refused : goal.shape_of-assertions-in-Refused
 shape_of-assertions-in-Refused c =
-    let lengths : (length c.act-acted.new.0 ≡ length c.args.principals.now) × (length c.act-acted.new.1.0 ≡ length c.args.principal_slots.now) × (length c.act-acted.new.1.1.0 ≡ length c.args.vars.now) × (length c.act-acted.new.1.1.1.0 ≡ length c.args.variable_slots.now) × (length c.act-acted.new.1.1.1.1.0 ≡ length c.args.locals.now) × (length c.act-acted.new.1.1.1.1.1.0 ≡ length c.args.local_slots.now) × (length c.act-acted.new.1.1.1.1.1.1.0 ≡ length c.args.assertions.now) × (length c.act-acted.new.1.1.1.1.1.1.1.0 ≡ length c.args.value.now) × (length c.act-acted.new.1.1.1.1.1.1.1.1.0 ≡ length c.args.labels.now) × (length c.tell-done.new.1.1.1.0 ≡ length c.args.output.now) = let i = c.loop-c.invariant.2 in (
-      c.act-acted.auto.0 ∙ i.0,
-      c.act-acted.auto.1.0 ∙ i.1,
-      c.act-acted.auto.1.1.0 ∙ i.2,
-      c.act-acted.auto.1.1.1.0 ∙ i.3,
-      c.act-acted.auto.1.1.1.1.0 ∙ i.4,
-      c.act-acted.auto.1.1.1.1.1.0 ∙ i.5,
-      c.act-acted.auto.1.1.1.1.1.1.0 ∙ i.6,
-      c.act-acted.auto.1.1.1.1.1.1.1.0 ∙ i.7,
-      c.act-acted.auto.1.1.1.1.1.1.1.1.0 ∙ i.8,
-      c.tell-done.auto.1.1.1.0 ∙ i.9,
+    let lengths : (length c.act-acted.new.principals ≡ length c.args.principals.now) × (length c.act-acted.new.principal_slots ≡ length c.args.principal_slots.now) × (length c.act-acted.new.vars ≡ length c.args.vars.now) × (length c.act-acted.new.variable_slots ≡ length c.args.variable_slots.now) × (length c.act-acted.new.locals ≡ length c.args.locals.now) × (length c.act-acted.new.local_slots ≡ length c.args.local_slots.now) × (length c.act-acted.new.assertions ≡ length c.args.assertions.now) × (length c.act-acted.new.value ≡ length c.args.value.now) × (length c.act-acted.new.labels ≡ length c.args.labels.now) × (length c.tell-done.new.output ≡ length c.args.output.now) = let i = c.loop-c.invariant.2 in (
+      c.act-acted.auto.principals ∙ i.0,
+      c.act-acted.auto.principal_slots ∙ i.1,
+      c.act-acted.auto.vars ∙ i.2,
+      c.act-acted.auto.variable_slots ∙ i.3,
+      c.act-acted.auto.locals ∙ i.4,
+      c.act-acted.auto.local_slots ∙ i.5,
+      c.act-acted.auto.assertions ∙ i.6,
+      c.act-acted.auto.value ∙ i.7,
+      c.act-acted.auto.labels ∙ i.8,
+      c.tell-done.auto.output ∙ i.9,
     ) in
     lengths.6
 
 pub shape_of-value-in-Refused : goal.shape_of-value-in-Refused
 shape_of-value-in-Refused c =
-    let lengths : (length c.act-acted.new.0 ≡ length c.args.principals.now) × (length c.act-acted.new.1.0 ≡ length c.args.principal_slots.now) × (length c.act-acted.new.1.1.0 ≡ length c.args.vars.now) × (length c.act-acted.new.1.1.1.0 ≡ length c.args.variable_slots.now) × (length c.act-acted.new.1.1.1.1.0 ≡ length c.args.locals.now) × (length c.act-acted.new.1.1.1.1.1.0 ≡ length c.args.local_slots.now) × (length c.act-acted.new.1.1.1.1.1.1.0 ≡ length c.args.assertions.now) × (length c.act-acted.new.1.1.1.1.1.1.1.0 ≡ length c.args.value.now) × (length c.act-acted.new.1.1.1.1.1.1.1.1.0 ≡ length c.args.labels.now) × (length c.tell-done.new.1.1.1.0 ≡ length c.args.output.now) = let i = c.loop-c.invariant.2 in (
-      c.act-acted.auto.0 ∙ i.0,
-      c.act-acted.auto.1.0 ∙ i.1,
-      c.act-acted.auto.1.1.0 ∙ i.2,
-      c.act-acted.auto.1.1.1.0 ∙ i.3,
-      c.act-acted.auto.1.1.1.1.0 ∙ i.4,
-      c.act-acted.auto.1.1.1.1.1.0 ∙ i.5,
-      c.act-acted.auto.1.1.1.1.1.1.0 ∙ i.6,
-      c.act-acted.auto.1.1.1.1.1.1.1.0 ∙ i.7,
-      c.act-acted.auto.1.1.1.1.1.1.1.1.0 ∙ i.8,
-      c.tell-done.auto.1.1.1.0 ∙ i.9,
+    let lengths : (length c.act-acted.new.principals ≡ length c.args.principals.now) × (length c.act-acted.new.principal_slots ≡ length c.args.principal_slots.now) × (length c.act-acted.new.vars ≡ length c.args.vars.now) × (length c.act-acted.new.variable_slots ≡ length c.args.variable_slots.now) × (length c.act-acted.new.locals ≡ length c.args.locals.now) × (length c.act-acted.new.local_slots ≡ length c.args.local_slots.now) × (length c.act-acted.new.assertions ≡ length c.args.assertions.now) × (length c.act-acted.new.value ≡ length c.args.value.now) × (length c.act-acted.new.labels ≡ length c.args.labels.now) × (length c.tell-done.new.output ≡ length c.args.output.now) = let i = c.loop-c.invariant.2 in (
+      c.act-acted.auto.principals ∙ i.0,
+      c.act-acted.auto.principal_slots ∙ i.1,
+      c.act-acted.auto.vars ∙ i.2,
+      c.act-acted.auto.variable_slots ∙ i.3,
+      c.act-acted.auto.locals ∙ i.4,
+      c.act-acted.auto.local_slots ∙ i.5,
+      c.act-acted.auto.assertions ∙ i.6,
+      c.act-acted.auto.value ∙ i.7,
+      c.act-acted.auto.labels ∙ i.8,
+      c.tell-done.auto.output ∙ i.9,
     ) in
     lengths.7
 
 pub shape_of-labels-in-Refused : goal.shape_of-labels-in-Refused
 shape_of-labels-in-Refused c =
-    let lengths : (length c.act-acted.new.0 ≡ length c.args.principals.now) × (length c.act-acted.new.1.0 ≡ length c.args.principal_slots.now) × (length c.act-acted.new.1.1.0 ≡ length c.args.vars.now) × (length c.act-acted.new.1.1.1.0 ≡ length c.args.variable_slots.now) × (length c.act-acted.new.1.1.1.1.0 ≡ length c.args.locals.now) × (length c.act-acted.new.1.1.1.1.1.0 ≡ length c.args.local_slots.now) × (length c.act-acted.new.1.1.1.1.1.1.0 ≡ length c.args.assertions.now) × (length c.act-acted.new.1.1.1.1.1.1.1.0 ≡ length c.args.value.now) × (length c.act-acted.new.1.1.1.1.1.1.1.1.0 ≡ length c.args.labels.now) × (length c.tell-done.new.1.1.1.0 ≡ length c.args.output.now) = let i = c.loop-c.invariant.2 in (
-      c.act-acted.auto.0 ∙ i.0,
-      c.act-acted.auto.1.0 ∙ i.1,
-      c.act-acted.auto.1.1.0 ∙ i.2,
-      c.act-acted.auto.1.1.1.0 ∙ i.3,
-      c.act-acted.auto.1.1.1.1.0 ∙ i.4,
-      c.act-acted.auto.1.1.1.1.1.0 ∙ i.5,
-      c.act-acted.auto.1.1.1.1.1.1.0 ∙ i.6,
-      c.act-acted.auto.1.1.1.1.1.1.1.0 ∙ i.7,
-      c.act-acted.auto.1.1.1.1.1.1.1.1.0 ∙ i.8,
-      c.tell-done.auto.1.1.1.0 ∙ i.9,
+    let lengths : (length c.act-acted.new.principals ≡ length c.args.principals.now) × (length c.act-acted.new.principal_slots ≡ length c.args.principal_slots.now) × (length c.act-acted.new.vars ≡ length c.args.vars.now) × (length c.act-acted.new.variable_slots ≡ length c.args.variable_slots.now) × (length c.act-acted.new.locals ≡ length c.args.locals.now) × (length c.act-acted.new.local_slots ≡ length c.args.local_slots.now) × (length c.act-acted.new.assertions ≡ length c.args.assertions.now) × (length c.act-acted.new.value ≡ length c.args.value.now) × (length c.act-acted.new.labels ≡ length c.args.labels.now) × (length c.tell-done.new.output ≡ length c.args.output.now) = let i = c.loop-c.invariant.2 in (
+      c.act-acted.auto.principals ∙ i.0,
+      c.act-acted.auto.principal_slots ∙ i.1,
+      c.act-acted.auto.vars ∙ i.2,
+      c.act-acted.auto.variable_slots ∙ i.3,
+      c.act-acted.auto.locals ∙ i.4,
+      c.act-acted.auto.local_slots ∙ i.5,
+      c.act-acted.auto.assertions ∙ i.6,
+      c.act-acted.auto.value ∙ i.7,
+      c.act-acted.auto.labels ∙ i.8,
+      c.tell-done.auto.output ∙ i.9,
     ) in
     lengths.8
 
 pub shape_of-output-in-Refused : goal.shape_of-output-in-Refused
 shape_of-output-in-Refused c =
-    let lengths : (length c.act-acted.new.0 ≡ length c.args.principals.now) × (length c.act-acted.new.1.0 ≡ length c.args.principal_slots.now) × (length c.act-acted.new.1.1.0 ≡ length c.args.vars.now) × (length c.act-acted.new.1.1.1.0 ≡ length c.args.variable_slots.now) × (length c.act-acted.new.1.1.1.1.0 ≡ length c.args.locals.now) × (length c.act-acted.new.1.1.1.1.1.0 ≡ length c.args.local_slots.now) × (length c.act-acted.new.1.1.1.1.1.1.0 ≡ length c.args.assertions.now) × (length c.act-acted.new.1.1.1.1.1.1.1.0 ≡ length c.args.value.now) × (length c.act-acted.new.1.1.1.1.1.1.1.1.0 ≡ length c.args.labels.now) × (length c.tell-done.new.1.1.1.0 ≡ length c.args.output.now) = let i = c.loop-c.invariant.2 in (
-      c.act-acted.auto.0 ∙ i.0,
-      c.act-acted.auto.1.0 ∙ i.1,
-      c.act-acted.auto.1.1.0 ∙ i.2,
-      c.act-acted.auto.1.1.1.0 ∙ i.3,
-      c.act-acted.auto.1.1.1.1.0 ∙ i.4,
-      c.act-acted.auto.1.1.1.1.1.0 ∙ i.5,
-      c.act-acted.auto.1.1.1.1.1.1.0 ∙ i.6,
-      c.act-acted.auto.1.1.1.1.1.1.1.0 ∙ i.7,
-      c.act-acted.auto.1.1.1.1.1.1.1.1.0 ∙ i.8,
-      c.tell-done.auto.1.1.1.0 ∙ i.9,
+    let lengths : (length c.act-acted.new.principals ≡ length c.args.principals.now) × (length c.act-acted.new.principal_slots ≡ length c.args.principal_slots.now) × (length c.act-acted.new.vars ≡ length c.args.vars.now) × (length c.act-acted.new.variable_slots ≡ length c.args.variable_slots.now) × (length c.act-acted.new.locals ≡ length c.args.locals.now) × (length c.act-acted.new.local_slots ≡ length c.args.local_slots.now) × (length c.act-acted.new.assertions ≡ length c.args.assertions.now) × (length c.act-acted.new.value ≡ length c.args.value.now) × (length c.act-acted.new.labels ≡ length c.args.labels.now) × (length c.tell-done.new.output ≡ length c.args.output.now) = let i = c.loop-c.invariant.2 in (
+      c.act-acted.auto.principals ∙ i.0,
+      c.act-acted.auto.principal_slots ∙ i.1,
+      c.act-acted.auto.vars ∙ i.2,
+      c.act-acted.auto.variable_slots ∙ i.3,
+      c.act-acted.auto.locals ∙ i.4,
+      c.act-acted.auto.local_slots ∙ i.5,
+      c.act-acted.auto.assertions ∙ i.6,
+      c.act-acted.auto.value ∙ i.7,
+      c.act-acted.auto.labels ∙ i.8,
+      c.tell-done.auto.output ∙ i.9,
     ) in
     lengths.9
 
@@ -282,8 +282,8 @@ returns-in-Refused c s R =
     (known (ReadFrom c.args.text.now c.loop-c.p) c.read_at-read.ensures c.in-Command.is) is in
     let entered : Session → Type 0 = λ s. let a = c.args in Running s a.start (slices a.principals.now a.principal_slots.now a.vars.now a.variable_slots.now a.locals.now a.local_slots.now a.assertions.now) in
     let stage : (s : Session) → entered s → let l = c.loop-c in Stage s c.args.text.now c.args.at c.args.output.now l.l (slices l.principals l.principal_slots l.vars l.variable_slots l.locals l.local_slots l.assertions) l.p l.n l.lines l.output = λ s R. c.loop-c.invariant.1 s R in
-    let left : Slices = slices c.act-acted.new.0 c.act-acted.new.1.0 c.act-acted.new.1.1.0 c.act-acted.new.1.1.1.0 c.act-acted.new.1.1.1.1.0 c.act-acted.new.1.1.1.1.1.0 c.act-acted.new.1.1.1.1.1.1.0 in
-    let printed : Text = c.tell-done.new.1.1.1.0 in
+    let left : Slices = slices c.act-acted.new.principals c.act-acted.new.principal_slots c.act-acted.new.vars c.act-acted.new.variable_slots c.act-acted.new.locals c.act-acted.new.local_slots c.act-acted.new.assertions in
+    let printed : Text = c.tell-done.new.output in
     let carried : (s : Session) (R : entered s) {rest : Rest} (F : First c.args.text.now c.loop-c.p c.in-Command.c rest) (r : Outcome) → c.tell-done.result ≡ r → Carried r (step (stage s R).session F.command) left.loop-c.output c.loop-c.n printed = λ s R F r e. let S = stage s R in
     known (λ (o : Outcome). Carried o (step S.session F.command) left.loop-c.output c.loop-c.n printed)
     (c.tell-done.ensures (step S.session F.command) S.session left (c.act-acted.ensures S.session F.command S.running F.meant)) e in
@@ -305,161 +305,161 @@ overflow_add-lines c =
 
 pub shape_of-principals-in_default-rest : goal.shape_of-principals-in_default-rest
 shape_of-principals-in_default-rest c =
-    let lengths : (length c.act-acted.new.0 ≡ length c.args.principals.now) × (length c.act-acted.new.1.0 ≡ length c.args.principal_slots.now) × (length c.act-acted.new.1.1.0 ≡ length c.args.vars.now) × (length c.act-acted.new.1.1.1.0 ≡ length c.args.variable_slots.now) × (length c.act-acted.new.1.1.1.1.0 ≡ length c.args.locals.now) × (length c.act-acted.new.1.1.1.1.1.0 ≡ length c.args.local_slots.now) × (length c.act-acted.new.1.1.1.1.1.1.0 ≡ length c.args.assertions.now) × (length c.act-acted.new.1.1.1.1.1.1.1.0 ≡ length c.args.value.now) × (length c.act-acted.new.1.1.1.1.1.1.1.1.0 ≡ length c.args.labels.now) × (length c.tell-done.new.1.1.1.0 ≡ length c.args.output.now) = let i = c.loop-c.invariant.2 in (
-      c.act-acted.auto.0 ∙ i.0,
-      c.act-acted.auto.1.0 ∙ i.1,
-      c.act-acted.auto.1.1.0 ∙ i.2,
-      c.act-acted.auto.1.1.1.0 ∙ i.3,
-      c.act-acted.auto.1.1.1.1.0 ∙ i.4,
-      c.act-acted.auto.1.1.1.1.1.0 ∙ i.5,
-      c.act-acted.auto.1.1.1.1.1.1.0 ∙ i.6,
-      c.act-acted.auto.1.1.1.1.1.1.1.0 ∙ i.7,
-      c.act-acted.auto.1.1.1.1.1.1.1.1.0 ∙ i.8,
-      c.tell-done.auto.1.1.1.0 ∙ i.9,
+    let lengths : (length c.act-acted.new.principals ≡ length c.args.principals.now) × (length c.act-acted.new.principal_slots ≡ length c.args.principal_slots.now) × (length c.act-acted.new.vars ≡ length c.args.vars.now) × (length c.act-acted.new.variable_slots ≡ length c.args.variable_slots.now) × (length c.act-acted.new.locals ≡ length c.args.locals.now) × (length c.act-acted.new.local_slots ≡ length c.args.local_slots.now) × (length c.act-acted.new.assertions ≡ length c.args.assertions.now) × (length c.act-acted.new.value ≡ length c.args.value.now) × (length c.act-acted.new.labels ≡ length c.args.labels.now) × (length c.tell-done.new.output ≡ length c.args.output.now) = let i = c.loop-c.invariant.2 in (
+      c.act-acted.auto.principals ∙ i.0,
+      c.act-acted.auto.principal_slots ∙ i.1,
+      c.act-acted.auto.vars ∙ i.2,
+      c.act-acted.auto.variable_slots ∙ i.3,
+      c.act-acted.auto.locals ∙ i.4,
+      c.act-acted.auto.local_slots ∙ i.5,
+      c.act-acted.auto.assertions ∙ i.6,
+      c.act-acted.auto.value ∙ i.7,
+      c.act-acted.auto.labels ∙ i.8,
+      c.tell-done.auto.output ∙ i.9,
     ) in
     lengths.0
 
 pub shape_of-principal_slots-in_default-rest : goal.shape_of-principal_slots-in_default-rest
 shape_of-principal_slots-in_default-rest c =
-    let lengths : (length c.act-acted.new.0 ≡ length c.args.principals.now) × (length c.act-acted.new.1.0 ≡ length c.args.principal_slots.now) × (length c.act-acted.new.1.1.0 ≡ length c.args.vars.now) × (length c.act-acted.new.1.1.1.0 ≡ length c.args.variable_slots.now) × (length c.act-acted.new.1.1.1.1.0 ≡ length c.args.locals.now) × (length c.act-acted.new.1.1.1.1.1.0 ≡ length c.args.local_slots.now) × (length c.act-acted.new.1.1.1.1.1.1.0 ≡ length c.args.assertions.now) × (length c.act-acted.new.1.1.1.1.1.1.1.0 ≡ length c.args.value.now) × (length c.act-acted.new.1.1.1.1.1.1.1.1.0 ≡ length c.args.labels.now) × (length c.tell-done.new.1.1.1.0 ≡ length c.args.output.now) = let i = c.loop-c.invariant.2 in (
-      c.act-acted.auto.0 ∙ i.0,
-      c.act-acted.auto.1.0 ∙ i.1,
-      c.act-acted.auto.1.1.0 ∙ i.2,
-      c.act-acted.auto.1.1.1.0 ∙ i.3,
-      c.act-acted.auto.1.1.1.1.0 ∙ i.4,
-      c.act-acted.auto.1.1.1.1.1.0 ∙ i.5,
-      c.act-acted.auto.1.1.1.1.1.1.0 ∙ i.6,
-      c.act-acted.auto.1.1.1.1.1.1.1.0 ∙ i.7,
-      c.act-acted.auto.1.1.1.1.1.1.1.1.0 ∙ i.8,
-      c.tell-done.auto.1.1.1.0 ∙ i.9,
+    let lengths : (length c.act-acted.new.principals ≡ length c.args.principals.now) × (length c.act-acted.new.principal_slots ≡ length c.args.principal_slots.now) × (length c.act-acted.new.vars ≡ length c.args.vars.now) × (length c.act-acted.new.variable_slots ≡ length c.args.variable_slots.now) × (length c.act-acted.new.locals ≡ length c.args.locals.now) × (length c.act-acted.new.local_slots ≡ length c.args.local_slots.now) × (length c.act-acted.new.assertions ≡ length c.args.assertions.now) × (length c.act-acted.new.value ≡ length c.args.value.now) × (length c.act-acted.new.labels ≡ length c.args.labels.now) × (length c.tell-done.new.output ≡ length c.args.output.now) = let i = c.loop-c.invariant.2 in (
+      c.act-acted.auto.principals ∙ i.0,
+      c.act-acted.auto.principal_slots ∙ i.1,
+      c.act-acted.auto.vars ∙ i.2,
+      c.act-acted.auto.variable_slots ∙ i.3,
+      c.act-acted.auto.locals ∙ i.4,
+      c.act-acted.auto.local_slots ∙ i.5,
+      c.act-acted.auto.assertions ∙ i.6,
+      c.act-acted.auto.value ∙ i.7,
+      c.act-acted.auto.labels ∙ i.8,
+      c.tell-done.auto.output ∙ i.9,
     ) in
     lengths.1
 
 pub shape_of-vars-in_default-rest : goal.shape_of-vars-in_default-rest
 shape_of-vars-in_default-rest c =
-    let lengths : (length c.act-acted.new.0 ≡ length c.args.principals.now) × (length c.act-acted.new.1.0 ≡ length c.args.principal_slots.now) × (length c.act-acted.new.1.1.0 ≡ length c.args.vars.now) × (length c.act-acted.new.1.1.1.0 ≡ length c.args.variable_slots.now) × (length c.act-acted.new.1.1.1.1.0 ≡ length c.args.locals.now) × (length c.act-acted.new.1.1.1.1.1.0 ≡ length c.args.local_slots.now) × (length c.act-acted.new.1.1.1.1.1.1.0 ≡ length c.args.assertions.now) × (length c.act-acted.new.1.1.1.1.1.1.1.0 ≡ length c.args.value.now) × (length c.act-acted.new.1.1.1.1.1.1.1.1.0 ≡ length c.args.labels.now) × (length c.tell-done.new.1.1.1.0 ≡ length c.args.output.now) = let i = c.loop-c.invariant.2 in (
-      c.act-acted.auto.0 ∙ i.0,
-      c.act-acted.auto.1.0 ∙ i.1,
-      c.act-acted.auto.1.1.0 ∙ i.2,
-      c.act-acted.auto.1.1.1.0 ∙ i.3,
-      c.act-acted.auto.1.1.1.1.0 ∙ i.4,
-      c.act-acted.auto.1.1.1.1.1.0 ∙ i.5,
-      c.act-acted.auto.1.1.1.1.1.1.0 ∙ i.6,
-      c.act-acted.auto.1.1.1.1.1.1.1.0 ∙ i.7,
-      c.act-acted.auto.1.1.1.1.1.1.1.1.0 ∙ i.8,
-      c.tell-done.auto.1.1.1.0 ∙ i.9,
+    let lengths : (length c.act-acted.new.principals ≡ length c.args.principals.now) × (length c.act-acted.new.principal_slots ≡ length c.args.principal_slots.now) × (length c.act-acted.new.vars ≡ length c.args.vars.now) × (length c.act-acted.new.variable_slots ≡ length c.args.variable_slots.now) × (length c.act-acted.new.locals ≡ length c.args.locals.now) × (length c.act-acted.new.local_slots ≡ length c.args.local_slots.now) × (length c.act-acted.new.assertions ≡ length c.args.assertions.now) × (length c.act-acted.new.value ≡ length c.args.value.now) × (length c.act-acted.new.labels ≡ length c.args.labels.now) × (length c.tell-done.new.output ≡ length c.args.output.now) = let i = c.loop-c.invariant.2 in (
+      c.act-acted.auto.principals ∙ i.0,
+      c.act-acted.auto.principal_slots ∙ i.1,
+      c.act-acted.auto.vars ∙ i.2,
+      c.act-acted.auto.variable_slots ∙ i.3,
+      c.act-acted.auto.locals ∙ i.4,
+      c.act-acted.auto.local_slots ∙ i.5,
+      c.act-acted.auto.assertions ∙ i.6,
+      c.act-acted.auto.value ∙ i.7,
+      c.act-acted.auto.labels ∙ i.8,
+      c.tell-done.auto.output ∙ i.9,
     ) in
     lengths.2
 
 pub shape_of-variable_slots-in_default-rest : goal.shape_of-variable_slots-in_default-rest
 shape_of-variable_slots-in_default-rest c =
-    let lengths : (length c.act-acted.new.0 ≡ length c.args.principals.now) × (length c.act-acted.new.1.0 ≡ length c.args.principal_slots.now) × (length c.act-acted.new.1.1.0 ≡ length c.args.vars.now) × (length c.act-acted.new.1.1.1.0 ≡ length c.args.variable_slots.now) × (length c.act-acted.new.1.1.1.1.0 ≡ length c.args.locals.now) × (length c.act-acted.new.1.1.1.1.1.0 ≡ length c.args.local_slots.now) × (length c.act-acted.new.1.1.1.1.1.1.0 ≡ length c.args.assertions.now) × (length c.act-acted.new.1.1.1.1.1.1.1.0 ≡ length c.args.value.now) × (length c.act-acted.new.1.1.1.1.1.1.1.1.0 ≡ length c.args.labels.now) × (length c.tell-done.new.1.1.1.0 ≡ length c.args.output.now) = let i = c.loop-c.invariant.2 in (
-      c.act-acted.auto.0 ∙ i.0,
-      c.act-acted.auto.1.0 ∙ i.1,
-      c.act-acted.auto.1.1.0 ∙ i.2,
-      c.act-acted.auto.1.1.1.0 ∙ i.3,
-      c.act-acted.auto.1.1.1.1.0 ∙ i.4,
-      c.act-acted.auto.1.1.1.1.1.0 ∙ i.5,
-      c.act-acted.auto.1.1.1.1.1.1.0 ∙ i.6,
-      c.act-acted.auto.1.1.1.1.1.1.1.0 ∙ i.7,
-      c.act-acted.auto.1.1.1.1.1.1.1.1.0 ∙ i.8,
-      c.tell-done.auto.1.1.1.0 ∙ i.9,
+    let lengths : (length c.act-acted.new.principals ≡ length c.args.principals.now) × (length c.act-acted.new.principal_slots ≡ length c.args.principal_slots.now) × (length c.act-acted.new.vars ≡ length c.args.vars.now) × (length c.act-acted.new.variable_slots ≡ length c.args.variable_slots.now) × (length c.act-acted.new.locals ≡ length c.args.locals.now) × (length c.act-acted.new.local_slots ≡ length c.args.local_slots.now) × (length c.act-acted.new.assertions ≡ length c.args.assertions.now) × (length c.act-acted.new.value ≡ length c.args.value.now) × (length c.act-acted.new.labels ≡ length c.args.labels.now) × (length c.tell-done.new.output ≡ length c.args.output.now) = let i = c.loop-c.invariant.2 in (
+      c.act-acted.auto.principals ∙ i.0,
+      c.act-acted.auto.principal_slots ∙ i.1,
+      c.act-acted.auto.vars ∙ i.2,
+      c.act-acted.auto.variable_slots ∙ i.3,
+      c.act-acted.auto.locals ∙ i.4,
+      c.act-acted.auto.local_slots ∙ i.5,
+      c.act-acted.auto.assertions ∙ i.6,
+      c.act-acted.auto.value ∙ i.7,
+      c.act-acted.auto.labels ∙ i.8,
+      c.tell-done.auto.output ∙ i.9,
     ) in
     lengths.3
 
 pub shape_of-locals-in_default-rest : goal.shape_of-locals-in_default-rest
 shape_of-locals-in_default-rest c =
-    let lengths : (length c.act-acted.new.0 ≡ length c.args.principals.now) × (length c.act-acted.new.1.0 ≡ length c.args.principal_slots.now) × (length c.act-acted.new.1.1.0 ≡ length c.args.vars.now) × (length c.act-acted.new.1.1.1.0 ≡ length c.args.variable_slots.now) × (length c.act-acted.new.1.1.1.1.0 ≡ length c.args.locals.now) × (length c.act-acted.new.1.1.1.1.1.0 ≡ length c.args.local_slots.now) × (length c.act-acted.new.1.1.1.1.1.1.0 ≡ length c.args.assertions.now) × (length c.act-acted.new.1.1.1.1.1.1.1.0 ≡ length c.args.value.now) × (length c.act-acted.new.1.1.1.1.1.1.1.1.0 ≡ length c.args.labels.now) × (length c.tell-done.new.1.1.1.0 ≡ length c.args.output.now) = let i = c.loop-c.invariant.2 in (
-      c.act-acted.auto.0 ∙ i.0,
-      c.act-acted.auto.1.0 ∙ i.1,
-      c.act-acted.auto.1.1.0 ∙ i.2,
-      c.act-acted.auto.1.1.1.0 ∙ i.3,
-      c.act-acted.auto.1.1.1.1.0 ∙ i.4,
-      c.act-acted.auto.1.1.1.1.1.0 ∙ i.5,
-      c.act-acted.auto.1.1.1.1.1.1.0 ∙ i.6,
-      c.act-acted.auto.1.1.1.1.1.1.1.0 ∙ i.7,
-      c.act-acted.auto.1.1.1.1.1.1.1.1.0 ∙ i.8,
-      c.tell-done.auto.1.1.1.0 ∙ i.9,
+    let lengths : (length c.act-acted.new.principals ≡ length c.args.principals.now) × (length c.act-acted.new.principal_slots ≡ length c.args.principal_slots.now) × (length c.act-acted.new.vars ≡ length c.args.vars.now) × (length c.act-acted.new.variable_slots ≡ length c.args.variable_slots.now) × (length c.act-acted.new.locals ≡ length c.args.locals.now) × (length c.act-acted.new.local_slots ≡ length c.args.local_slots.now) × (length c.act-acted.new.assertions ≡ length c.args.assertions.now) × (length c.act-acted.new.value ≡ length c.args.value.now) × (length c.act-acted.new.labels ≡ length c.args.labels.now) × (length c.tell-done.new.output ≡ length c.args.output.now) = let i = c.loop-c.invariant.2 in (
+      c.act-acted.auto.principals ∙ i.0,
+      c.act-acted.auto.principal_slots ∙ i.1,
+      c.act-acted.auto.vars ∙ i.2,
+      c.act-acted.auto.variable_slots ∙ i.3,
+      c.act-acted.auto.locals ∙ i.4,
+      c.act-acted.auto.local_slots ∙ i.5,
+      c.act-acted.auto.assertions ∙ i.6,
+      c.act-acted.auto.value ∙ i.7,
+      c.act-acted.auto.labels ∙ i.8,
+      c.tell-done.auto.output ∙ i.9,
     ) in
     lengths.4
 
 pub shape_of-local_slots-in_default-rest : goal.shape_of-local_slots-in_default-rest
 shape_of-local_slots-in_default-rest c =
-    let lengths : (length c.act-acted.new.0 ≡ length c.args.principals.now) × (length c.act-acted.new.1.0 ≡ length c.args.principal_slots.now) × (length c.act-acted.new.1.1.0 ≡ length c.args.vars.now) × (length c.act-acted.new.1.1.1.0 ≡ length c.args.variable_slots.now) × (length c.act-acted.new.1.1.1.1.0 ≡ length c.args.locals.now) × (length c.act-acted.new.1.1.1.1.1.0 ≡ length c.args.local_slots.now) × (length c.act-acted.new.1.1.1.1.1.1.0 ≡ length c.args.assertions.now) × (length c.act-acted.new.1.1.1.1.1.1.1.0 ≡ length c.args.value.now) × (length c.act-acted.new.1.1.1.1.1.1.1.1.0 ≡ length c.args.labels.now) × (length c.tell-done.new.1.1.1.0 ≡ length c.args.output.now) = let i = c.loop-c.invariant.2 in (
-      c.act-acted.auto.0 ∙ i.0,
-      c.act-acted.auto.1.0 ∙ i.1,
-      c.act-acted.auto.1.1.0 ∙ i.2,
-      c.act-acted.auto.1.1.1.0 ∙ i.3,
-      c.act-acted.auto.1.1.1.1.0 ∙ i.4,
-      c.act-acted.auto.1.1.1.1.1.0 ∙ i.5,
-      c.act-acted.auto.1.1.1.1.1.1.0 ∙ i.6,
-      c.act-acted.auto.1.1.1.1.1.1.1.0 ∙ i.7,
-      c.act-acted.auto.1.1.1.1.1.1.1.1.0 ∙ i.8,
-      c.tell-done.auto.1.1.1.0 ∙ i.9,
+    let lengths : (length c.act-acted.new.principals ≡ length c.args.principals.now) × (length c.act-acted.new.principal_slots ≡ length c.args.principal_slots.now) × (length c.act-acted.new.vars ≡ length c.args.vars.now) × (length c.act-acted.new.variable_slots ≡ length c.args.variable_slots.now) × (length c.act-acted.new.locals ≡ length c.args.locals.now) × (length c.act-acted.new.local_slots ≡ length c.args.local_slots.now) × (length c.act-acted.new.assertions ≡ length c.args.assertions.now) × (length c.act-acted.new.value ≡ length c.args.value.now) × (length c.act-acted.new.labels ≡ length c.args.labels.now) × (length c.tell-done.new.output ≡ length c.args.output.now) = let i = c.loop-c.invariant.2 in (
+      c.act-acted.auto.principals ∙ i.0,
+      c.act-acted.auto.principal_slots ∙ i.1,
+      c.act-acted.auto.vars ∙ i.2,
+      c.act-acted.auto.variable_slots ∙ i.3,
+      c.act-acted.auto.locals ∙ i.4,
+      c.act-acted.auto.local_slots ∙ i.5,
+      c.act-acted.auto.assertions ∙ i.6,
+      c.act-acted.auto.value ∙ i.7,
+      c.act-acted.auto.labels ∙ i.8,
+      c.tell-done.auto.output ∙ i.9,
     ) in
     lengths.5
 
 pub shape_of-assertions-in_default-rest : goal.shape_of-assertions-in_default-rest
 shape_of-assertions-in_default-rest c =
-    let lengths : (length c.act-acted.new.0 ≡ length c.args.principals.now) × (length c.act-acted.new.1.0 ≡ length c.args.principal_slots.now) × (length c.act-acted.new.1.1.0 ≡ length c.args.vars.now) × (length c.act-acted.new.1.1.1.0 ≡ length c.args.variable_slots.now) × (length c.act-acted.new.1.1.1.1.0 ≡ length c.args.locals.now) × (length c.act-acted.new.1.1.1.1.1.0 ≡ length c.args.local_slots.now) × (length c.act-acted.new.1.1.1.1.1.1.0 ≡ length c.args.assertions.now) × (length c.act-acted.new.1.1.1.1.1.1.1.0 ≡ length c.args.value.now) × (length c.act-acted.new.1.1.1.1.1.1.1.1.0 ≡ length c.args.labels.now) × (length c.tell-done.new.1.1.1.0 ≡ length c.args.output.now) = let i = c.loop-c.invariant.2 in (
-      c.act-acted.auto.0 ∙ i.0,
-      c.act-acted.auto.1.0 ∙ i.1,
-      c.act-acted.auto.1.1.0 ∙ i.2,
-      c.act-acted.auto.1.1.1.0 ∙ i.3,
-      c.act-acted.auto.1.1.1.1.0 ∙ i.4,
-      c.act-acted.auto.1.1.1.1.1.0 ∙ i.5,
-      c.act-acted.auto.1.1.1.1.1.1.0 ∙ i.6,
-      c.act-acted.auto.1.1.1.1.1.1.1.0 ∙ i.7,
-      c.act-acted.auto.1.1.1.1.1.1.1.1.0 ∙ i.8,
-      c.tell-done.auto.1.1.1.0 ∙ i.9,
+    let lengths : (length c.act-acted.new.principals ≡ length c.args.principals.now) × (length c.act-acted.new.principal_slots ≡ length c.args.principal_slots.now) × (length c.act-acted.new.vars ≡ length c.args.vars.now) × (length c.act-acted.new.variable_slots ≡ length c.args.variable_slots.now) × (length c.act-acted.new.locals ≡ length c.args.locals.now) × (length c.act-acted.new.local_slots ≡ length c.args.local_slots.now) × (length c.act-acted.new.assertions ≡ length c.args.assertions.now) × (length c.act-acted.new.value ≡ length c.args.value.now) × (length c.act-acted.new.labels ≡ length c.args.labels.now) × (length c.tell-done.new.output ≡ length c.args.output.now) = let i = c.loop-c.invariant.2 in (
+      c.act-acted.auto.principals ∙ i.0,
+      c.act-acted.auto.principal_slots ∙ i.1,
+      c.act-acted.auto.vars ∙ i.2,
+      c.act-acted.auto.variable_slots ∙ i.3,
+      c.act-acted.auto.locals ∙ i.4,
+      c.act-acted.auto.local_slots ∙ i.5,
+      c.act-acted.auto.assertions ∙ i.6,
+      c.act-acted.auto.value ∙ i.7,
+      c.act-acted.auto.labels ∙ i.8,
+      c.tell-done.auto.output ∙ i.9,
     ) in
     lengths.6
 
 pub shape_of-value-in_default-rest : goal.shape_of-value-in_default-rest
 shape_of-value-in_default-rest c =
-    let lengths : (length c.act-acted.new.0 ≡ length c.args.principals.now) × (length c.act-acted.new.1.0 ≡ length c.args.principal_slots.now) × (length c.act-acted.new.1.1.0 ≡ length c.args.vars.now) × (length c.act-acted.new.1.1.1.0 ≡ length c.args.variable_slots.now) × (length c.act-acted.new.1.1.1.1.0 ≡ length c.args.locals.now) × (length c.act-acted.new.1.1.1.1.1.0 ≡ length c.args.local_slots.now) × (length c.act-acted.new.1.1.1.1.1.1.0 ≡ length c.args.assertions.now) × (length c.act-acted.new.1.1.1.1.1.1.1.0 ≡ length c.args.value.now) × (length c.act-acted.new.1.1.1.1.1.1.1.1.0 ≡ length c.args.labels.now) × (length c.tell-done.new.1.1.1.0 ≡ length c.args.output.now) = let i = c.loop-c.invariant.2 in (
-      c.act-acted.auto.0 ∙ i.0,
-      c.act-acted.auto.1.0 ∙ i.1,
-      c.act-acted.auto.1.1.0 ∙ i.2,
-      c.act-acted.auto.1.1.1.0 ∙ i.3,
-      c.act-acted.auto.1.1.1.1.0 ∙ i.4,
-      c.act-acted.auto.1.1.1.1.1.0 ∙ i.5,
-      c.act-acted.auto.1.1.1.1.1.1.0 ∙ i.6,
-      c.act-acted.auto.1.1.1.1.1.1.1.0 ∙ i.7,
-      c.act-acted.auto.1.1.1.1.1.1.1.1.0 ∙ i.8,
-      c.tell-done.auto.1.1.1.0 ∙ i.9,
+    let lengths : (length c.act-acted.new.principals ≡ length c.args.principals.now) × (length c.act-acted.new.principal_slots ≡ length c.args.principal_slots.now) × (length c.act-acted.new.vars ≡ length c.args.vars.now) × (length c.act-acted.new.variable_slots ≡ length c.args.variable_slots.now) × (length c.act-acted.new.locals ≡ length c.args.locals.now) × (length c.act-acted.new.local_slots ≡ length c.args.local_slots.now) × (length c.act-acted.new.assertions ≡ length c.args.assertions.now) × (length c.act-acted.new.value ≡ length c.args.value.now) × (length c.act-acted.new.labels ≡ length c.args.labels.now) × (length c.tell-done.new.output ≡ length c.args.output.now) = let i = c.loop-c.invariant.2 in (
+      c.act-acted.auto.principals ∙ i.0,
+      c.act-acted.auto.principal_slots ∙ i.1,
+      c.act-acted.auto.vars ∙ i.2,
+      c.act-acted.auto.variable_slots ∙ i.3,
+      c.act-acted.auto.locals ∙ i.4,
+      c.act-acted.auto.local_slots ∙ i.5,
+      c.act-acted.auto.assertions ∙ i.6,
+      c.act-acted.auto.value ∙ i.7,
+      c.act-acted.auto.labels ∙ i.8,
+      c.tell-done.auto.output ∙ i.9,
     ) in
     lengths.7
 
 pub shape_of-labels-in_default-rest : goal.shape_of-labels-in_default-rest
 shape_of-labels-in_default-rest c =
-    let lengths : (length c.act-acted.new.0 ≡ length c.args.principals.now) × (length c.act-acted.new.1.0 ≡ length c.args.principal_slots.now) × (length c.act-acted.new.1.1.0 ≡ length c.args.vars.now) × (length c.act-acted.new.1.1.1.0 ≡ length c.args.variable_slots.now) × (length c.act-acted.new.1.1.1.1.0 ≡ length c.args.locals.now) × (length c.act-acted.new.1.1.1.1.1.0 ≡ length c.args.local_slots.now) × (length c.act-acted.new.1.1.1.1.1.1.0 ≡ length c.args.assertions.now) × (length c.act-acted.new.1.1.1.1.1.1.1.0 ≡ length c.args.value.now) × (length c.act-acted.new.1.1.1.1.1.1.1.1.0 ≡ length c.args.labels.now) × (length c.tell-done.new.1.1.1.0 ≡ length c.args.output.now) = let i = c.loop-c.invariant.2 in (
-      c.act-acted.auto.0 ∙ i.0,
-      c.act-acted.auto.1.0 ∙ i.1,
-      c.act-acted.auto.1.1.0 ∙ i.2,
-      c.act-acted.auto.1.1.1.0 ∙ i.3,
-      c.act-acted.auto.1.1.1.1.0 ∙ i.4,
-      c.act-acted.auto.1.1.1.1.1.0 ∙ i.5,
-      c.act-acted.auto.1.1.1.1.1.1.0 ∙ i.6,
-      c.act-acted.auto.1.1.1.1.1.1.1.0 ∙ i.7,
-      c.act-acted.auto.1.1.1.1.1.1.1.1.0 ∙ i.8,
-      c.tell-done.auto.1.1.1.0 ∙ i.9,
+    let lengths : (length c.act-acted.new.principals ≡ length c.args.principals.now) × (length c.act-acted.new.principal_slots ≡ length c.args.principal_slots.now) × (length c.act-acted.new.vars ≡ length c.args.vars.now) × (length c.act-acted.new.variable_slots ≡ length c.args.variable_slots.now) × (length c.act-acted.new.locals ≡ length c.args.locals.now) × (length c.act-acted.new.local_slots ≡ length c.args.local_slots.now) × (length c.act-acted.new.assertions ≡ length c.args.assertions.now) × (length c.act-acted.new.value ≡ length c.args.value.now) × (length c.act-acted.new.labels ≡ length c.args.labels.now) × (length c.tell-done.new.output ≡ length c.args.output.now) = let i = c.loop-c.invariant.2 in (
+      c.act-acted.auto.principals ∙ i.0,
+      c.act-acted.auto.principal_slots ∙ i.1,
+      c.act-acted.auto.vars ∙ i.2,
+      c.act-acted.auto.variable_slots ∙ i.3,
+      c.act-acted.auto.locals ∙ i.4,
+      c.act-acted.auto.local_slots ∙ i.5,
+      c.act-acted.auto.assertions ∙ i.6,
+      c.act-acted.auto.value ∙ i.7,
+      c.act-acted.auto.labels ∙ i.8,
+      c.tell-done.auto.output ∙ i.9,
     ) in
     lengths.8
 
 pub shape_of-output-in_default-rest : goal.shape_of-output-in_default-rest
 shape_of-output-in_default-rest c =
-    let lengths : (length c.act-acted.new.0 ≡ length c.args.principals.now) × (length c.act-acted.new.1.0 ≡ length c.args.principal_slots.now) × (length c.act-acted.new.1.1.0 ≡ length c.args.vars.now) × (length c.act-acted.new.1.1.1.0 ≡ length c.args.variable_slots.now) × (length c.act-acted.new.1.1.1.1.0 ≡ length c.args.locals.now) × (length c.act-acted.new.1.1.1.1.1.0 ≡ length c.args.local_slots.now) × (length c.act-acted.new.1.1.1.1.1.1.0 ≡ length c.args.assertions.now) × (length c.act-acted.new.1.1.1.1.1.1.1.0 ≡ length c.args.value.now) × (length c.act-acted.new.1.1.1.1.1.1.1.1.0 ≡ length c.args.labels.now) × (length c.tell-done.new.1.1.1.0 ≡ length c.args.output.now) = let i = c.loop-c.invariant.2 in (
-      c.act-acted.auto.0 ∙ i.0,
-      c.act-acted.auto.1.0 ∙ i.1,
-      c.act-acted.auto.1.1.0 ∙ i.2,
-      c.act-acted.auto.1.1.1.0 ∙ i.3,
-      c.act-acted.auto.1.1.1.1.0 ∙ i.4,
-      c.act-acted.auto.1.1.1.1.1.0 ∙ i.5,
-      c.act-acted.auto.1.1.1.1.1.1.0 ∙ i.6,
-      c.act-acted.auto.1.1.1.1.1.1.1.0 ∙ i.7,
-      c.act-acted.auto.1.1.1.1.1.1.1.1.0 ∙ i.8,
-      c.tell-done.auto.1.1.1.0 ∙ i.9,
+    let lengths : (length c.act-acted.new.principals ≡ length c.args.principals.now) × (length c.act-acted.new.principal_slots ≡ length c.args.principal_slots.now) × (length c.act-acted.new.vars ≡ length c.args.vars.now) × (length c.act-acted.new.variable_slots ≡ length c.args.variable_slots.now) × (length c.act-acted.new.locals ≡ length c.args.locals.now) × (length c.act-acted.new.local_slots ≡ length c.args.local_slots.now) × (length c.act-acted.new.assertions ≡ length c.args.assertions.now) × (length c.act-acted.new.value ≡ length c.args.value.now) × (length c.act-acted.new.labels ≡ length c.args.labels.now) × (length c.tell-done.new.output ≡ length c.args.output.now) = let i = c.loop-c.invariant.2 in (
+      c.act-acted.auto.principals ∙ i.0,
+      c.act-acted.auto.principal_slots ∙ i.1,
+      c.act-acted.auto.vars ∙ i.2,
+      c.act-acted.auto.variable_slots ∙ i.3,
+      c.act-acted.auto.locals ∙ i.4,
+      c.act-acted.auto.local_slots ∙ i.5,
+      c.act-acted.auto.assertions ∙ i.6,
+      c.act-acted.auto.value ∙ i.7,
+      c.act-acted.auto.labels ∙ i.8,
+      c.tell-done.auto.output ∙ i.9,
     ) in
     lengths.9
 
@@ -469,8 +469,8 @@ returns-in_default-rest c s R =
     let stage : (s : Session) → entered s → let l = c.loop-c in Stage s c.args.text.now c.args.at c.args.output.now l.l (slices l.principals l.principal_slots l.vars l.variable_slots l.locals l.local_slots l.assertions) l.p l.n l.lines l.output = λ s R. c.loop-c.invariant.1 s R in
     let first : (r : Rest) → c.in-Command.rest ≡ r → First c.args.text.now c.loop-c.p c.in-Command.c r = λ r is. known (First c.args.text.now c.loop-c.p c.in-Command.c)
     (known (ReadFrom c.args.text.now c.loop-c.p) c.read_at-read.ensures c.in-Command.is) is in
-    let left : Slices = slices c.act-acted.new.0 c.act-acted.new.1.0 c.act-acted.new.1.1.0 c.act-acted.new.1.1.1.0 c.act-acted.new.1.1.1.1.0 c.act-acted.new.1.1.1.1.1.0 c.act-acted.new.1.1.1.1.1.1.0 in
-    let printed : Text = c.tell-done.new.1.1.1.0 in
+    let left : Slices = slices c.act-acted.new.principals c.act-acted.new.principal_slots c.act-acted.new.vars c.act-acted.new.variable_slots c.act-acted.new.locals c.act-acted.new.local_slots c.act-acted.new.assertions in
+    let printed : Text = c.tell-done.new.output in
     let carried : (s : Session) (R : entered s) {rest : Rest} (F : First c.args.text.now c.loop-c.p c.in-Command.c rest) (r : Outcome) → c.tell-done.result ≡ r → Carried r (step (stage s R).session F.command) left.loop-c.output c.loop-c.n printed = λ s R F r e. let S = stage s R in
     known (λ (o : Outcome). Carried o (step S.session F.command) left.loop-c.output c.loop-c.n printed)
     (c.tell-done.ensures (step S.session F.command) S.session left (c.act-acted.ensures S.session F.command S.running F.meant)) e in
@@ -489,22 +489,22 @@ loop-c-preserved c =
     let stage : (s : Session) → entered s → let l = c.loop-c in Stage s c.args.text.now c.args.at c.args.output.now l.l (slices l.principals l.principal_slots l.vars l.variable_slots l.locals l.local_slots l.assertions) l.p l.n l.lines l.output = λ s R. c.loop-c.invariant.1 s R in
     let first : (r : Rest) → c.in-Command.rest ≡ r → First c.args.text.now c.loop-c.p c.in-Command.c r = λ r is. known (First c.args.text.now c.loop-c.p c.in-Command.c)
     (known (ReadFrom c.args.text.now c.loop-c.p) c.read_at-read.ensures c.in-Command.is) is in
-    let left : Slices = slices c.act-acted.new.0 c.act-acted.new.1.0 c.act-acted.new.1.1.0 c.act-acted.new.1.1.1.0 c.act-acted.new.1.1.1.1.0 c.act-acted.new.1.1.1.1.1.0 c.act-acted.new.1.1.1.1.1.1.0 in
-    let printed : Text = c.tell-done.new.1.1.1.0 in
+    let left : Slices = slices c.act-acted.new.principals c.act-acted.new.principal_slots c.act-acted.new.vars c.act-acted.new.variable_slots c.act-acted.new.locals c.act-acted.new.local_slots c.act-acted.new.assertions in
+    let printed : Text = c.tell-done.new.output in
     let carried : (s : Session) (R : entered s) {rest : Rest} (F : First c.args.text.now c.loop-c.p c.in-Command.c rest) (r : Outcome) → c.tell-done.result ≡ r → Carried r (step (stage s R).session F.command) left.loop-c.output c.loop-c.n printed = λ s R F r e. let S = stage s R in
     known (λ (o : Outcome). Carried o (step S.session F.command) left.loop-c.output c.loop-c.n printed)
     (c.tell-done.ensures (step S.session F.command) S.session left (c.act-acted.ensures S.session F.command S.running F.meant)) e in
-    let lengths : (length c.act-acted.new.0 ≡ length c.args.principals.now) × (length c.act-acted.new.1.0 ≡ length c.args.principal_slots.now) × (length c.act-acted.new.1.1.0 ≡ length c.args.vars.now) × (length c.act-acted.new.1.1.1.0 ≡ length c.args.variable_slots.now) × (length c.act-acted.new.1.1.1.1.0 ≡ length c.args.locals.now) × (length c.act-acted.new.1.1.1.1.1.0 ≡ length c.args.local_slots.now) × (length c.act-acted.new.1.1.1.1.1.1.0 ≡ length c.args.assertions.now) × (length c.act-acted.new.1.1.1.1.1.1.1.0 ≡ length c.args.value.now) × (length c.act-acted.new.1.1.1.1.1.1.1.1.0 ≡ length c.args.labels.now) × (length c.tell-done.new.1.1.1.0 ≡ length c.args.output.now) = let i = c.loop-c.invariant.2 in (
-      c.act-acted.auto.0 ∙ i.0,
-      c.act-acted.auto.1.0 ∙ i.1,
-      c.act-acted.auto.1.1.0 ∙ i.2,
-      c.act-acted.auto.1.1.1.0 ∙ i.3,
-      c.act-acted.auto.1.1.1.1.0 ∙ i.4,
-      c.act-acted.auto.1.1.1.1.1.0 ∙ i.5,
-      c.act-acted.auto.1.1.1.1.1.1.0 ∙ i.6,
-      c.act-acted.auto.1.1.1.1.1.1.1.0 ∙ i.7,
-      c.act-acted.auto.1.1.1.1.1.1.1.1.0 ∙ i.8,
-      c.tell-done.auto.1.1.1.0 ∙ i.9,
+    let lengths : (length c.act-acted.new.principals ≡ length c.args.principals.now) × (length c.act-acted.new.principal_slots ≡ length c.args.principal_slots.now) × (length c.act-acted.new.vars ≡ length c.args.vars.now) × (length c.act-acted.new.variable_slots ≡ length c.args.variable_slots.now) × (length c.act-acted.new.locals ≡ length c.args.locals.now) × (length c.act-acted.new.local_slots ≡ length c.args.local_slots.now) × (length c.act-acted.new.assertions ≡ length c.args.assertions.now) × (length c.act-acted.new.value ≡ length c.args.value.now) × (length c.act-acted.new.labels ≡ length c.args.labels.now) × (length c.tell-done.new.output ≡ length c.args.output.now) = let i = c.loop-c.invariant.2 in (
+      c.act-acted.auto.principals ∙ i.0,
+      c.act-acted.auto.principal_slots ∙ i.1,
+      c.act-acted.auto.vars ∙ i.2,
+      c.act-acted.auto.variable_slots ∙ i.3,
+      c.act-acted.auto.locals ∙ i.4,
+      c.act-acted.auto.local_slots ∙ i.5,
+      c.act-acted.auto.assertions ∙ i.6,
+      c.act-acted.auto.value ∙ i.7,
+      c.act-acted.auto.labels ∙ i.8,
+      c.tell-done.auto.output ∙ i.9,
     ) in
     let F = first _ c.in-At.is in
     (

@@ -27,7 +27,7 @@ pub returns-then-not-is_element : goal.returns-then-not-is_element
 returns-then-not-is_element c o p h k =
     let a = c.args in
     ap (λ (q : Option Element). compared_to (comparison_meant a.c) q p)
-    (no_element o a.first.now a.a h (sym c.is_element_lem.ensures ∙ not-true _ c.if-not-is_element.true-raw))
+    (no_element o a.first.now a.a h (sym c.is_element.ensures ∙ not-true _ c.if-not-is_element.true-raw))
 
 pub returns-then-not-is_element-2 : goal.returns-then-not-is_element-2
 returns-then-not-is_element-2 c o p h k =
@@ -38,7 +38,7 @@ returns-then-not-is_element-2 c o p h k =
 
 pub returns-then-weight_of-gt8192 : goal.returns-then-weight_of-gt8192
 returns-then-weight_of-gt8192 c o p h k =
-    let first_is : (o : Option Element) → ElementIn o c.args.first.now c.args.a → One o c.args.first.now c.args.a = λ o h. one o c.args.first.now c.args.a h (sym c.is_element_lem.ensures ∙ not-false _ c.if-not-is_element.false-raw) in
+    let first_is : (o : Option Element) → ElementIn o c.args.first.now c.args.a → One o c.args.first.now c.args.a = λ o h. one o c.args.first.now c.args.a h (sym c.is_element.ensures ∙ not-false _ c.if-not-is_element.false-raw) in
     let second_is : (p : Option Element) → ElementIn p c.args.second.now c.args.b → One p c.args.second.now c.args.b = λ p k. one p c.args.second.now c.args.b k (sym c.is_element-2.ensures ∙ not-false _ c.if-not-is_element-2.false-raw) in
     let x = first_is o h in
     let y = second_is p k in
@@ -46,7 +46,7 @@ returns-then-weight_of-gt8192 c o p h k =
 
 pub returns-then-weight_of-gt8192-2 : goal.returns-then-weight_of-gt8192-2
 returns-then-weight_of-gt8192-2 c o p h k =
-    let first_is : (o : Option Element) → ElementIn o c.args.first.now c.args.a → One o c.args.first.now c.args.a = λ o h. one o c.args.first.now c.args.a h (sym c.is_element_lem.ensures ∙ not-false _ c.if-not-is_element.false-raw) in
+    let first_is : (o : Option Element) → ElementIn o c.args.first.now c.args.a → One o c.args.first.now c.args.a = λ o h. one o c.args.first.now c.args.a h (sym c.is_element.ensures ∙ not-false _ c.if-not-is_element.false-raw) in
     let second_is : (p : Option Element) → ElementIn p c.args.second.now c.args.b → One p c.args.second.now c.args.b = λ p k. one p c.args.second.now c.args.b k (sym c.is_element-2.ensures ∙ not-false _ c.if-not-is_element-2.false-raw) in
     let x = first_is o h in
     let y = second_is p k in
@@ -54,7 +54,7 @@ returns-then-weight_of-gt8192-2 c o p h k =
 
 pub returns : goal.returns
 returns c o p h k =
-    let first_is : (o : Option Element) → ElementIn o c.args.first.now c.args.a → One o c.args.first.now c.args.a = λ o h. one o c.args.first.now c.args.a h (sym c.is_element_lem.ensures ∙ not-false _ c.if-not-is_element.false-raw) in
+    let first_is : (o : Option Element) → ElementIn o c.args.first.now c.args.a → One o c.args.first.now c.args.a = λ o h. one o c.args.first.now c.args.a h (sym c.is_element.ensures ∙ not-false _ c.if-not-is_element.false-raw) in
     let second_is : (p : Option Element) → ElementIn p c.args.second.now c.args.b → One p c.args.second.now c.args.b = λ p k. one p c.args.second.now c.args.b k (sym c.is_element-2.ensures ∙ not-false _ c.if-not-is_element-2.false-raw) in
     let x = first_is o h in
     let y = second_is p k in
@@ -62,4 +62,4 @@ returns c o p h k =
     let w = c.weight_of.ensures x.element x.stands in
     let z = c.weight_of-2.ensures y.element y.stands in
     let l = answered (comparison_meant c.args.c) o p x.element y.element x.is_element_lem y.is_element_lem (omega (arith, c.if-weight_of-gt8192.false, w)) (omega (arith, c.if-weight_of-gt8192-2.false, z)) in
-    subst (λ (r : Outcome Value). Valued c.put_answer.result r c.put_answer.new.1.0) (ap (λ (b : Bool). gives (answer b)) e ∙ sym l) c.put_answer.ensures
+    subst (λ (r : Outcome Value). Valued c.put_answer.result r c.put_answer.new.out) (ap (λ (b : Bool). gives (answer b)) e ∙ sym l) c.put_answer.ensures

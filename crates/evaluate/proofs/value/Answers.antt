@@ -63,21 +63,21 @@ put_comparison-requires c =
     }
 
 pub returns-in-Single : goal.returns-in-Single
-returns-in-Single c s x S m = valued-at c.put_operand.result s c.put_operand.new.1.1.1.1.1.1.1.1.0 (single_meant c.args.text.now c.args.e c.in-Single.v x c.in-Single.is m) (c.put_operand.ensures s S)
+returns-in-Single c s x S m = valued-at c.put_operand.result s c.put_operand.new.out (single_meant c.args.text.now c.args.e c.in-Single.v x c.in-Single.is m) (c.put_operand.ensures s S)
 
 pub returns-in-Empty : goal.returns-in-Empty
-returns-in-Empty c s x S m = valued-at c.put_empty.result s c.put_empty.new.0 (empty_meant c.args.text.now c.args.e x c.in-Empty.is m) c.put_empty.ensures
+returns-in-Empty c s x S m = valued-at c.put_empty.result s c.put_empty.new.out (empty_meant c.args.text.now c.args.e x c.in-Empty.is m) c.put_empty.ensures
 
 pub returns-in-Record : goal.returns-in-Record
 returns-in-Record c s x S m =
     let F = record_meant c.args.text.now c.args.e c.in-Record.at x c.in-Record.is m in
-    valued-at c.put_fields.result s c.put_fields.new.1.1.1.1.1.1.1.1.0 F.is_record (c.put_fields.ensures s F.bindings F.others S F.here)
+    valued-at c.put_fields.result s c.put_fields.new.out F.is_record (c.put_fields.ensures s F.bindings F.others S F.here)
 
 pub returns-in-Lower : goal.returns-in-Lower
-returns-in-Lower c s x S m = valued-at c.put_lower.result s c.put_lower.new.1.1.1.1.1.1.1.1.0 (lower_meant c.args.text.now c.args.e c.in-Lower.v x c.in-Lower.is m) (c.put_lower.ensures s S)
+returns-in-Lower c s x S m = valued-at c.put_lower.result s c.put_lower.new.out (lower_meant c.args.text.now c.args.e c.in-Lower.v x c.in-Lower.is m) (c.put_lower.ensures s S)
 
 pub returns-in-Call : goal.returns-in-Call
-returns-in-Call c s x S m = valued-at c.put_call.result s c.put_call.new.1.1.1.1.1.1.1.1.1.1.0 (call_meant c.args.text.now c.args.e c.in-Call.f c.in-Call.v c.in-Call.w x c.in-Call.is m) (c.put_call.ensures s S)
+returns-in-Call c s x S m = valued-at c.put_call.result s c.put_call.new.out (call_meant c.args.text.now c.args.e c.in-Call.f c.in-Call.v c.in-Call.w x c.in-Call.is m) (c.put_call.ensures s S)
 
 pub returns-in-Compare : goal.returns-in-Compare
-returns-in-Compare c s x S m = valued-at c.put_comparison.result s c.put_comparison.new.1.1.1.1.1.1.1.1.1.1.0 (compare_meant c.args.text.now c.args.e c.in-Compare.c c.in-Compare.v c.in-Compare.w x c.in-Compare.is m) (c.put_comparison.ensures s S)
+returns-in-Compare c s x S m = valued-at c.put_comparison.result s c.put_comparison.new.out (compare_meant c.args.text.now c.args.e c.in-Compare.c c.in-Compare.v c.in-Compare.w x c.in-Compare.is m) (c.put_comparison.ensures s S)

@@ -40,7 +40,7 @@ pub returns-in-Term : goal.returns-in-Term
 returns-in-Term c s x A W q =
     let T = as_term A c.in-Term.t c.in-Term.is in
     (
-      subst (λ (y : Syntax.Expr). Tells c.answer.result s (names s y) (value s y) c.answer.new.1.1.1.1.1.1.1.1.1.1.1.1.1.0) (sym T.is)
+      subst (λ (y : Syntax.Expr). Tells c.answer.result s (names s y) (value s y) c.answer.new.out) (sym T.is)
           (c.answer.ensures s T.the_term A.held W T.meant (knows_first s T.the_term [] c.args.known (subst (λ (y : Syntax.Expr). Knows c.args.known s (terms y)) T.is q))),
       A,
     )

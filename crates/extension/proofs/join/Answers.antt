@@ -64,7 +64,7 @@ returns-in_default c s v es R i W =
     c.find-found.ensures (map variable_row s.locals) (variables_rows s.locals (take a.l.locals_len a.locals.now) a.l.locals a.local_slots.now R.local_variables) in
     let a = c.args in
     let n = not_there s.locals (take a.l.locals_len a.locals.now) a.l.locals a.local_slots.now R.local_variables a.name.now c.find-found.result (looked-up s R) c.in_default.is in
-    subst (λ (z : List Element). Assigns c.join_shared.result (assign s a.name.now (list z)) (slices a.principals.now a.principal_slots.now c.join_shared.new.1.1.0 c.join_shared.new.1.1.1.0 a.locals.now a.local_slots.now a.assertions.now))
+    subst (λ (z : List Element). Assigns c.join_shared.result (assign s a.name.now (list z)) (slices a.principals.now a.principal_slots.now c.join_shared.new.vars c.join_shared.new.variable_slots a.locals.now a.local_slots.now a.assertions.now))
     (extend_adds es v) (c.join_shared.ensures s a.locals.now a.local_slots.now es (added_by v) R n (in_second (value_in s.locals a.name.now) (value_in s.store.variables a.name.now) n i) (c.elements_of-more.ensures v W).extra)
 
 pub slice_bounds-extend-count : goal.slice_bounds-extend-count
@@ -115,7 +115,7 @@ returns-in_default-put c s v es R i W =
     let h = both_valid L a.name.now c.in-At.number k F.number es fs j _ _ X in
     subst (λ (z : List Element). limit < session_weight (assign s a.name.now (list z))) (extend_adds es v)
     (local_full s a.l b R a.name.now (list (es ++ fs)) h (list es) j
-    (put_full s.locals (put a.name.now (list (es ++ fs)) s.locals) a.l.weight c.extend-put.result c.extend-put.new.0 a.l.locals c.extend-put.new.1.1.0
+    (put_full s.locals (put a.name.now (list (es ++ fs)) s.locals) a.l.weight c.extend-put.result c.extend-put.new.buf a.l.locals c.extend-put.new.slots
     (c.extend-put.ensures s.locals a.name.now es fs L F.number j X) c.in_default-put.is))
 
 pub returns : goal.returns
@@ -133,8 +133,8 @@ returns c s v es R i W =
     let j = in_first (value_in s.locals a.name.now) (value_in s.store.variables a.name.now) F.is_value i in
     let L = locals_lie s a.l b R in
     let h = both_valid L a.name.now c.in-At.number k F.number es fs j _ _ X in
-    subst (λ (z : List Element). Running (assign s a.name.now (list z)) c.with_locals.result (slices a.principals.now a.principal_slots.now a.vars.now a.variable_slots.now c.extend-put.new.0 c.extend-put.new.1.1.0 a.assertions.now)) (extend_adds es v)
-    (subst (λ (k : Layout). Running (assign s a.name.now (list (es ++ fs))) k (slices a.principals.now a.principal_slots.now a.vars.now a.variable_slots.now c.extend-put.new.0 c.extend-put.new.1.1.0 a.assertions.now)) (sym c.with_locals.ensures)
-    (local_done s a.l b R a.name.now (list (es ++ fs)) h (list es) j c.extend-put.new.0 c.extend-put.new.1.1.0 c.in-Done.n c.in-Done.w c.extend-put.auto.0
-    (put_done s.locals (put a.name.now (list (es ++ fs)) s.locals) a.l.weight c.extend-put.result c.extend-put.new.0 a.l.locals c.extend-put.new.1.1.0
+    subst (λ (z : List Element). Running (assign s a.name.now (list z)) c.with_locals.result (slices a.principals.now a.principal_slots.now a.vars.now a.variable_slots.now c.extend-put.new.buf c.extend-put.new.slots a.assertions.now)) (extend_adds es v)
+    (subst (λ (k : Layout). Running (assign s a.name.now (list (es ++ fs))) k (slices a.principals.now a.principal_slots.now a.vars.now a.variable_slots.now c.extend-put.new.buf c.extend-put.new.slots a.assertions.now)) (sym c.with_locals.ensures)
+    (local_done s a.l b R a.name.now (list (es ++ fs)) h (list es) j c.extend-put.new.buf c.extend-put.new.slots c.in-Done.n c.in-Done.w c.extend-put.auto.buf
+    (put_done s.locals (put a.name.now (list (es ++ fs)) s.locals) a.l.weight c.extend-put.result c.extend-put.new.buf a.l.locals c.extend-put.new.slots
     (c.extend-put.ensures s.locals a.name.now es fs L F.number j X) c.in-Done.n c.in-Done.w c.in-Done.is)))

@@ -75,7 +75,7 @@ returns-in_default-put c s lo lm es fs R el i X =
     let L = shared_lie s a.l b R a.l.weight (omega arith) in
     let h = both_valid L a.name.now c.in-At.number k F.number es fs i a.more.now a.weight X in
     shared_full s a.l b R a.name.now (list (es ++ fs)) h c.requires.1 el (list es) i
-    (put_full s.store.variables (put a.name.now (list (es ++ fs)) s.store.variables) a.l.weight c.extend-put.result c.extend-put.new.0 a.l.vars c.extend-put.new.1.1.0
+    (put_full s.store.variables (put a.name.now (list (es ++ fs)) s.store.variables) a.l.weight c.extend-put.result c.extend-put.new.buf a.l.vars c.extend-put.new.slots
     (c.extend-put.ensures s.store.variables a.name.now es fs L F.number i X) c.in_default-put.is)
 
 pub returns : goal.returns
@@ -90,7 +90,7 @@ returns c s lo lm es fs R el i X =
     let F = there s.store.variables t a.l.vars a.variable_slots.now R.variables a.name.now c.find-found.result q c.in-At.number c.in-At.start c.in-At.end c.in-At.is in
     let L = shared_lie s a.l b R a.l.weight (omega arith) in
     let h = both_valid L a.name.now c.in-At.number k F.number es fs i a.more.now a.weight X in
-    subst (λ (k : Layout). Running (assign s a.name.now (list (es ++ fs))) k (slices a.principals.now a.principal_slots.now c.extend-put.new.0 c.extend-put.new.1.1.0 lo lm a.assertions.now)) (sym c.with_shared.ensures)
-    (shared_done s a.l b R a.name.now (list (es ++ fs)) h c.requires.1 el (list es) i c.extend-put.new.0 c.extend-put.new.1.1.0 c.in-Done.n c.in-Done.w c.extend-put.auto.0
-    (put_done s.store.variables (put a.name.now (list (es ++ fs)) s.store.variables) a.l.weight c.extend-put.result c.extend-put.new.0 a.l.vars c.extend-put.new.1.1.0
+    subst (λ (k : Layout). Running (assign s a.name.now (list (es ++ fs))) k (slices a.principals.now a.principal_slots.now c.extend-put.new.buf c.extend-put.new.slots lo lm a.assertions.now)) (sym c.with_shared.ensures)
+    (shared_done s a.l b R a.name.now (list (es ++ fs)) h c.requires.1 el (list es) i c.extend-put.new.buf c.extend-put.new.slots c.in-Done.n c.in-Done.w c.extend-put.auto.buf
+    (put_done s.store.variables (put a.name.now (list (es ++ fs)) s.store.variables) a.l.weight c.extend-put.result c.extend-put.new.buf a.l.vars c.extend-put.new.slots
     (c.extend-put.ensures s.store.variables a.name.now es fs L F.number i X) c.in-Done.n c.in-Done.w c.in-Done.is))

@@ -29,7 +29,7 @@ make_list-requires c =
     let lent : Slices = let a = c.args in slices a.principals.now a.principal_slots.now a.vars.now a.variable_slots.now a.locals.now a.local_slots.now a.assertions.now in
     let y_of : Text = part c.args.text.now c.args.y in
     let x-of : Text = part c.args.text.now c.args.x in
-    let prepared : (s : Session) (u : Expr) → Running s c.args.l lent → expr_meant c.args.text.now c.args.e ≡ some u → (r : Prepared) → c.prepare-p.result ≡ r → Prepares r s y_of x-of u c.prepare-p.new.1.1.1.1.1.1.1.0 = λ s u R m r e. subst (λ (p : Prepared). Prepares p s y_of x-of u c.prepare-p.new.1.1.1.1.1.1.1.0) e (c.prepare-p.ensures s u R m) in
+    let prepared : (s : Session) (u : Expr) → Running s c.args.l lent → expr_meant c.args.text.now c.args.e ≡ some u → (r : Prepared) → c.prepare-p.result ≡ r → Prepares r s y_of x-of u c.prepare-p.new.out = λ s u R m r e. subst (λ (p : Prepared). Prepares p s y_of x-of u c.prepare-p.new.out) e (c.prepare-p.ensures s u R m) in
     record {
       some_source = record { session = c.requires.some_running.session; expression = c.requires.some_each.0.says.expression; running = c.requires.some_running.running; meant = c.requires.some_each.0.says.meant; prepares = prepared c.requires.some_running.session c.requires.some_each.0.says.expression c.requires.some_running.running c.requires.some_each.0.says.meant _ c.in-List.is };
       some_each = c.requires.some_each;
@@ -40,7 +40,7 @@ returns-in-Denied c s u R m =
     let y_of : Text = part c.args.text.now c.args.y in
     let x-of : Text = part c.args.text.now c.args.x in
     let lent : Slices = let a = c.args in slices a.principals.now a.principal_slots.now a.vars.now a.variable_slots.now a.locals.now a.local_slots.now a.assertions.now in
-    let prepared : (s : Session) (u : Expr) → Running s c.args.l lent → expr_meant c.args.text.now c.args.e ≡ some u → (r : Prepared) → c.prepare-p.result ≡ r → Prepares r s y_of x-of u c.prepare-p.new.1.1.1.1.1.1.1.0 = λ s u R m r e. subst (λ (p : Prepared). Prepares p s y_of x-of u c.prepare-p.new.1.1.1.1.1.1.1.0) e (c.prepare-p.ensures s u R m) in
+    let prepared : (s : Session) (u : Expr) → Running s c.args.l lent → expr_meant c.args.text.now c.args.e ≡ some u → (r : Prepared) → c.prepare-p.result ≡ r → Prepares r s y_of x-of u c.prepare-p.new.out = λ s u R m r e. subst (λ (p : Prepared). Prepares p s y_of x-of u c.prepare-p.new.out) e (c.prepare-p.ensures s u R m) in
     list_denied s y_of x-of u c.args.way (prepared s u R m _ c.in-Denied.is)
 
 pub returns-in-Failed : goal.returns-in-Failed
@@ -48,7 +48,7 @@ returns-in-Failed c s u R m =
     let y_of : Text = part c.args.text.now c.args.y in
     let x-of : Text = part c.args.text.now c.args.x in
     let lent : Slices = let a = c.args in slices a.principals.now a.principal_slots.now a.vars.now a.variable_slots.now a.locals.now a.local_slots.now a.assertions.now in
-    let prepared : (s : Session) (u : Expr) → Running s c.args.l lent → expr_meant c.args.text.now c.args.e ≡ some u → (r : Prepared) → c.prepare-p.result ≡ r → Prepares r s y_of x-of u c.prepare-p.new.1.1.1.1.1.1.1.0 = λ s u R m r e. subst (λ (p : Prepared). Prepares p s y_of x-of u c.prepare-p.new.1.1.1.1.1.1.1.0) e (c.prepare-p.ensures s u R m) in
+    let prepared : (s : Session) (u : Expr) → Running s c.args.l lent → expr_meant c.args.text.now c.args.e ≡ some u → (r : Prepared) → c.prepare-p.result ≡ r → Prepares r s y_of x-of u c.prepare-p.new.out = λ s u R m r e. subst (λ (p : Prepared). Prepares p s y_of x-of u c.prepare-p.new.out) e (c.prepare-p.ensures s u R m) in
     let p = prepared s u R m _ c.in-Failed.is in ends_without s y_of x-of u c.args.way p.0 p.1
 
 pub returns-in-List : goal.returns-in-List
@@ -56,5 +56,5 @@ returns-in-List c s u R m =
     let lent : Slices = let a = c.args in slices a.principals.now a.principal_slots.now a.vars.now a.variable_slots.now a.locals.now a.local_slots.now a.assertions.now in
     let y_of : Text = part c.args.text.now c.args.y in
     let x-of : Text = part c.args.text.now c.args.x in
-    let prepared : (s : Session) (u : Expr) → Running s c.args.l lent → expr_meant c.args.text.now c.args.e ≡ some u → (r : Prepared) → c.prepare-p.result ≡ r → Prepares r s y_of x-of u c.prepare-p.new.1.1.1.1.1.1.1.0 = λ s u R m r e. subst (λ (p : Prepared). Prepares p s y_of x-of u c.prepare-p.new.1.1.1.1.1.1.1.0) e (c.prepare-p.ensures s u R m) in
+    let prepared : (s : Session) (u : Expr) → Running s c.args.l lent → expr_meant c.args.text.now c.args.e ≡ some u → (r : Prepared) → c.prepare-p.result ≡ r → Prepares r s y_of x-of u c.prepare-p.new.out = λ s u R m r e. subst (λ (p : Prepared). Prepares p s y_of x-of u c.prepare-p.new.out) e (c.prepare-p.ensures s u R m) in
     c.make_list.ensures s u R m (prepared s u R m _ c.in-List.is)

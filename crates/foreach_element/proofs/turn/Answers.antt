@@ -42,9 +42,9 @@ answer-r-requires c =
     let y_of : Text = part c.args.text.now c.args.y in
     let Turns : Session → Expr → Type 0 = λ s x. let a = c.args in
     Turning s x a.text.now (texts a.shared.now a.slots.now a.count a.scope.now a.local_slots.now) a.len a.number a.y a.e a.assertions.now a.n a.principals a.sender a.known in
-    let with-y : (s : Session) (x : Expr) (a : Element) → Turns s x → Holds (single a) c.args.element.now → let b = c.args in Asked (with_element s y_of a) x b.text.now (texts b.shared.now b.slots.now b.count c.add_variable-end.new.0 c.add_variable-end.new.1.1.0) c.add_variable-end.result (b.number + 1) b.e = λ s x a I h. with_last I a c.add_variable-end.new.0 c.add_variable-end.result c.add_variable-end.new.1.1.0
+    let with-y : (s : Session) (x : Expr) (a : Element) → Turns s x → Holds (single a) c.args.element.now → let b = c.args in Asked (with_element s y_of a) x b.text.now (texts b.shared.now b.slots.now b.count c.add_variable-end.new.buf c.add_variable-end.new.slots) c.add_variable-end.result (b.number + 1) b.e = λ s x a I h. with_last I a c.add_variable-end.new.buf c.add_variable-end.result c.add_variable-end.new.slots
     (c.add_variable-end.ensures.held s.locals (single a) I.asked.held.locals_held c.pre.0.y_named h.is_text_lem)
-    (omega (arith, c.add_variable-end.ensures.outside.within, c.add_variable-end.auto.0)) c.pre.0.y_named h.is_valid in
+    (omega (arith, c.add_variable-end.ensures.outside.within, c.add_variable-end.auto.buf)) c.pre.0.y_named h.is_valid in
     let ends : c.add_variable-end.result ≤ 57605 = let E = c.pre.1.1.0 in
     omega (arith, c.add_variable-end.ensures.size, c.pre.0.locals_short, (name_length y_of.pre.0.y_named).1, text_bound (single E.element) _ E.held, E.light) in
     record {
@@ -55,8 +55,8 @@ answer-r-requires c =
         sends = sends_with c.requires.some_turning.turning c.requires.some_element.0.element;
         knows = knows_with c.requires.some_turning.turning c.requires.some_element.0.element;
       };
-      fitted = fits c.args.e c.args.shared.now c.args.slots.now c.args.count c.args.scope.now c.add_variable-end.new.0 c.args.local_slots.now c.add_variable-end.new.1.1.0
-            (stack c.args.heads.now c.args.lens.now c.args.counts.now c.args.bounds.now) c.args.number c.add_variable-end.result c.requires.room c.add_variable-end.auto.0 c.add_variable-end.auto.1.1.0 ends;
+      fitted = fits c.args.e c.args.shared.now c.args.slots.now c.args.count c.args.scope.now c.add_variable-end.new.buf c.args.local_slots.now c.add_variable-end.new.slots
+            (stack c.args.heads.now c.args.lens.now c.args.counts.now c.args.bounds.now) c.args.number c.add_variable-end.result c.requires.room c.add_variable-end.auto.buf c.add_variable-end.auto.slots ends;
       text_len_bound = (c.requires.some_turning.text_short, c.requires.some_element.1);
     }
 
@@ -65,10 +65,10 @@ settled-requires c =
     let y_of : Text = part c.args.text.now c.args.y in
     let Turns : Session → Expr → Type 0 = λ s x. let a = c.args in
     Turning s x a.text.now (texts a.shared.now a.slots.now a.count a.scope.now a.local_slots.now) a.len a.number a.y a.e a.assertions.now a.n a.principals a.sender a.known in
-    let with-y : (s : Session) (x : Expr) (a : Element) → Turns s x → Holds (single a) c.args.element.now → let b = c.args in Asked (with_element s y_of a) x b.text.now (texts b.shared.now b.slots.now b.count c.add_variable-end.new.0 c.add_variable-end.new.1.1.0) c.add_variable-end.result (b.number + 1) b.e = λ s x a I h. with_last I a c.add_variable-end.new.0 c.add_variable-end.result c.add_variable-end.new.1.1.0
+    let with-y : (s : Session) (x : Expr) (a : Element) → Turns s x → Holds (single a) c.args.element.now → let b = c.args in Asked (with_element s y_of a) x b.text.now (texts b.shared.now b.slots.now b.count c.add_variable-end.new.buf c.add_variable-end.new.slots) c.add_variable-end.result (b.number + 1) b.e = λ s x a I h. with_last I a c.add_variable-end.new.buf c.add_variable-end.result c.add_variable-end.new.slots
     (c.add_variable-end.ensures.held s.locals (single a) I.asked.held.locals_held c.pre.0.y_named h.is_text_lem)
-    (omega (arith, c.add_variable-end.ensures.outside.within, c.add_variable-end.auto.0)) c.pre.0.y_named h.is_valid in
-    let answered : (s : Session) (x : Expr) (a : Element) → Turns s x → Holds (single a) c.args.element.now → let b = c.args in let t = with_element s y_of a in Tells c.answer-r.result t (names t x) (Expressions.value t x) c.answer-r.new.1.1.1.1.1.1.1.1.1.1.1.1.1.1.1.1.1.1.0 × Asked t x b.text.now (texts b.shared.now b.slots.now b.count c.answer-r.new.1.1.1.0 c.answer-r.new.1.1.1.1.1.0) c.add_variable-end.result (b.number + 1) b.e = λ s x a I h. c.answer-r.ensures (with_element s y_of a) x (with-y s x a I h) (sends_with I a) (knows_with I a) in
+    (omega (arith, c.add_variable-end.ensures.outside.within, c.add_variable-end.auto.buf)) c.pre.0.y_named h.is_valid in
+    let answered : (s : Session) (x : Expr) (a : Element) → Turns s x → Holds (single a) c.args.element.now → let b = c.args in let t = with_element s y_of a in Tells c.answer-r.result t (names t x) (Expressions.value t x) c.answer-r.new.out × Asked t x b.text.now (texts b.shared.now b.slots.now b.count c.answer-r.new.scope c.answer-r.new.local_slots) c.add_variable-end.result (b.number + 1) b.e = λ s x a I h. c.answer-r.ensures (with_element s y_of a) x (with-y s x a I h) (sends_with I a) (knows_with I a) in
     let t = with_element c.requires.some_turning.session y_of.requires.some_element.0.element in (
       record {
         session = t;
@@ -77,7 +77,7 @@ settled-requires c =
         tells = (answered c.requires.some_turning.session c.requires.some_turning.expression c.requires.some_element.0.element c.requires.some_turning.turning c.requires.some_element.0.held).0;
       },
       c.requires.some_element.0,
-      omega (arith, c.requires.some_element.1.out_size, c.answer-r.auto.1.1.1.1.1.1.1.1.1.1.1.1.1.1.1.1.1.1.0),
+      omega (arith, c.requires.some_element.1.out_size, c.answer-r.auto.out),
     )
 
 pub returns : goal.returns
@@ -85,12 +85,12 @@ returns c s x a I h =
     let y_of : Text = part c.args.text.now c.args.y in
     let Turns : Session → Expr → Type 0 = λ s x. let a = c.args in
     Turning s x a.text.now (texts a.shared.now a.slots.now a.count a.scope.now a.local_slots.now) a.len a.number a.y a.e a.assertions.now a.n a.principals a.sender a.known in
-    let with-y : (s : Session) (x : Expr) (a : Element) → Turns s x → Holds (single a) c.args.element.now → let b = c.args in Asked (with_element s y_of a) x b.text.now (texts b.shared.now b.slots.now b.count c.add_variable-end.new.0 c.add_variable-end.new.1.1.0) c.add_variable-end.result (b.number + 1) b.e = λ s x a I h. with_last I a c.add_variable-end.new.0 c.add_variable-end.result c.add_variable-end.new.1.1.0
+    let with-y : (s : Session) (x : Expr) (a : Element) → Turns s x → Holds (single a) c.args.element.now → let b = c.args in Asked (with_element s y_of a) x b.text.now (texts b.shared.now b.slots.now b.count c.add_variable-end.new.buf c.add_variable-end.new.slots) c.add_variable-end.result (b.number + 1) b.e = λ s x a I h. with_last I a c.add_variable-end.new.buf c.add_variable-end.result c.add_variable-end.new.slots
     (c.add_variable-end.ensures.held s.locals (single a) I.asked.held.locals_held c.pre.0.y_named h.is_text_lem)
-    (omega (arith, c.add_variable-end.ensures.outside.within, c.add_variable-end.auto.0)) c.pre.0.y_named h.is_valid in
-    let answered : (s : Session) (x : Expr) (a : Element) → Turns s x → Holds (single a) c.args.element.now → let b = c.args in let t = with_element s y_of a in Tells c.answer-r.result t (names t x) (Expressions.value t x) c.answer-r.new.1.1.1.1.1.1.1.1.1.1.1.1.1.1.1.1.1.1.0 × Asked t x b.text.now (texts b.shared.now b.slots.now b.count c.answer-r.new.1.1.1.0 c.answer-r.new.1.1.1.1.1.0) c.add_variable-end.result (b.number + 1) b.e = λ s x a I h. c.answer-r.ensures (with_element s y_of a) x (with-y s x a I h) (sends_with I a) (knows_with I a) in
+    (omega (arith, c.add_variable-end.ensures.outside.within, c.add_variable-end.auto.buf)) c.pre.0.y_named h.is_valid in
+    let answered : (s : Session) (x : Expr) (a : Element) → Turns s x → Holds (single a) c.args.element.now → let b = c.args in let t = with_element s y_of a in Tells c.answer-r.result t (names t x) (Expressions.value t x) c.answer-r.new.out × Asked t x b.text.now (texts b.shared.now b.slots.now b.count c.answer-r.new.scope c.answer-r.new.local_slots) c.add_variable-end.result (b.number + 1) b.e = λ s x a I h. c.answer-r.ensures (with_element s y_of a) x (with-y s x a I h) (sends_with I a) (knows_with I a) in
     let t = with_element s y_of a in
     let A = answered s x a I h in (
-      c.settled.ensures s (names t x) (Expressions.value t x) a (told_outside s t.locals (names t x) c.answer-r.result (Expressions.value t x) c.answer-r.new.1.1.1.1.1.1.1.1.1.1.1.1.1.1.1.1.1.1.0 A.0) h,
-      without_last I a c.answer-r.new.1.1.1.0 c.add_variable-end.result c.answer-r.new.1.1.1.1.1.0 A.1 (c.answer-r.auto.1.1.1.0 ∙ c.add_variable-end.auto.0) (omega (arith, c.add_variable-end.ensures.size)),
+      c.settled.ensures s (names t x) (Expressions.value t x) a (told_outside s t.locals (names t x) c.answer-r.result (Expressions.value t x) c.answer-r.new.out A.0) h,
+      without_last I a c.answer-r.new.scope c.add_variable-end.result c.answer-r.new.local_slots A.1 (c.answer-r.auto.scope ∙ c.add_variable-end.auto.buf) (omega (arith, c.add_variable-end.ensures.size)),
     )

@@ -14,10 +14,10 @@ pub list_read-requires : goal.list_read-requires
 list_read-requires c = let W = c.requires.written in record { value = some W.value; held = W.held }
 
 pub returns-then-list_read : goal.returns-then-list_read
-returns-then-list_read c s xs o a t = (t.0, list_none o c.args.out.now a _ _ t.1 (sym c.if-list_read.true ∙ c.List-read.ensures (some t.1.value) t.1.held))
+returns-then-list_read c s xs o a t = (t.0, list_none o c.args.out.now a _ _ t.1 (sym c.if-list_read.true ∙ c.list_read.ensures (some t.1.value) t.1.held))
 
 pub overflow_add-result : goal.overflow_add-result
 overflow_add-result c = omega (arith, c.requires.written.light)
 
 pub returns : goal.returns
-returns c s xs o a t = (t.0, single_given o c.args.out.now a _ _ t.1 (sym c.if-list_read.false ∙ c.List-read.ensures (some t.1.value) t.1.held))
+returns c s xs o a t = (t.0, single_given o c.args.out.now a _ _ t.1 (sym c.if-list_read.false ∙ c.list_read.ensures (some t.1.value) t.1.held))

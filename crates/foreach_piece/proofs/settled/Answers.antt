@@ -51,5 +51,5 @@ returns-in-Replace c s xs o a t h =
 pub returns-in-Filter : goal.returns-in-Filter
 returns-in-Filter c s xs o a t h =
     let told : (s : Session) (xs : List Name) (o : Outcome Value) (r : Answered) → c.args.r ≡ r → Tells c.args.r s xs o c.args.out.now → Tells r s xs o c.args.out.now = λ s xs o r e t. subst (λ (q : Answered). Tells q s xs o c.args.out.now) e t in
-    subst (λ (w : Way). MadeOf Pieces c.keeping.result s xs (comes_to w a o) c.keeping.new.0) (sym c.in-Filter.is)
+    subst (λ (w : Way). MadeOf Pieces c.keeping.result s xs (comes_to w a o) c.keeping.new.out) (sym c.in-Filter.is)
     (c.keeping.ensures s xs o a (told s xs o _ c.in-Value.is t) h)

@@ -29,13 +29,13 @@ pub make_all-requires : goal.make_all-requires
 make_all-requires c =
     let Turns : Session → Expr → Type 0 = λ s x. let a = c.args in
     Turning s x a.text.now (texts a.shared.now a.slots.now a.count a.locals.now a.local_slots.now) a.len a.number a.y a.e a.assertions.now a.n a.principals a.sender a.known in
-    let aside : (s : Session) (x : Expr) → Turns s x → let a = c.args in Turning s x a.text.now (texts a.shared.now a.slots.now a.count c.copy.new.0 c.copy_slots.new.0) a.len a.number a.y a.e a.assertions.now a.n a.principals a.sender a.known = λ s x I. let a = c.args in
-    elsewhere I c.copy.last.0 c.copy_slots.new.0 (copied_front _ a.locals.now a.len I.asked.in_scope c.copy.last.0 c.copy.ensures)
-    (omega (arith, c.copy.kept.0, length-replicate {A = ℕ} 90373 0, c.pre.0.locals_short)) (copied_front _ a.local_slots.now a.number (omega (arith, c.pre.0.slots_room)) c.copy_slots.new.0 c.copy_slots.ensures) in
-    let p = c.copy.auto.0 ∙ length-replicate {A = ℕ} 90373 0 in
-    let q = c.copy_slots.auto.0 ∙ length-replicate {A = ℕ} 8192 0 in
+    let aside : (s : Session) (x : Expr) → Turns s x → let a = c.args in Turning s x a.text.now (texts a.shared.now a.slots.now a.count c.copy.new.dst c.copy_slots.new.dst) a.len a.number a.y a.e a.assertions.now a.n a.principals a.sender a.known = λ s x I. let a = c.args in
+    elsewhere I c.copy.last.dst c.copy_slots.new.dst (copied_front _ a.locals.now a.len I.asked.in_scope c.copy.last.dst c.copy.ensures)
+    (omega (arith, c.copy.kept.dst, length-replicate {A = ℕ} 90373 0, c.pre.0.locals_short)) (copied_front _ a.local_slots.now a.number (omega (arith, c.pre.0.slots_room)) c.copy_slots.new.dst c.copy_slots.ensures) in
+    let p = c.copy.auto.dst ∙ length-replicate {A = ℕ} 90373 0 in
+    let q = c.copy_slots.auto.dst ∙ length-replicate {A = ℕ} 8192 0 in
     let f = length-replicate {A = ℕ} 4096 0 in record {
-      some_turning = some_elsewhere c.requires.some_turning c.copy.new.0 c.copy_slots.new.0 (aside c.requires.some_turning.session c.requires.some_turning.expression c.requires.some_turning.turning) (omega (arith, q, c.requires.some_turning.few));
+      some_turning = some_elsewhere c.requires.some_turning c.copy.new.dst c.copy_slots.new.dst (aside c.requires.some_turning.session c.requires.some_turning.expression c.requires.some_turning.turning) (omega (arith, q, c.requires.some_turning.few));
       room = let_room c.args.e _ _ _ _ _ _ _ _ _ c.args.number p q f f f f c.requires.some_turning.few;
       some_list = c.requires.some_list;
     }
@@ -44,7 +44,7 @@ pub returns : goal.returns
 returns c s x es I h =
     let Turns : Session → Expr → Type 0 = λ s x. let a = c.args in
     Turning s x a.text.now (texts a.shared.now a.slots.now a.count a.locals.now a.local_slots.now) a.len a.number a.y a.e a.assertions.now a.n a.principals a.sender a.known in
-    let aside : (s : Session) (x : Expr) → Turns s x → let a = c.args in Turning s x a.text.now (texts a.shared.now a.slots.now a.count c.copy.new.0 c.copy_slots.new.0) a.len a.number a.y a.e a.assertions.now a.n a.principals a.sender a.known = λ s x I. let a = c.args in
-    elsewhere I c.copy.last.0 c.copy_slots.new.0 (copied_front _ a.locals.now a.len I.asked.in_scope c.copy.last.0 c.copy.ensures)
-    (omega (arith, c.copy.kept.0, length-replicate {A = ℕ} 90373 0, c.pre.0.locals_short)) (copied_front _ a.local_slots.now a.number (omega (arith, c.pre.0.slots_room)) c.copy_slots.new.0 c.copy_slots.ensures) in
+    let aside : (s : Session) (x : Expr) → Turns s x → let a = c.args in Turning s x a.text.now (texts a.shared.now a.slots.now a.count c.copy.new.dst c.copy_slots.new.dst) a.len a.number a.y a.e a.assertions.now a.n a.principals a.sender a.known = λ s x I. let a = c.args in
+    elsewhere I c.copy.last.dst c.copy_slots.new.dst (copied_front _ a.locals.now a.len I.asked.in_scope c.copy.last.dst c.copy.ensures)
+    (omega (arith, c.copy.kept.dst, length-replicate {A = ℕ} 90373 0, c.pre.0.locals_short)) (copied_front _ a.local_slots.now a.number (omega (arith, c.pre.0.slots_room)) c.copy_slots.new.dst c.copy_slots.ensures) in
     (c.make_all.ensures s x es (aside s x I) h).0

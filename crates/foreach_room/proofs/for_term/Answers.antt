@@ -23,12 +23,12 @@ pub make_all-requires : goal.make_all-requires
 make_all-requires c =
     let Turns : Session → Expr → Type 0 = λ s x. let a = c.args in
     Turning s x a.text.now (texts a.shared.now a.slots.now a.count a.locals.now a.local_slots.now) a.len a.number a.y a.e a.assertions.now a.n a.principals a.sender a.known in
-    let aside : (s : Session) (x : Expr) → Turns s x → let a = c.args in Turning s x a.text.now (texts a.shared.now a.slots.now a.count c.copy.new.0 a.local_slots.now) a.len a.number a.y a.e a.assertions.now a.n a.principals a.sender a.known = λ s x I. let a = c.args in
-    elsewhere I c.copy.new.0 a.local_slots.now (copied_front _ a.locals.now a.len I.asked.in_scope c.copy.new.0 c.copy.ensures)
-    (omega (arith, c.copy.auto.0, length-replicate {A = ℕ} 57605 0, c.pre.0.locals_short)) refl in
+    let aside : (s : Session) (x : Expr) → Turns s x → let a = c.args in Turning s x a.text.now (texts a.shared.now a.slots.now a.count c.copy.new.dst a.local_slots.now) a.len a.number a.y a.e a.assertions.now a.n a.principals a.sender a.known = λ s x I. let a = c.args in
+    elsewhere I c.copy.new.dst a.local_slots.now (copied_front _ a.locals.now a.len I.asked.in_scope c.copy.new.dst c.copy.ensures)
+    (omega (arith, c.copy.auto.dst, length-replicate {A = ℕ} 57605 0, c.pre.0.locals_short)) refl in
     record {
-      some_turning = some_elsewhere c.requires.some_turning c.copy.new.0 c.args.local_slots.now (aside c.requires.some_turning.session c.requires.some_turning.expression c.requires.some_turning.turning) c.requires.some_turning.slots_room;
-      room = term_room c.args.e c.requires.without_let _ _ c.args.number (c.copy.auto.0 ∙ length-replicate {A = ℕ} 57605 0);
+      some_turning = some_elsewhere c.requires.some_turning c.copy.new.dst c.args.local_slots.now (aside c.requires.some_turning.session c.requires.some_turning.expression c.requires.some_turning.turning) c.requires.some_turning.slots_room;
+      room = term_room c.args.e c.requires.without_let _ _ c.args.number (c.copy.auto.dst ∙ length-replicate {A = ℕ} 57605 0);
       some_list = c.requires.some_list;
     }
 
@@ -36,7 +36,7 @@ pub returns : goal.returns
 returns c s x es I h =
     let Turns : Session → Expr → Type 0 = λ s x. let a = c.args in
     Turning s x a.text.now (texts a.shared.now a.slots.now a.count a.locals.now a.local_slots.now) a.len a.number a.y a.e a.assertions.now a.n a.principals a.sender a.known in
-    let aside : (s : Session) (x : Expr) → Turns s x → let a = c.args in Turning s x a.text.now (texts a.shared.now a.slots.now a.count c.copy.new.0 a.local_slots.now) a.len a.number a.y a.e a.assertions.now a.n a.principals a.sender a.known = λ s x I. let a = c.args in
-    elsewhere I c.copy.new.0 a.local_slots.now (copied_front _ a.locals.now a.len I.asked.in_scope c.copy.new.0 c.copy.ensures)
-    (omega (arith, c.copy.auto.0, length-replicate {A = ℕ} 57605 0, c.pre.0.locals_short)) refl in
-    let r = c.make_all.ensures s x es (aside s x I) h in (r.0, brought_back I c.make_all.new.1.1.1.0 c.make_all.new.1.1.1.1.1.0 r.1)
+    let aside : (s : Session) (x : Expr) → Turns s x → let a = c.args in Turning s x a.text.now (texts a.shared.now a.slots.now a.count c.copy.new.dst a.local_slots.now) a.len a.number a.y a.e a.assertions.now a.n a.principals a.sender a.known = λ s x I. let a = c.args in
+    elsewhere I c.copy.new.dst a.local_slots.now (copied_front _ a.locals.now a.len I.asked.in_scope c.copy.new.dst c.copy.ensures)
+    (omega (arith, c.copy.auto.dst, length-replicate {A = ℕ} 57605 0, c.pre.0.locals_short)) refl in
+    let r = c.make_all.ensures s x es (aside s x I) h in (r.0, brought_back I c.make_all.new.scope c.make_all.new.local_slots r.1)

@@ -30,8 +30,8 @@ returns-then-not-list_read c s S =
     let x-of : Text = part c.args.text.now c.args.x in
     let Held : Session → Type 0 = λ s. let a = c.args in Scoped s a.l a.vars.now a.variable_slots.now a.locals.now a.local_slots.now in
     let undefined : (s : Session) → Held s → is_defined s y_of ≡ false = λ s S. sym (c.is_defined.ensures s S) ∙ c.if-is_defined.false in
-    no_list s y_of x-of (undefined s S) c.List-read.result
-    (c.List-read.ensures (lookup s x-of) (c.text_of-value.ensures s S)) (not-true c.List-read.result c.if-not-list_read.true-raw)
+    no_list s y_of x-of (undefined s S) c.list_read.result
+    (c.list_read.ensures (lookup s x-of) (c.text_of-value.ensures s S)) (not-true c.list_read.result c.if-not-list_read.true-raw)
 
 pub copy_in-n-requires : goal.copy_in-n-requires
 copy_in-n-requires c =
@@ -46,5 +46,5 @@ returns c s S =
     let Held : Session → Type 0 = λ s. let a = c.args in Scoped s a.l a.vars.now a.variable_slots.now a.locals.now a.local_slots.now in
     let undefined : (s : Session) → Held s → is_defined s y_of ≡ false = λ s S. sym (c.is_defined.ensures s S) ∙ c.if-is_defined.false in
     let R : ReadAs (lookup s x-of) c.text_of-value.result.now = c.text_of-value.ensures s S in
-    list_copied s y_of x-of (undefined s S) c.text_of-value.result.now R c.List-read.result
-    (c.List-read.ensures (lookup s x-of) R) (not-false c.List-read.result c.if-not-list_read.false-raw) _ _ _ c.copy_in-n.ensures
+    list_copied s y_of x-of (undefined s S) c.text_of-value.result.now R c.list_read.result
+    (c.list_read.ensures (lookup s x-of) R) (not-false c.list_read.result c.if-not-list_read.false-raw) _ _ _ c.copy_in-n.ensures

@@ -47,7 +47,7 @@ returns-in_default c s u R m =
     let Runs : Session → Type 0 = λ s. Running s c.args.l lent in
     let may : (s : Session) → Runs s → forbidden s x-of ≡ false = λ s R. c.may_replace.ensures s (sending s c.args.l lent R) ∙ ap not (not-false c.may_replace.result c.if-not-may_replace.false-raw) in
     let y_of : Text = part c.args.text.now c.args.y in
-    let found : (s : Session) → Runs s → (r : Source) → c.copy_list-found.result ≡ r → Sourced r (elements s y_of x-of) c.copy_list-found.new.1.1.1.1.1.1.1.1.0 = λ s R r e. subst (λ (q : Source). Sourced q (elements s y_of x-of) c.copy_list-found.new.1.1.1.1.1.1.1.1.0) e
+    let found : (s : Session) → Runs s → (r : Source) → c.copy_list-found.result ≡ r → Sourced r (elements s y_of x-of) c.copy_list-found.new.out = λ s R r e. subst (λ (q : Source). Sourced q (elements s y_of x-of) c.copy_list-found.new.out) e
     (c.copy_list-found.ensures s (scoped s c.args.l lent R)) in
     (may s R, found s R _ c.in_default.is)
 
@@ -58,9 +58,9 @@ returns-then-n-eq2 c s u R m =
     let Runs : Session → Type 0 = λ s. Running s c.args.l lent in
     let may : (s : Session) → Runs s → forbidden s x-of ≡ false = λ s R. c.may_replace.ensures s (sending s c.args.l lent R) ∙ ap not (not-false c.may_replace.result c.if-not-may_replace.false-raw) in
     let y_of : Text = part c.args.text.now c.args.y in
-    let found : (s : Session) → Runs s → (r : Source) → c.copy_list-found.result ≡ r → Sourced r (elements s y_of x-of) c.copy_list-found.new.1.1.1.1.1.1.1.1.0 = λ s R r e. subst (λ (q : Source). Sourced q (elements s y_of x-of) c.copy_list-found.new.1.1.1.1.1.1.1.1.0) e
+    let found : (s : Session) → Runs s → (r : Source) → c.copy_list-found.result ≡ r → Sourced r (elements s y_of x-of) c.copy_list-found.new.out = λ s R r e. subst (λ (q : Source). Sourced q (elements s y_of x-of) c.copy_list-found.new.out) e
     (c.copy_list-found.ensures s (scoped s c.args.l lent R)) in
-    let copied : (s : Session) → Runs s → Copied (elements s y_of x-of) c.copy_list-found.new.1.1.1.1.1.1.1.1.0 c.in-List.n = λ s R. found s R _ c.in-List.is in
+    let copied : (s : Session) → Runs s → Copied (elements s y_of x-of) c.copy_list-found.new.out c.in-List.n = λ s R. found s R _ c.in-List.is in
     (may s R, copied s R, tt)
 
 pub slice_bounds-known-end : goal.slice_bounds-known-end
@@ -78,7 +78,7 @@ returns c s u R m =
     let Runs : Session → Type 0 = λ s. Running s c.args.l lent in
     let may : (s : Session) → Runs s → forbidden s x-of ≡ false = λ s R. c.may_replace.ensures s (sending s c.args.l lent R) ∙ ap not (not-false c.may_replace.result c.if-not-may_replace.false-raw) in
     let y_of : Text = part c.args.text.now c.args.y in
-    let found : (s : Session) → Runs s → (r : Source) → c.copy_list-found.result ≡ r → Sourced r (elements s y_of x-of) c.copy_list-found.new.1.1.1.1.1.1.1.1.0 = λ s R r e. subst (λ (q : Source). Sourced q (elements s y_of x-of) c.copy_list-found.new.1.1.1.1.1.1.1.1.0) e
+    let found : (s : Session) → Runs s → (r : Source) → c.copy_list-found.result ≡ r → Sourced r (elements s y_of x-of) c.copy_list-found.new.out = λ s R r e. subst (λ (q : Source). Sourced q (elements s y_of x-of) c.copy_list-found.new.out) e
     (c.copy_list-found.ensures s (scoped s c.args.l lent R)) in
-    let copied : (s : Session) → Runs s → Copied (elements s y_of x-of) c.copy_list-found.new.1.1.1.1.1.1.1.1.0 c.in-List.n = λ s R. found s R _ c.in-List.is in
+    let copied : (s : Session) → Runs s → Copied (elements s y_of x-of) c.copy_list-found.new.out c.in-List.n = λ s R. found s R _ c.in-List.is in
     (may s R, copied s R, found_knows s (terms u) c.known-known.result (c.known-known.ensures s u (sends s c.args.l lent R) m))

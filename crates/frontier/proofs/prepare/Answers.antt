@@ -16,22 +16,22 @@ pub push-requires : goal.push-requires
 push-requires c =
     let sized : length (take c.args.n c.args.list) ≡ c.args.n = let whole : length c.args.list ≡ 2048 = c.well_formed.0.1.0.1 in
     length-take-le c.args.n c.args.list (omega (arith, c.requires)) in
-    let filed : Filed c.args.count (take c.args.n c.args.list) (length (take c.args.n c.args.list)) c.file.new.1.1.1.0 = let a = c.args in
-    subst (λ (m : ℕ). Filed a.count (take a.n a.list) m c.file.new.1.1.1.0) (sym sized) c.file.ensures in
+    let filed : Filed c.args.count (take c.args.n c.args.list) (length (take c.args.n c.args.list)) c.file.new.board = let a = c.args in
+    subst (λ (m : ℕ). Filed a.count (take a.n a.list) m c.file.new.board) (sym sized) c.file.ensures in
     let a = c.args in
-    filed_pushes a.count (take a.n a.list) c.file.new.1.1.1.0 c.requires.1 c.requires.2 filed
+    filed_pushes a.count (take a.n a.list) c.file.new.board c.requires.1 c.requires.2 filed
 
 pub shape_of-board : goal.shape_of-board
 shape_of-board c =
     let sized : length (take c.args.n c.args.list) ≡ c.args.n = let whole : length c.args.list ≡ 2048 = c.well_formed.0.1.0.1 in
     length-take-le c.args.n c.args.list (omega (arith, c.requires)) in
-    let filed : Filed c.args.count (take c.args.n c.args.list) (length (take c.args.n c.args.list)) c.file.new.1.1.1.0 = let a = c.args in
-    subst (λ (m : ℕ). Filed a.count (take a.n a.list) m c.file.new.1.1.1.0) (sym sized) c.file.ensures in
-    let prepared : Ready c.args.count (take c.args.n c.args.list) c.push.new.1.1.0 = let a = c.args in
+    let filed : Filed c.args.count (take c.args.n c.args.list) (length (take c.args.n c.args.list)) c.file.new.board = let a = c.args in
+    subst (λ (m : ℕ). Filed a.count (take a.n a.list) m c.file.new.board) (sym sized) c.file.ensures in
+    let prepared : Ready c.args.count (take c.args.n c.args.list) c.push.new.board = let a = c.args in
     let ys = take a.n a.list in
     let few : length ys ≤ 2048 = omega (arith, sized, c.requires) in
     subst (λ (x : List ℕ). Ready a.count ys x) (sym c.push.ensures)
-    (ready a.count ys c.file.new.1.1.1.0 c.requires.1 few filed) in
+    (ready a.count ys c.file.new.board c.requires.1 few filed) in
     let a = c.args in
     prepared.sized
     ∙ ap (board_size a.count) sized
@@ -41,11 +41,11 @@ pub returns : goal.returns
 returns c =
     let sized : length (take c.args.n c.args.list) ≡ c.args.n = let whole : length c.args.list ≡ 2048 = c.well_formed.0.1.0.1 in
     length-take-le c.args.n c.args.list (omega (arith, c.requires)) in
-    let filed : Filed c.args.count (take c.args.n c.args.list) (length (take c.args.n c.args.list)) c.file.new.1.1.1.0 = let a = c.args in
-    subst (λ (m : ℕ). Filed a.count (take a.n a.list) m c.file.new.1.1.1.0) (sym sized) c.file.ensures in
-    let prepared : Ready c.args.count (take c.args.n c.args.list) c.push.new.1.1.0 = let a = c.args in
+    let filed : Filed c.args.count (take c.args.n c.args.list) (length (take c.args.n c.args.list)) c.file.new.board = let a = c.args in
+    subst (λ (m : ℕ). Filed a.count (take a.n a.list) m c.file.new.board) (sym sized) c.file.ensures in
+    let prepared : Ready c.args.count (take c.args.n c.args.list) c.push.new.board = let a = c.args in
     let ys = take a.n a.list in
     let few : length ys ≤ 2048 = omega (arith, sized, c.requires) in
     subst (λ (x : List ℕ). Ready a.count ys x) (sym c.push.ensures)
-    (ready a.count ys c.file.new.1.1.1.0 c.requires.1 few filed) in
+    (ready a.count ys c.file.new.board c.requires.1 few filed) in
     prepared

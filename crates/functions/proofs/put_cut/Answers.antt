@@ -22,7 +22,7 @@ put_field-requires c =
     let text = a.text.now in
     let first = length-take-le (c.cut_at-k.result - 0) text (omega (arith, c.cut_at-k.ensures.within)) in
     let rest = length-take-le (length text - c.cut_at-k.result) (drop c.cut_at-k.result text) (omega (arith, length-drop c.cut_at-k.result text)) in
-    omega (arith, c.requires, c.cut_at-k.ensures.within, c.put_record-a.ensures.ends, c.put_record-a.auto.0, field_end (bytes "fst") (take (c.cut_at-k.result - 0) text) c.put_field-b.ensures, c.put_field-b.auto.0, first, rest)
+    omega (arith, c.requires, c.cut_at-k.ensures.within, c.put_record-a.ensures.ends, c.put_record-a.auto.out, field_end (bytes "fst") (take (c.cut_at-k.result - 0) text) c.put_field-b.ensures, c.put_field-b.auto.out, first, rest)
 
 pub returns : goal.returns
 returns c =

@@ -13,7 +13,7 @@ use Rattle.value_text.proofs.put_byte.Reads as put-byte-reads
 use Rattle.functions.proofs.put_lower.Goals as goal
 
 pub put_byte-requires : goal.put_byte-requires
-put_byte-requires c = omega (arith, c.requires, c.copy_lower-b.ensures.ends, c.copy_lower-b.auto.0, c.copy_in-a.ensures.ends, c.copy_in-a.auto.0, length-map c.args.text.now lower_byte)
+put_byte-requires c = omega (arith, c.requires, c.copy_lower-b.ensures.ends, c.copy_lower-b.auto.out, c.copy_in-a.ensures.ends, c.copy_in-a.auto.out, length-map c.args.text.now lower_byte)
 
 pub returns : goal.returns
 returns c = c.copy_in-a.ensures ▸ c.copy_lower-b.ensures ▸ c.put_byte.ensures

@@ -30,17 +30,17 @@ copy_slots-requires c =
 
 pub answer-requires : goal.answer-requires
 answer-requires c =
-    let there : (s : Session) (x : Expr) → (let a = c.args in Starts s x a.text.now (texts a.shared.now a.slots.now a.count a.locals.now a.local_slots.now) (length a.locals.now) a.number a.at) → let a = c.args in Starts s x a.text.now (texts a.shared.now a.slots.now a.count c.copy.new.0 c.copy_slots.new.0) (length a.locals.now) a.number a.at = λ s x S. let a = c.args in
-    starts_aside S c.copy.new.0 c.copy_slots.new.0 (ap (take (length a.locals.now)) c.copy.ensures ∙ over_front _ a.locals.now)
-    (omega (arith, c.copy.auto.0, length-replicate {A = ℕ} 65536 0, c.requires.some_aside.short))
-    (slots_front _ a.local_slots.now c.copy_slots.new.0 a.number (slots_enough S) c.copy_slots.ensures) in
+    let there : (s : Session) (x : Expr) → (let a = c.args in Starts s x a.text.now (texts a.shared.now a.slots.now a.count a.locals.now a.local_slots.now) (length a.locals.now) a.number a.at) → let a = c.args in Starts s x a.text.now (texts a.shared.now a.slots.now a.count c.copy.new.dst c.copy_slots.new.dst) (length a.locals.now) a.number a.at = λ s x S. let a = c.args in
+    starts_aside S c.copy.new.dst c.copy_slots.new.dst (ap (take (length a.locals.now)) c.copy.ensures ∙ over_front _ a.locals.now)
+    (omega (arith, c.copy.auto.dst, length-replicate {A = ℕ} 65536 0, c.requires.some_aside.short))
+    (slots_front _ a.local_slots.now c.copy_slots.new.dst a.number (slots_enough S) c.copy_slots.ensures) in
     let a = c.args in record {
       some_start = record { session = c.requires.some_aside.session; expression = c.requires.some_aside.expression; starts = there c.requires.some_aside.session c.requires.some_aside.expression c.requires.some_aside.starts; sends = c.requires.some_aside.sends; knows = tt };
       sized = record {
-          scope_size_lem = omega (arith, c.requires.some_aside.short, c.copy.auto.0, length-replicate {A = ℕ} 65536 0);
-          scope_small = omega (arith, c.copy.auto.0, length-replicate {A = ℕ} 65536 0);
-          slots_size = omega (arith, slots_enough c.requires.some_aside.starts, c.requires.some_aside.few, c.copy_slots.auto.0, length-replicate {A = ℕ} 8192 0);
-          slots_small = omega (arith, c.copy_slots.auto.0, length-replicate {A = ℕ} 8192 0);
+          scope_size_lem = omega (arith, c.requires.some_aside.short, c.copy.auto.dst, length-replicate {A = ℕ} 65536 0);
+          scope_small = omega (arith, c.copy.auto.dst, length-replicate {A = ℕ} 65536 0);
+          slots_size = omega (arith, slots_enough c.requires.some_aside.starts, c.requires.some_aside.few, c.copy_slots.auto.dst, length-replicate {A = ℕ} 8192 0);
+          slots_small = omega (arith, c.copy_slots.auto.dst, length-replicate {A = ℕ} 8192 0);
           deep = record {
             heads_size = length-replicate {A = ℕ} 4096 0;
             lens_size = length-replicate {A = ℕ} 4096 0;
@@ -53,8 +53,8 @@ answer-requires c =
 
 pub returns : goal.returns
 returns c s x S W =
-    let there : (s : Session) (x : Expr) → (let a = c.args in Starts s x a.text.now (texts a.shared.now a.slots.now a.count a.locals.now a.local_slots.now) (length a.locals.now) a.number a.at) → let a = c.args in Starts s x a.text.now (texts a.shared.now a.slots.now a.count c.copy.new.0 c.copy_slots.new.0) (length a.locals.now) a.number a.at = λ s x S. let a = c.args in
-    starts_aside S c.copy.new.0 c.copy_slots.new.0 (ap (take (length a.locals.now)) c.copy.ensures ∙ over_front _ a.locals.now)
-    (omega (arith, c.copy.auto.0, length-replicate {A = ℕ} 65536 0, c.requires.some_aside.short))
-    (slots_front _ a.local_slots.now c.copy_slots.new.0 a.number (slots_enough S) c.copy_slots.ensures) in
+    let there : (s : Session) (x : Expr) → (let a = c.args in Starts s x a.text.now (texts a.shared.now a.slots.now a.count a.locals.now a.local_slots.now) (length a.locals.now) a.number a.at) → let a = c.args in Starts s x a.text.now (texts a.shared.now a.slots.now a.count c.copy.new.dst c.copy_slots.new.dst) (length a.locals.now) a.number a.at = λ s x S. let a = c.args in
+    starts_aside S c.copy.new.dst c.copy_slots.new.dst (ap (take (length a.locals.now)) c.copy.ensures ∙ over_front _ a.locals.now)
+    (omega (arith, c.copy.auto.dst, length-replicate {A = ℕ} 65536 0, c.requires.some_aside.short))
+    (slots_front _ a.local_slots.now c.copy_slots.new.dst a.number (slots_enough S) c.copy_slots.ensures) in
     (c.answer.ensures s x (there s x S) W tt).0

@@ -50,8 +50,8 @@ returns-then-depth-eq0 c s x base number R Z W =
     let lent : Texts = let a = c.args in texts a.shared.now a.slots.now a.count a.scope.now a.local_slots.now in
     let pile : Stack = let a = c.args in stack a.heads.now a.lens.now a.counts.now a.bounds.now in
     let Reaches : Session → Expr → ℕ → ℕ → Type 0 = λ s x base number. Reached s x c.args.text.now lent pile base number c.args.at in
-    let tells : (s : Session) (x : Expr) (base number : ℕ) (R : Reaches s x base number) → (let a = c.args in Sends s a.shared.now a.slots.now a.count a.assertions.now a.n a.principals a.sender) → (r : Answered) → c.answer-r.result ≡ r → let a = c.args in Tells r (inner R a.e a.end here) (term_names here.term_read) (outcome R a.e a.end here) c.answer-r.new.1.1.1.1.1.1.1.1.1.1.1.1.1.0 = λ s x base number R W r e. let a = c.args in
-    subst (λ (v : Answered). Tells v (inner R a.e a.end here) (term_names here.term_read) (outcome R a.e a.end here) c.answer-r.new.1.1.1.1.1.1.1.1.1.1.1.1.1.0) e
+    let tells : (s : Session) (x : Expr) (base number : ℕ) (R : Reaches s x base number) → (let a = c.args in Sends s a.shared.now a.slots.now a.count a.assertions.now a.n a.principals a.sender) → (r : Answered) → c.answer-r.result ≡ r → let a = c.args in Tells r (inner R a.e a.end here) (term_names here.term_read) (outcome R a.e a.end here) c.answer-r.new.out = λ s x base number R W r e. let a = c.args in
+    subst (λ (v : Answered). Tells v (inner R a.e a.end here) (term_names here.term_read) (outcome R a.e a.end here) c.answer-r.new.out) e
     (c.answer-r.ensures (inner R a.e a.end here) here.term_read R.held (sends_any R.locals W) here.meant
     (first_known R a.e a.end here)) in
     let a = c.args in
@@ -64,11 +64,11 @@ slice_bounds-returned-end c =
     let pile : Stack = let a = c.args in stack a.heads.now a.lens.now a.counts.now a.bounds.now in
     let Reaches : Session → Expr → ℕ → ℕ → Type 0 = λ s x base number. Reached s x c.args.text.now lent pile base number c.args.at in
     let here : TermAt c.args.text.now c.args.at.p c.args.e c.args.end = term_at c.args.text.now c.args.at.p c.args.e c.args.end c.requires.at_term.0 in
-    let tells : (s : Session) (x : Expr) (base number : ℕ) (R : Reaches s x base number) → (let a = c.args in Sends s a.shared.now a.slots.now a.count a.assertions.now a.n a.principals a.sender) → (r : Answered) → c.answer-r.result ≡ r → let a = c.args in Tells r (inner R a.e a.end here) (term_names here.term_read) (outcome R a.e a.end here) c.answer-r.new.1.1.1.1.1.1.1.1.1.1.1.1.1.0 = λ s x base number R W r e. let a = c.args in
-    subst (λ (v : Answered). Tells v (inner R a.e a.end here) (term_names here.term_read) (outcome R a.e a.end here) c.answer-r.new.1.1.1.1.1.1.1.1.1.1.1.1.1.0) e
+    let tells : (s : Session) (x : Expr) (base number : ℕ) (R : Reaches s x base number) → (let a = c.args in Sends s a.shared.now a.slots.now a.count a.assertions.now a.n a.principals a.sender) → (r : Answered) → c.answer-r.result ≡ r → let a = c.args in Tells r (inner R a.e a.end here) (term_names here.term_read) (outcome R a.e a.end here) c.answer-r.new.out = λ s x base number R W r e. let a = c.args in
+    subst (λ (v : Answered). Tells v (inner R a.e a.end here) (term_names here.term_read) (outcome R a.e a.end here) c.answer-r.new.out) e
     (c.answer-r.ensures (inner R a.e a.end here) here.term_read R.held (sends_any R.locals W) here.meant
     (first_known R a.e a.end here)) in
-    let worth : (s : Session) (x : Expr) (base number : ℕ) (R : Reaches s x base number) → (let a = c.args in Sends s a.shared.now a.slots.now a.count a.assertions.now a.n a.principals a.sender) → let a = c.args in Tells (Is.Value c.in-Value.len c.in-Value.weight) (inner R a.e a.end here) (term_names here.term_read) (outcome R a.e a.end here) c.answer-r.new.1.1.1.1.1.1.1.1.1.1.1.1.1.0 = λ s x base number R W. tells s x base number R W (Is.Value c.in-Value.len c.in-Value.weight) c.in-Value.is in
+    let worth : (s : Session) (x : Expr) (base number : ℕ) (R : Reaches s x base number) → (let a = c.args in Sends s a.shared.now a.slots.now a.count a.assertions.now a.n a.principals a.sender) → let a = c.args in Tells (Is.Value c.in-Value.len c.in-Value.weight) (inner R a.e a.end here) (term_names here.term_read) (outcome R a.e a.end here) c.answer-r.new.out = λ s x base number R W. tells s x base number R W (Is.Value c.in-Value.len c.in-Value.weight) c.in-Value.is in
     (worth c.requires.some_left.session c.requires.some_left.expression c.requires.some_left.base c.requires.some_left.number c.requires.some_left.reached c.requires.some_left.sends).1.within
 
 pub slice_bounds-returned-end-in-Value : goal.slice_bounds-returned-end-in-Value
@@ -77,11 +77,11 @@ slice_bounds-returned-end-in-Value c =
     let pile : Stack = let a = c.args in stack a.heads.now a.lens.now a.counts.now a.bounds.now in
     let Reaches : Session → Expr → ℕ → ℕ → Type 0 = λ s x base number. Reached s x c.args.text.now lent pile base number c.args.at in
     let here : TermAt c.args.text.now c.args.at.p c.args.e c.args.end = term_at c.args.text.now c.args.at.p c.args.e c.args.end c.requires.at_term.0 in
-    let tells : (s : Session) (x : Expr) (base number : ℕ) (R : Reaches s x base number) → (let a = c.args in Sends s a.shared.now a.slots.now a.count a.assertions.now a.n a.principals a.sender) → (r : Answered) → c.answer-r.result ≡ r → let a = c.args in Tells r (inner R a.e a.end here) (term_names here.term_read) (outcome R a.e a.end here) c.answer-r.new.1.1.1.1.1.1.1.1.1.1.1.1.1.0 = λ s x base number R W r e. let a = c.args in
-    subst (λ (v : Answered). Tells v (inner R a.e a.end here) (term_names here.term_read) (outcome R a.e a.end here) c.answer-r.new.1.1.1.1.1.1.1.1.1.1.1.1.1.0) e
+    let tells : (s : Session) (x : Expr) (base number : ℕ) (R : Reaches s x base number) → (let a = c.args in Sends s a.shared.now a.slots.now a.count a.assertions.now a.n a.principals a.sender) → (r : Answered) → c.answer-r.result ≡ r → let a = c.args in Tells r (inner R a.e a.end here) (term_names here.term_read) (outcome R a.e a.end here) c.answer-r.new.out = λ s x base number R W r e. let a = c.args in
+    subst (λ (v : Answered). Tells v (inner R a.e a.end here) (term_names here.term_read) (outcome R a.e a.end here) c.answer-r.new.out) e
     (c.answer-r.ensures (inner R a.e a.end here) here.term_read R.held (sends_any R.locals W) here.meant
     (first_known R a.e a.end here)) in
-    let worth : (s : Session) (x : Expr) (base number : ℕ) (R : Reaches s x base number) → (let a = c.args in Sends s a.shared.now a.slots.now a.count a.assertions.now a.n a.principals a.sender) → let a = c.args in Tells (Is.Value c.in-Value.len c.in-Value.weight) (inner R a.e a.end here) (term_names here.term_read) (outcome R a.e a.end here) c.answer-r.new.1.1.1.1.1.1.1.1.1.1.1.1.1.0 = λ s x base number R W. tells s x base number R W (Is.Value c.in-Value.len c.in-Value.weight) c.in-Value.is in
+    let worth : (s : Session) (x : Expr) (base number : ℕ) (R : Reaches s x base number) → (let a = c.args in Sends s a.shared.now a.slots.now a.count a.assertions.now a.n a.principals a.sender) → let a = c.args in Tells (Is.Value c.in-Value.len c.in-Value.weight) (inner R a.e a.end here) (term_names here.term_read) (outcome R a.e a.end here) c.answer-r.new.out = λ s x base number R W. tells s x base number R W (Is.Value c.in-Value.len c.in-Value.weight) c.in-Value.is in
     sym (length-take-le _ _ (worth c.requires.some_left.session c.requires.some_left.expression c.requires.some_left.base c.requires.some_left.number c.requires.some_left.reached c.requires.some_left.sends).1.within)
 
 pub returned-requires : goal.returned-requires
@@ -90,14 +90,14 @@ returned-requires c =
     let pile : Stack = let a = c.args in stack a.heads.now a.lens.now a.counts.now a.bounds.now in
     let Reaches : Session → Expr → ℕ → ℕ → Type 0 = λ s x base number. Reached s x c.args.text.now lent pile base number c.args.at in
     let here : TermAt c.args.text.now c.args.at.p c.args.e c.args.end = term_at c.args.text.now c.args.at.p c.args.e c.args.end c.requires.at_term.0 in
-    let tells : (s : Session) (x : Expr) (base number : ℕ) (R : Reaches s x base number) → (let a = c.args in Sends s a.shared.now a.slots.now a.count a.assertions.now a.n a.principals a.sender) → (r : Answered) → c.answer-r.result ≡ r → let a = c.args in Tells r (inner R a.e a.end here) (term_names here.term_read) (outcome R a.e a.end here) c.answer-r.new.1.1.1.1.1.1.1.1.1.1.1.1.1.0 = λ s x base number R W r e. let a = c.args in
-    subst (λ (v : Answered). Tells v (inner R a.e a.end here) (term_names here.term_read) (outcome R a.e a.end here) c.answer-r.new.1.1.1.1.1.1.1.1.1.1.1.1.1.0) e
+    let tells : (s : Session) (x : Expr) (base number : ℕ) (R : Reaches s x base number) → (let a = c.args in Sends s a.shared.now a.slots.now a.count a.assertions.now a.n a.principals a.sender) → (r : Answered) → c.answer-r.result ≡ r → let a = c.args in Tells r (inner R a.e a.end here) (term_names here.term_read) (outcome R a.e a.end here) c.answer-r.new.out = λ s x base number R W r e. let a = c.args in
+    subst (λ (v : Answered). Tells v (inner R a.e a.end here) (term_names here.term_read) (outcome R a.e a.end here) c.answer-r.new.out) e
     (c.answer-r.ensures (inner R a.e a.end here) here.term_read R.held (sends_any R.locals W) here.meant
     (first_known R a.e a.end here)) in
-    let worth : (s : Session) (x : Expr) (base number : ℕ) (R : Reaches s x base number) → (let a = c.args in Sends s a.shared.now a.slots.now a.count a.assertions.now a.n a.principals a.sender) → let a = c.args in Tells (Is.Value c.in-Value.len c.in-Value.weight) (inner R a.e a.end here) (term_names here.term_read) (outcome R a.e a.end here) c.answer-r.new.1.1.1.1.1.1.1.1.1.1.1.1.1.0 = λ s x base number R W. tells s x base number R W (Is.Value c.in-Value.len c.in-Value.weight) c.in-Value.is in
-    let given : (s : Session) (x : Expr) (base number : ℕ) (R : Reaches s x base number) → (Sized lent pile base number) → (let a = c.args in Sends s a.shared.now a.slots.now a.count a.assertions.now a.n a.principals a.sender) → let a = c.args in Given s x a.text.now lent pile base number a.at.depth a.end c.behind.result (take c.in-Value.len c.answer-r.new.1.1.1.1.1.1.1.1.1.1.1.1.1.0) c.in-Value.weight = λ s x base number R Z W. let a = c.args in
+    let worth : (s : Session) (x : Expr) (base number : ℕ) (R : Reaches s x base number) → (let a = c.args in Sends s a.shared.now a.slots.now a.count a.assertions.now a.n a.principals a.sender) → let a = c.args in Tells (Is.Value c.in-Value.len c.in-Value.weight) (inner R a.e a.end here) (term_names here.term_read) (outcome R a.e a.end here) c.answer-r.new.out = λ s x base number R W. tells s x base number R W (Is.Value c.in-Value.len c.in-Value.weight) c.in-Value.is in
+    let given : (s : Session) (x : Expr) (base number : ℕ) (R : Reaches s x base number) → (Sized lent pile base number) → (let a = c.args in Sends s a.shared.now a.slots.now a.count a.assertions.now a.n a.principals a.sender) → let a = c.args in Given s x a.text.now lent pile base number a.at.depth a.end c.behind.result (take c.in-Value.len c.answer-r.new.out) c.in-Value.weight = λ s x base number R Z W. let a = c.args in
     let T = worth s x base number R W in
-    subst (λ (k : Known). Given s x a.text.now lent pile base number a.at.depth a.end k (take c.in-Value.len c.answer-r.new.1.1.1.1.1.1.1.1.1.1.1.1.1.0) c.in-Value.weight) (sym c.behind.ensures)
+    subst (λ (k : Known). Given s x a.text.now lent pile base number a.at.depth a.end k (take c.in-Value.len c.answer-r.new.out) c.in-Value.weight) (sym c.behind.ensures)
     (leave_given R a.e a.end here T.0 _ c.in-Value.len c.in-Value.weight (omega (arith, c.if-depth-eq0.false)) c.requires.at_term.0.placed.2 Z T.1) in
     record { session = c.requires.some_left.session; expression = c.requires.some_left.expression; base = c.requires.some_left.base; number = c.requires.some_left.number; given = given c.requires.some_left.session c.requires.some_left.expression c.requires.some_left.base c.requires.some_left.number c.requires.some_left.reached c.requires.some_left.sized c.requires.some_left.sends }
 
@@ -107,8 +107,8 @@ returns-in-Denied c s x base number R Z W =
     let lent : Texts = let a = c.args in texts a.shared.now a.slots.now a.count a.scope.now a.local_slots.now in
     let pile : Stack = let a = c.args in stack a.heads.now a.lens.now a.counts.now a.bounds.now in
     let Reaches : Session → Expr → ℕ → ℕ → Type 0 = λ s x base number. Reached s x c.args.text.now lent pile base number c.args.at in
-    let tells : (s : Session) (x : Expr) (base number : ℕ) (R : Reaches s x base number) → (let a = c.args in Sends s a.shared.now a.slots.now a.count a.assertions.now a.n a.principals a.sender) → (r : Answered) → c.answer-r.result ≡ r → let a = c.args in Tells r (inner R a.e a.end here) (term_names here.term_read) (outcome R a.e a.end here) c.answer-r.new.1.1.1.1.1.1.1.1.1.1.1.1.1.0 = λ s x base number R W r e. let a = c.args in
-    subst (λ (v : Answered). Tells v (inner R a.e a.end here) (term_names here.term_read) (outcome R a.e a.end here) c.answer-r.new.1.1.1.1.1.1.1.1.1.1.1.1.1.0) e
+    let tells : (s : Session) (x : Expr) (base number : ℕ) (R : Reaches s x base number) → (let a = c.args in Sends s a.shared.now a.slots.now a.count a.assertions.now a.n a.principals a.sender) → (r : Answered) → c.answer-r.result ≡ r → let a = c.args in Tells r (inner R a.e a.end here) (term_names here.term_read) (outcome R a.e a.end here) c.answer-r.new.out = λ s x base number R W r e. let a = c.args in
+    subst (λ (v : Answered). Tells v (inner R a.e a.end here) (term_names here.term_read) (outcome R a.e a.end here) c.answer-r.new.out) e
     (c.answer-r.ensures (inner R a.e a.end here) here.term_read R.held (sends_any R.locals W) here.meant
     (first_known R a.e a.end here)) in
     let a = c.args in
@@ -121,8 +121,8 @@ returns-in-Missing c s x base number R Z W =
     let lent : Texts = let a = c.args in texts a.shared.now a.slots.now a.count a.scope.now a.local_slots.now in
     let pile : Stack = let a = c.args in stack a.heads.now a.lens.now a.counts.now a.bounds.now in
     let Reaches : Session → Expr → ℕ → ℕ → Type 0 = λ s x base number. Reached s x c.args.text.now lent pile base number c.args.at in
-    let tells : (s : Session) (x : Expr) (base number : ℕ) (R : Reaches s x base number) → (let a = c.args in Sends s a.shared.now a.slots.now a.count a.assertions.now a.n a.principals a.sender) → (r : Answered) → c.answer-r.result ≡ r → let a = c.args in Tells r (inner R a.e a.end here) (term_names here.term_read) (outcome R a.e a.end here) c.answer-r.new.1.1.1.1.1.1.1.1.1.1.1.1.1.0 = λ s x base number R W r e. let a = c.args in
-    subst (λ (v : Answered). Tells v (inner R a.e a.end here) (term_names here.term_read) (outcome R a.e a.end here) c.answer-r.new.1.1.1.1.1.1.1.1.1.1.1.1.1.0) e
+    let tells : (s : Session) (x : Expr) (base number : ℕ) (R : Reaches s x base number) → (let a = c.args in Sends s a.shared.now a.slots.now a.count a.assertions.now a.n a.principals a.sender) → (r : Answered) → c.answer-r.result ≡ r → let a = c.args in Tells r (inner R a.e a.end here) (term_names here.term_read) (outcome R a.e a.end here) c.answer-r.new.out = λ s x base number R W r e. let a = c.args in
+    subst (λ (v : Answered). Tells v (inner R a.e a.end here) (term_names here.term_read) (outcome R a.e a.end here) c.answer-r.new.out) e
     (c.answer-r.ensures (inner R a.e a.end here) here.term_read R.held (sends_any R.locals W) here.meant
     (first_known R a.e a.end here)) in
     let a = c.args in
@@ -135,8 +135,8 @@ returns-in-Heavy c s x base number R Z W =
     let lent : Texts = let a = c.args in texts a.shared.now a.slots.now a.count a.scope.now a.local_slots.now in
     let pile : Stack = let a = c.args in stack a.heads.now a.lens.now a.counts.now a.bounds.now in
     let Reaches : Session → Expr → ℕ → ℕ → Type 0 = λ s x base number. Reached s x c.args.text.now lent pile base number c.args.at in
-    let tells : (s : Session) (x : Expr) (base number : ℕ) (R : Reaches s x base number) → (let a = c.args in Sends s a.shared.now a.slots.now a.count a.assertions.now a.n a.principals a.sender) → (r : Answered) → c.answer-r.result ≡ r → let a = c.args in Tells r (inner R a.e a.end here) (term_names here.term_read) (outcome R a.e a.end here) c.answer-r.new.1.1.1.1.1.1.1.1.1.1.1.1.1.0 = λ s x base number R W r e. let a = c.args in
-    subst (λ (v : Answered). Tells v (inner R a.e a.end here) (term_names here.term_read) (outcome R a.e a.end here) c.answer-r.new.1.1.1.1.1.1.1.1.1.1.1.1.1.0) e
+    let tells : (s : Session) (x : Expr) (base number : ℕ) (R : Reaches s x base number) → (let a = c.args in Sends s a.shared.now a.slots.now a.count a.assertions.now a.n a.principals a.sender) → (r : Answered) → c.answer-r.result ≡ r → let a = c.args in Tells r (inner R a.e a.end here) (term_names here.term_read) (outcome R a.e a.end here) c.answer-r.new.out = λ s x base number R W r e. let a = c.args in
+    subst (λ (v : Answered). Tells v (inner R a.e a.end here) (term_names here.term_read) (outcome R a.e a.end here) c.answer-r.new.out) e
     (c.answer-r.ensures (inner R a.e a.end here) here.term_read R.held (sends_any R.locals W) here.meant
     (first_known R a.e a.end here)) in
     let a = c.args in
@@ -149,14 +149,14 @@ returns-else-depth-eq0 c s x base number R Z W =
     let lent : Texts = let a = c.args in texts a.shared.now a.slots.now a.count a.scope.now a.local_slots.now in
     let Reaches : Session → Expr → ℕ → ℕ → Type 0 = λ s x base number. Reached s x c.args.text.now lent pile base number c.args.at in
     let here : TermAt c.args.text.now c.args.at.p c.args.e c.args.end = term_at c.args.text.now c.args.at.p c.args.e c.args.end c.requires.at_term.0 in
-    let tells : (s : Session) (x : Expr) (base number : ℕ) (R : Reaches s x base number) → (let a = c.args in Sends s a.shared.now a.slots.now a.count a.assertions.now a.n a.principals a.sender) → (r : Answered) → c.answer-r.result ≡ r → let a = c.args in Tells r (inner R a.e a.end here) (term_names here.term_read) (outcome R a.e a.end here) c.answer-r.new.1.1.1.1.1.1.1.1.1.1.1.1.1.0 = λ s x base number R W r e. let a = c.args in
-    subst (λ (v : Answered). Tells v (inner R a.e a.end here) (term_names here.term_read) (outcome R a.e a.end here) c.answer-r.new.1.1.1.1.1.1.1.1.1.1.1.1.1.0) e
+    let tells : (s : Session) (x : Expr) (base number : ℕ) (R : Reaches s x base number) → (let a = c.args in Sends s a.shared.now a.slots.now a.count a.assertions.now a.n a.principals a.sender) → (r : Answered) → c.answer-r.result ≡ r → let a = c.args in Tells r (inner R a.e a.end here) (term_names here.term_read) (outcome R a.e a.end here) c.answer-r.new.out = λ s x base number R W r e. let a = c.args in
+    subst (λ (v : Answered). Tells v (inner R a.e a.end here) (term_names here.term_read) (outcome R a.e a.end here) c.answer-r.new.out) e
     (c.answer-r.ensures (inner R a.e a.end here) here.term_read R.held (sends_any R.locals W) here.meant
     (first_known R a.e a.end here)) in
-    let worth : (s : Session) (x : Expr) (base number : ℕ) (R : Reaches s x base number) → (let a = c.args in Sends s a.shared.now a.slots.now a.count a.assertions.now a.n a.principals a.sender) → let a = c.args in Tells (Is.Value c.in-Value.len c.in-Value.weight) (inner R a.e a.end here) (term_names here.term_read) (outcome R a.e a.end here) c.answer-r.new.1.1.1.1.1.1.1.1.1.1.1.1.1.0 = λ s x base number R W. tells s x base number R W (Is.Value c.in-Value.len c.in-Value.weight) c.in-Value.is in
-    let given : (s : Session) (x : Expr) (base number : ℕ) (R : Reaches s x base number) → (Sized lent pile base number) → (let a = c.args in Sends s a.shared.now a.slots.now a.count a.assertions.now a.n a.principals a.sender) → let a = c.args in Given s x a.text.now lent pile base number a.at.depth a.end c.behind.result (take c.in-Value.len c.answer-r.new.1.1.1.1.1.1.1.1.1.1.1.1.1.0) c.in-Value.weight = λ s x base number R Z W. let a = c.args in
+    let worth : (s : Session) (x : Expr) (base number : ℕ) (R : Reaches s x base number) → (let a = c.args in Sends s a.shared.now a.slots.now a.count a.assertions.now a.n a.principals a.sender) → let a = c.args in Tells (Is.Value c.in-Value.len c.in-Value.weight) (inner R a.e a.end here) (term_names here.term_read) (outcome R a.e a.end here) c.answer-r.new.out = λ s x base number R W. tells s x base number R W (Is.Value c.in-Value.len c.in-Value.weight) c.in-Value.is in
+    let given : (s : Session) (x : Expr) (base number : ℕ) (R : Reaches s x base number) → (Sized lent pile base number) → (let a = c.args in Sends s a.shared.now a.slots.now a.count a.assertions.now a.n a.principals a.sender) → let a = c.args in Given s x a.text.now lent pile base number a.at.depth a.end c.behind.result (take c.in-Value.len c.answer-r.new.out) c.in-Value.weight = λ s x base number R Z W. let a = c.args in
     let T = worth s x base number R W in
-    subst (λ (k : Known). Given s x a.text.now lent pile base number a.at.depth a.end k (take c.in-Value.len c.answer-r.new.1.1.1.1.1.1.1.1.1.1.1.1.1.0) c.in-Value.weight) (sym c.behind.ensures)
+    subst (λ (k : Known). Given s x a.text.now lent pile base number a.at.depth a.end k (take c.in-Value.len c.answer-r.new.out) c.in-Value.weight) (sym c.behind.ensures)
     (leave_given R a.e a.end here T.0 _ c.in-Value.len c.in-Value.weight (omega (arith, c.if-depth-eq0.false)) c.requires.at_term.0.placed.2 Z T.1) in
     let a = c.args in
     step_later c.returned.result s x a.text.now _ pile base number a.at.p a.end _ (omega (arith, c.requires.at_term.0.placed.1)) (c.returned.ensures s x base number (given s x base number R Z W) _)

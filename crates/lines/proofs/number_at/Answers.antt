@@ -54,11 +54,11 @@ pub returns-then-n-gt4294967295 : goal.returns-then-n-gt4294967295
 returns-then-n-gt4294967295 c =
     let field : Field (all is_digit) 10 c.args.text.now c.args.at c.digits_end-e.result = is_field is_digit 10 refl c.args.text.now c.args.at c.digits_end-e.result c.pre c.digits_end-e.ensures (omega arith) c.if-text-e-ne10.false in
     λ n r h d.
-    not_decimal c.args.text.now c.args.at c.digits_end-e.result field n r h d (λ s. worth_much c.value_of_lem.ensures n h s.0 c.if-n-gt4294967295.true)
+    not_decimal c.args.text.now c.args.at c.digits_end-e.result field n r h d (λ s. worth_much c.value_of-n.ensures n h s.0 c.if-n-gt4294967295.true)
 
 pub returns : goal.returns
 returns c =
     let field : Field (all is_digit) 10 c.args.text.now c.args.at c.digits_end-e.result = is_field is_digit 10 refl c.args.text.now c.args.at c.digits_end-e.result c.pre c.digits_end-e.ensures (omega arith) c.if-text-e-ne10.false in
     let spelled : Spelled (part c.args.text.now c.args.at c.digits_end-e.result) = one_decimal c.args.text.now c.args.at c.digits_end-e.result field.if-e-at.false c.if-e-at-gt10.false
     (⊎_elim (λ w e. omega arith) (λ w e. absurd (w.left e)) c.if-text-at-eq48.branch) in
-    is_decimal c.args.text.now c.args.at c.digits_end-e.result field spelled.value_of_lem.result c.value_of_lem.ensures c.if-n-gt4294967295.false
+    is_decimal c.args.text.now c.args.at c.digits_end-e.result field spelled.value_of-n.result c.value_of-n.ensures c.if-n-gt4294967295.false

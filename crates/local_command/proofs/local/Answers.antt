@@ -57,11 +57,11 @@ slice_bounds-declare-end c =
     let session-scoped : (s : Session) → Runs s → let a = c.args in Scoped s a.l a.vars.now a.variable_slots.now a.locals.now a.local_slots.now = λ s R. scoped s c.args.l buffers R in
     let does : (s : Session) (y : Syntax.Expr) → Runs s → let x = name_of in Does s (Syntax.local x y) y (not c.is_defined-defined.result) (local_effect s x) = λ s y R. local_does s name_of y c.is_defined-defined.result (c.is_defined-defined.ensures s (session-scoped s R)) in
     let session-sends : (s : Session) → Runs s → let a = c.args in Sending s a.l a.vars.now a.variable_slots.now a.assertions.now = λ s R. sending s c.args.l buffers R in
-    let answers : (s : Session) (y : Syntax.Expr) → Runs s → Says y → Answers c.answer-v.result s y c.answer-v.new.1.1.1.1.1.1.1.1.0 = λ s y R m. c.answer-v.ensures s y (session-scoped s R) (session-sends s R) m in
-    let stored : (s : Session) (y : Syntax.Expr) → Runs s → Says y → Stores s y (not c.is_defined-defined.result) c.answer-v.new.1.1.1.1.1.1.1.1.0 c.in-Value.len c.in-Value.weight = λ s y R m. let x = name_of in
-    stores s (Syntax.local x y) y (not c.is_defined-defined.result) (local_effect s x) (does s y R) c.answer-v.new.1.1.1.1.1.1.1.1.0 c.answer-v.result
+    let answers : (s : Session) (y : Syntax.Expr) → Runs s → Says y → Answers c.answer-v.result s y c.answer-v.new.value = λ s y R m. c.answer-v.ensures s y (session-scoped s R) (session-sends s R) m in
+    let stored : (s : Session) (y : Syntax.Expr) → Runs s → Says y → Stores s y (not c.is_defined-defined.result) c.answer-v.new.value c.in-Value.len c.in-Value.weight = λ s y R m. let x = name_of in
+    stores s (Syntax.local x y) y (not c.is_defined-defined.result) (local_effect s x) (does s y R) c.answer-v.new.value c.answer-v.result
     (answers s y R m) c.settle.result c.settle.ensures c.in-Value.len c.in-Value.weight c.in-Value.is in
-    let some_stored : Stores c.requires.some_running.session c.requires.names.0.said.expression.expression (not c.is_defined-defined.result) c.answer-v.new.1.1.1.1.1.1.1.1.0 c.in-Value.len c.in-Value.weight = stored c.requires.some_running.session c.requires.names.0.said.expression.expression c.requires.some_running.running c.requires.names.0.said.expression.meant in
+    let some_stored : Stores c.requires.some_running.session c.requires.names.0.said.expression.expression (not c.is_defined-defined.result) c.answer-v.new.value c.in-Value.len c.in-Value.weight = stored c.requires.some_running.session c.requires.names.0.said.expression.expression c.requires.some_running.running c.requires.names.0.said.expression.meant in
     some_stored.written.within
 
 pub slice_bounds-declare-end-in-Value : goal.slice_bounds-declare-end-in-Value
@@ -73,11 +73,11 @@ slice_bounds-declare-end-in-Value c =
     let session-scoped : (s : Session) → Runs s → let a = c.args in Scoped s a.l a.vars.now a.variable_slots.now a.locals.now a.local_slots.now = λ s R. scoped s c.args.l buffers R in
     let does : (s : Session) (y : Syntax.Expr) → Runs s → let x = name_of in Does s (Syntax.local x y) y (not c.is_defined-defined.result) (local_effect s x) = λ s y R. local_does s name_of y c.is_defined-defined.result (c.is_defined-defined.ensures s (session-scoped s R)) in
     let session-sends : (s : Session) → Runs s → let a = c.args in Sending s a.l a.vars.now a.variable_slots.now a.assertions.now = λ s R. sending s c.args.l buffers R in
-    let answers : (s : Session) (y : Syntax.Expr) → Runs s → Says y → Answers c.answer-v.result s y c.answer-v.new.1.1.1.1.1.1.1.1.0 = λ s y R m. c.answer-v.ensures s y (session-scoped s R) (session-sends s R) m in
-    let stored : (s : Session) (y : Syntax.Expr) → Runs s → Says y → Stores s y (not c.is_defined-defined.result) c.answer-v.new.1.1.1.1.1.1.1.1.0 c.in-Value.len c.in-Value.weight = λ s y R m. let x = name_of in
-    stores s (Syntax.local x y) y (not c.is_defined-defined.result) (local_effect s x) (does s y R) c.answer-v.new.1.1.1.1.1.1.1.1.0 c.answer-v.result
+    let answers : (s : Session) (y : Syntax.Expr) → Runs s → Says y → Answers c.answer-v.result s y c.answer-v.new.value = λ s y R m. c.answer-v.ensures s y (session-scoped s R) (session-sends s R) m in
+    let stored : (s : Session) (y : Syntax.Expr) → Runs s → Says y → Stores s y (not c.is_defined-defined.result) c.answer-v.new.value c.in-Value.len c.in-Value.weight = λ s y R m. let x = name_of in
+    stores s (Syntax.local x y) y (not c.is_defined-defined.result) (local_effect s x) (does s y R) c.answer-v.new.value c.answer-v.result
     (answers s y R m) c.settle.result c.settle.ensures c.in-Value.len c.in-Value.weight c.in-Value.is in
-    let some_stored : Stores c.requires.some_running.session c.requires.names.0.said.expression.expression (not c.is_defined-defined.result) c.answer-v.new.1.1.1.1.1.1.1.1.0 c.in-Value.len c.in-Value.weight = stored c.requires.some_running.session c.requires.names.0.said.expression.expression c.requires.some_running.running c.requires.names.0.said.expression.meant in
+    let some_stored : Stores c.requires.some_running.session c.requires.names.0.said.expression.expression (not c.is_defined-defined.result) c.answer-v.new.value c.in-Value.len c.in-Value.weight = stored c.requires.some_running.session c.requires.names.0.said.expression.expression c.requires.some_running.running c.requires.names.0.said.expression.meant in
     sym (length-take-le _ _ some_stored.written.within)
 
 pub declare-done-requires : goal.declare-done-requires
@@ -89,11 +89,11 @@ declare-done-requires c =
     let session-scoped : (s : Session) → Runs s → let a = c.args in Scoped s a.l a.vars.now a.variable_slots.now a.locals.now a.local_slots.now = λ s R. scoped s c.args.l buffers R in
     let does : (s : Session) (y : Syntax.Expr) → Runs s → let x = name_of in Does s (Syntax.local x y) y (not c.is_defined-defined.result) (local_effect s x) = λ s y R. local_does s name_of y c.is_defined-defined.result (c.is_defined-defined.ensures s (session-scoped s R)) in
     let session-sends : (s : Session) → Runs s → let a = c.args in Sending s a.l a.vars.now a.variable_slots.now a.assertions.now = λ s R. sending s c.args.l buffers R in
-    let answers : (s : Session) (y : Syntax.Expr) → Runs s → Says y → Answers c.answer-v.result s y c.answer-v.new.1.1.1.1.1.1.1.1.0 = λ s y R m. c.answer-v.ensures s y (session-scoped s R) (session-sends s R) m in
-    let stored : (s : Session) (y : Syntax.Expr) → Runs s → Says y → Stores s y (not c.is_defined-defined.result) c.answer-v.new.1.1.1.1.1.1.1.1.0 c.in-Value.len c.in-Value.weight = λ s y R m. let x = name_of in
-    stores s (Syntax.local x y) y (not c.is_defined-defined.result) (local_effect s x) (does s y R) c.answer-v.new.1.1.1.1.1.1.1.1.0 c.answer-v.result
+    let answers : (s : Session) (y : Syntax.Expr) → Runs s → Says y → Answers c.answer-v.result s y c.answer-v.new.value = λ s y R m. c.answer-v.ensures s y (session-scoped s R) (session-sends s R) m in
+    let stored : (s : Session) (y : Syntax.Expr) → Runs s → Says y → Stores s y (not c.is_defined-defined.result) c.answer-v.new.value c.in-Value.len c.in-Value.weight = λ s y R m. let x = name_of in
+    stores s (Syntax.local x y) y (not c.is_defined-defined.result) (local_effect s x) (does s y R) c.answer-v.new.value c.answer-v.result
     (answers s y R m) c.settle.result c.settle.ensures c.in-Value.len c.in-Value.weight c.in-Value.is in
-    let some_stored : Stores c.requires.some_running.session c.requires.names.0.said.expression.expression (not c.is_defined-defined.result) c.answer-v.new.1.1.1.1.1.1.1.1.0 c.in-Value.len c.in-Value.weight = stored c.requires.some_running.session c.requires.names.0.said.expression.expression c.requires.some_running.running c.requires.names.0.said.expression.meant in
+    let some_stored : Stores c.requires.some_running.session c.requires.names.0.said.expression.expression (not c.is_defined-defined.result) c.answer-v.new.value c.in-Value.len c.in-Value.weight = stored c.requires.some_running.session c.requires.names.0.said.expression.expression c.requires.some_running.running c.requires.names.0.said.expression.meant in
     let x = name_of in
     let H = some_stored.written in (
       record { variables = c.requires.some_running.session.locals; lies = locals_lie c.requires.some_running.session c.args.l buffers.requires.some_running.running },
@@ -111,9 +111,9 @@ returns-in-Over c s y R m =
     let does : (s : Session) (y : Syntax.Expr) → Runs s → let x = name_of in Does s (Syntax.local x y) y (not c.is_defined-defined.result) (local_effect s x) = λ s y R. local_does s name_of y c.is_defined-defined.result (c.is_defined-defined.ensures s (session-scoped s R)) in
     let Says : Syntax.Expr → Type 0 = λ y. expr_meant c.args.text.now c.args.e ≡ some y in
     let session-sends : (s : Session) → Runs s → let a = c.args in Sending s a.l a.vars.now a.variable_slots.now a.assertions.now = λ s R. sending s c.args.l buffers R in
-    let answers : (s : Session) (y : Syntax.Expr) → Runs s → Says y → Answers c.answer-v.result s y c.answer-v.new.1.1.1.1.1.1.1.1.0 = λ s y R m. c.answer-v.ensures s y (session-scoped s R) (session-sends s R) m in
+    let answers : (s : Session) (y : Syntax.Expr) → Runs s → Says y → Answers c.answer-v.result s y c.answer-v.new.value = λ s y R m. c.answer-v.ensures s y (session-scoped s R) (session-sends s R) m in
     let x = name_of in
-    over s (Syntax.local x y) y (not c.is_defined-defined.result) (local_effect s x) (does s y R) c.answer-v.new.1.1.1.1.1.1.1.1.0 c.answer-v.result
+    over s (Syntax.local x y) y (not c.is_defined-defined.result) (local_effect s x) (does s y R) c.answer-v.new.value c.answer-v.result
     (answers s y R m) c.settle.result c.settle.ensures _ buffers.in-Over.is
 
 pub returns-in-Value : goal.returns-in-Value
@@ -126,9 +126,9 @@ returns-in-Value c s y R m =
     let undefined : (s : Session) → Runs s → not c.is_defined-defined.result ≡ true → is_defined s name_of ≡ false = λ s R f. not_there (is_defined s name_of) c.is_defined-defined.result (c.is_defined-defined.ensures s (session-scoped s R)) f in
     let Says : Syntax.Expr → Type 0 = λ y. expr_meant c.args.text.now c.args.e ≡ some y in
     let session-sends : (s : Session) → Runs s → let a = c.args in Sending s a.l a.vars.now a.variable_slots.now a.assertions.now = λ s R. sending s c.args.l buffers R in
-    let answers : (s : Session) (y : Syntax.Expr) → Runs s → Says y → Answers c.answer-v.result s y c.answer-v.new.1.1.1.1.1.1.1.1.0 = λ s y R m. c.answer-v.ensures s y (session-scoped s R) (session-sends s R) m in
-    let stored : (s : Session) (y : Syntax.Expr) → Runs s → Says y → Stores s y (not c.is_defined-defined.result) c.answer-v.new.1.1.1.1.1.1.1.1.0 c.in-Value.len c.in-Value.weight = λ s y R m. let x = name_of in
-    stores s (Syntax.local x y) y (not c.is_defined-defined.result) (local_effect s x) (does s y R) c.answer-v.new.1.1.1.1.1.1.1.1.0 c.answer-v.result
+    let answers : (s : Session) (y : Syntax.Expr) → Runs s → Says y → Answers c.answer-v.result s y c.answer-v.new.value = λ s y R m. c.answer-v.ensures s y (session-scoped s R) (session-sends s R) m in
+    let stored : (s : Session) (y : Syntax.Expr) → Runs s → Says y → Stores s y (not c.is_defined-defined.result) c.answer-v.new.value c.in-Value.len c.in-Value.weight = λ s y R m. let x = name_of in
+    stores s (Syntax.local x y) y (not c.is_defined-defined.result) (local_effect s x) (does s y R) c.answer-v.new.value c.answer-v.result
     (answers s y R m) c.settle.result c.settle.ensures c.in-Value.len c.in-Value.weight c.in-Value.is in
     let a = c.args in
     let x = name_of in

@@ -32,4 +32,4 @@ returns-in-Term c s y S W m =
     let a = c.args in
     let A = asked s a.l a.vars.now a.variable_slots.now a.locals.now a.local_slots.now a.text.now a.e y S c.requires.said.0.expression m in
     let T = as_term A c.in-Term.t c.in-Term.is in
-    subst (λ (z : Syntax.Expr). Tells c.answer.result s (names s z) (value s z) c.answer.new.1.1.1.1.1.1.1.1.1.1.1.1.1.0) (sym T.is) (c.answer.ensures s T.the_term S.scope W.sends T.meant tt)
+    subst (λ (z : Syntax.Expr). Tells c.answer.result s (names s z) (value s z) c.answer.new.out) (sym T.is) (c.answer.ensures s T.the_term S.scope W.sends T.meant tt)

@@ -8,4 +8,4 @@ pub list_read-requires : goal.list_read-requires
 list_read-requires c = let P = c.requires in record { value = lookup P.session c.args.name.now; held = c.text_of.ensures P.session P.scoped }
 
 pub returns : goal.returns
-returns c s S = c.List-read.ensures (lookup s c.args.name.now) (c.text_of.ensures s S)
+returns c s S = c.list_read.ensures (lookup s c.args.name.now) (c.text_of.ensures s S)

@@ -18,10 +18,10 @@ pub rounds-requires : goal.rounds-requires
 unfolding start
 rounds-requires c =
     let a = c.args in
-    let size : length c.start.new.0 ≡ length a.dist.now = c.start.auto.0 in
+    let size : length c.start.new.dist ≡ length a.dist.now = c.start.auto.dist in
     (omega arith, omega arith, c.start.ensures ∙ ap start (sym size))
 
 pub returns : goal.returns
 returns c =
     let a = c.args in
-    c.rounds.ensures (asked (map fields a.assertions.now) (length a.dist.now) a.variable a.right) (sym c.pick-n.ensures.1) (sym c.start.auto.0)
+    c.rounds.ensures (asked (map fields a.assertions.now) (length a.dist.now) a.variable a.right) (sym c.pick-n.ensures.1) (sym c.start.auto.dist)

@@ -18,7 +18,7 @@ loop-i-init c = (omega arith, refl, omega arith, refl)
 
 pub overflow_add-n : goal.overflow_add-n
 overflow_add-n c =
-    let e : c.mark-n.result + left c.mark-n.new.1.1.0 ≡ left c.loop-i.dist = c.mark-n.ensures.counts in
+    let e : c.mark-n.result + left c.mark-n.new.dist ≡ left c.loop-i.dist = c.mark-n.ensures.counts in
     omega (arith, left_le c.args.dist.now, c.loop-i.invariant.2)
 
 pub loop-i-preserved : goal.loop-i-preserved
@@ -27,7 +27,7 @@ loop-i-preserved c =
     let s = c.args in
     (
       omega arith,
-      c.mark-n.auto.1.1.0 ∙ l.invariant.1,
+      c.mark-n.auto.dist ∙ l.invariant.1,
       total l.n c.mark-n.result (left l.dist) _ _ l.invariant.2 c.mark-n.ensures.counts,
       pass_on handed_by s.d l.i s.list.now 0 l.dist _ _ (omega arith) l.invariant.3
           (c.mark-n.ensures.marks ∙ ap (λ (a : Assertion). marked s.d a.from a.to l.dist) c.unpack-a.ensures),

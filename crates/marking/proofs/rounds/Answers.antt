@@ -21,7 +21,7 @@ pub round-n-requires : goal.round-n-requires
 round-n-requires c = omega (arith, c.loop-d.invariant.3.time)
 
 pub shape_of-dist-then-n-eq0 : goal.shape_of-dist-then-n-eq0
-shape_of-dist-then-n-eq0 c = c.round-n.auto.1.1.0 ∙ c.loop-d.invariant.2
+shape_of-dist-then-n-eq0 c = c.round-n.auto.dist ∙ c.loop-d.invariant.2
 
 pub returns-then-n-eq0 : goal.returns-then-n-eq0
 returns-then-n-eq0 c =
@@ -32,13 +32,13 @@ pub overflow_add-d : goal.overflow_add-d
 overflow_add-d c = omega (arith, c.loop-d.invariant.3.time)
 
 pub bounds-dist-1 : goal.bounds-dist-1
-bounds-dist-1 c = omega (arith, c.round-n.auto.1.1.0, c.loop-d.invariant.2)
+bounds-dist-1 c = omega (arith, c.round-n.auto.dist, c.loop-d.invariant.2)
 
 pub overflow_add-d-then-dist-d : goal.overflow_add-d-then-dist-d
 overflow_add-d-then-dist-d c = omega (arith, c.loop-d.invariant.3.time)
 
 pub shape_of-dist-then-dist-d : goal.shape_of-dist-then-dist-d
-shape_of-dist-then-dist-d c = c.reach_rest.auto.0 ∙ c.round-n.auto.1.1.0 ∙ c.loop-d.invariant.2
+shape_of-dist-then-dist-d c = c.reach_rest.auto.dist ∙ c.round-n.auto.dist ∙ c.loop-d.invariant.2
 
 pub returns-then-dist-d : goal.returns-then-dist-d
 returns-then-dist-d c =
@@ -53,4 +53,4 @@ loop-d-smaller c =
 pub loop-d-preserved : goal.loop-d-preserved
 loop-d-preserved c =
     let i = c.loop-d.invariant in
-    (i.0, i.1, c.round-n.auto.1.1.0 ∙ i.2, spreading_next _ _ i.0 _ _ _ _ i.3 c.round-n.ensures (λ e. omega (arith, c.if-n-eq0.false)) c.if-dist-d.false)
+    (i.0, i.1, c.round-n.auto.dist ∙ i.2, spreading_next _ _ i.0 _ _ _ _ i.3 c.round-n.ensures (λ e. omega (arith, c.if-n-eq0.false)) c.if-dist-d.false)

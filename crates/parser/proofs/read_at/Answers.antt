@@ -41,7 +41,7 @@ returns-in_default-ending c =
     let t = c.args.text.now in
     let q = placed in
     neither t c.args.at c.in-Tokens.s c.in-Tokens.n q.0 q.1 q.2 (after-comments _ c.in-Tokens.is) no_command
-    (told (line_read_meant t) c.ending_line_lem.ensures.0 c.in_default-ending.is)
+    (told (line_read_meant t) c.ending_line-ending.ensures.meant c.in_default-ending.is)
 
 pub stars_at-requires : goal.stars_at-requires
 stars_at-requires c =
@@ -65,7 +65,7 @@ returns-else-not-stars_at c =
     let no_command : command_line (line_from c.args.text.now c.in-Tokens.s) ≡ none = told (line_read_meant c.args.text.now) c.command_line-line.ensures.meant c.in_default.is in
     let t = c.args.text.now in
     let q = placed in
-    let y = c.ending_line_lem in
+    let y = c.ending_line-ending in
     first_ending t c.args.at c.in-Tokens.s c.in-Tokens.n q.0 q.1 q.2 (after-comments _ c.in-Tokens.is) no_command.in-Found-ending.c
     (known (LineWithin t) y.ensures.1 c.in-Found-ending.is) (told (line_read_meant t) y.ensures.0 c.in-Found-ending.is) (sym c.stars_at.ensures ∙ not-false c.stars_at.result c.if-not-stars_at.false-raw)
 

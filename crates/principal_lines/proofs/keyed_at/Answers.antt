@@ -53,8 +53,8 @@ overflow_add-before-2 c =
     let form : Form = form_meant c.args.form in
     let base-fits : c.base.result ≤ 11 = let l = base_small form in omega (arith, l, c.base.ensures) in
     let field : Field is_name 9 c.args.text.now (c.args.at + 2) c.in-At.m = subst (λ k. CutMeant is_name 9 c.args.text.now (c.args.at + 2) k) c.in-At.is c.name_end-name.ensures in
-    let fits : c.name_weight_lem.result ≤ 255 = let l = name_light (part c.args.text.now (c.args.at + 2) c.in-At.m) field.is_fine in
-    omega (arith, l.1, c.name_weight_lem.ensures) in
+    let fits : c.name_weight.result ≤ 255 = let l = name_light (part c.args.text.now (c.args.at + 2) c.in-At.m) field.is_fine in
+    omega (arith, l.1, c.name_weight.ensures) in
     let l = fits in let b = base-fits in omega (arith, l, b, c.requires.2)
 
 pub overflow_add-m : goal.overflow_add-m
@@ -67,8 +67,8 @@ secret_at-secret-requires c =
     let field : Field is_name 9 c.args.text.now (c.args.at + 2) c.in-At.m = subst (λ k. CutMeant is_name 9 c.args.text.now (c.args.at + 2) k) c.in-At.is c.name_end-name.ensures in
     let form : Form = form_meant c.args.form in
     let base-fits : c.base.result ≤ 11 = let l = base_small form in omega (arith, l, c.base.ensures) in
-    let fits : c.name_weight_lem.result ≤ 255 = let l = name_light (part c.args.text.now (c.args.at + 2) c.in-At.m) field.is_fine in
-    omega (arith, l.1, c.name_weight_lem.ensures) in
+    let fits : c.name_weight.result ≤ 255 = let l = name_light (part c.args.text.now (c.args.at + 2) c.in-At.m) field.is_fine in
+    omega (arith, l.1, c.name_weight.ensures) in
     let f = field in
     let l = fits in
     let b = base-fits in
@@ -78,7 +78,7 @@ pub returns-in_default-secret : goal.returns-in_default-secret
 returns-in_default-secret c =
     let form : Form = form_meant c.args.form in
     let field : Field is_name 9 c.args.text.now (c.args.at + 2) c.in-At.m = subst (λ k. CutMeant is_name 9 c.args.text.now (c.args.at + 2) k) c.in-At.is c.name_end-name.ensures in
-    let weighs : c.args.w + c.base.result + c.name_weight_lem.result ≡ c.args.w + base_of form + name_weight (part c.args.text.now (c.args.at + 2) c.in-At.m) = λ i. c.args.w + c.base.ensures i + c.name_weight_lem.ensures i in
+    let weighs : c.args.w + c.base.result + c.name_weight.result ≡ c.args.w + base_of form + name_weight (part c.args.text.now (c.args.at + 2) c.in-At.m) = λ i. c.args.w + c.base.ensures i + c.name_weight.ensures i in
     let meant : let a = c.args in let m = c.in-At.m in SecretMeant form a.text.now (m + 1) (a.w + base_of form + name_weight (part a.text.now (a.at + 2) m)) c.secret_at-secret.result = let a = c.args in
     subst (λ (k : ℕ). SecretMeant form a.text.now (c.in-At.m + 1) k c.secret_at-secret.result) weighs.secret_at-secret.ensures in
     let a = c.args in
@@ -89,7 +89,7 @@ pub returns : goal.returns
 returns c =
     let form : Form = form_meant c.args.form in
     let field : Field is_name 9 c.args.text.now (c.args.at + 2) c.in-At.m = subst (λ k. CutMeant is_name 9 c.args.text.now (c.args.at + 2) k) c.in-At.is c.name_end-name.ensures in
-    let weighs : c.args.w + c.base.result + c.name_weight_lem.result ≡ c.args.w + base_of form + name_weight (part c.args.text.now (c.args.at + 2) c.in-At.m) = λ i. c.args.w + c.base.ensures i + c.name_weight_lem.ensures i in
+    let weighs : c.args.w + c.base.result + c.name_weight.result ≡ c.args.w + base_of form + name_weight (part c.args.text.now (c.args.at + 2) c.in-At.m) = λ i. c.args.w + c.base.ensures i + c.name_weight.ensures i in
     let meant : let a = c.args in let m = c.in-At.m in SecretMeant form a.text.now (m + 1) (a.w + base_of form + name_weight (part a.text.now (a.at + 2) m)) c.secret_at-secret.result = let a = c.args in
     subst (λ (k : ℕ). SecretMeant form a.text.now (c.in-At.m + 1) k c.secret_at-secret.result) weighs.secret_at-secret.ensures in
     let a = c.args in

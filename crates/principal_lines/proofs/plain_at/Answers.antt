@@ -60,8 +60,8 @@ overflow_add-after-2 c =
     let base-fits : c.base.result ≤ 11 = let l = base_small form in omega (arith, l, c.base.ensures) in
     let cut-meant : CutMeant is_name (stop_of form) c.args.text.now (c.args.at + 2) c.name_end-name.result = subst (λ (b : ℕ). CutMeant is_name b c.args.text.now (c.args.at + 2) c.name_end-name.result) c.stop.ensures c.name_end-name.ensures in
     let field : Field is_name (stop_of form) c.args.text.now (c.args.at + 2) c.in-At.m = subst (λ k. CutMeant is_name (stop_of form) c.args.text.now (c.args.at + 2) k) c.in-At.is cut-meant in
-    let fits : c.name_weight_lem.result ≤ 255 = let l = name_light (part c.args.text.now (c.args.at + 2) c.in-At.m) field.is_fine in
-    omega (arith, l.1, c.name_weight_lem.ensures) in
+    let fits : c.name_weight.result ≤ 255 = let l = name_light (part c.args.text.now (c.args.at + 2) c.in-At.m) field.is_fine in
+    omega (arith, l.1, c.name_weight.ensures) in
     let l = fits in let b = base-fits in omega (arith, l, b, c.requires.2)
 
 pub returns-then-after-gt8192 : goal.returns-then-after-gt8192
@@ -69,7 +69,7 @@ returns-then-after-gt8192 c =
     let form : Form = form_meant c.args.form in
     let cut-meant : CutMeant is_name (stop_of form) c.args.text.now (c.args.at + 2) c.name_end-name.result = subst (λ (b : ℕ). CutMeant is_name b c.args.text.now (c.args.at + 2) c.name_end-name.result) c.stop.ensures c.name_end-name.ensures in
     let field : Field is_name (stop_of form) c.args.text.now (c.args.at + 2) c.in-At.m = subst (λ k. CutMeant is_name (stop_of form) c.args.text.now (c.args.at + 2) k) c.in-At.is cut-meant in
-    let weighs : c.args.w + c.base.result + c.name_weight_lem.result ≡ c.args.w + base_of form + name_weight (part c.args.text.now (c.args.at + 2) c.in-At.m) = λ i. c.args.w + c.base.ensures i + c.name_weight_lem.ensures i in
+    let weighs : c.args.w + c.base.result + c.name_weight.result ≡ c.args.w + base_of form + name_weight (part c.args.text.now (c.args.at + 2) c.in-At.m) = λ i. c.args.w + c.base.ensures i + c.name_weight.ensures i in
     let a = c.args in
     plain_heavy form a.text.now a.at a.w c.requires.1 c.requires.0 c.in-At.m field (omega (arith, c.if-after-gt8192.true, weighs))
 
@@ -101,7 +101,7 @@ returns c =
     let form : Form = form_meant c.args.form in
     let cut-meant : CutMeant is_name (stop_of form) c.args.text.now (c.args.at + 2) c.name_end-name.result = subst (λ (b : ℕ). CutMeant is_name b c.args.text.now (c.args.at + 2) c.name_end-name.result) c.stop.ensures c.name_end-name.ensures in
     let field : Field is_name (stop_of form) c.args.text.now (c.args.at + 2) c.in-At.m = subst (λ k. CutMeant is_name (stop_of form) c.args.text.now (c.args.at + 2) k) c.in-At.is cut-meant in
-    let weighs : c.args.w + c.base.result + c.name_weight_lem.result ≡ c.args.w + base_of form + name_weight (part c.args.text.now (c.args.at + 2) c.in-At.m) = λ i. c.args.w + c.base.ensures i + c.name_weight_lem.ensures i in
+    let weighs : c.args.w + c.base.result + c.name_weight.result ≡ c.args.w + base_of form + name_weight (part c.args.text.now (c.args.at + 2) c.in-At.m) = λ i. c.args.w + c.base.ensures i + c.name_weight.ensures i in
     let a = c.args in
     let r = subst (λ k. TailMeant form a.text.now (c.in-At.m + 1) k) c.in-At-tail.is c.tail_at-tail.ensures in
     plain_good form a.text.now a.at a.w c.requires.1 c.requires.0 c.in-At.m field r.0 _ _ r.1 weighs.if-after-gt8192.false

@@ -41,21 +41,21 @@ returns-in_default c =
     let a = c.args in
     let l = c.loop-form in
     principals_stuck (form_meant a.form) a.text.now a.at l.slots l.i l.n l.now l.invariant.2 on
-    (subst (λ k. PrincipalMeant (form_meant a.form) a.text.now l.i l.now k) c.in_default.is c.principal_at_lem.ensures)
+    (subst (λ k. PrincipalMeant (form_meant a.form) a.text.now l.i l.now k) c.in_default.is c.principal_at-line.ensures)
 
 pub overflow_add-from : goal.overflow_add-from
 overflow_add-from c =
-    let entitled : let f = form_meant c.args.form in Entitled (λ (k : Principal). k.name) (principal_in f) (valid_principal_in f) (principal_weight_in f) any_text c.args.text.now c.loop-form.i c.loop-form.now c.in-Good.m c.in-Good.e c.in-Good.after = subst (λ k. PrincipalMeant (form_meant c.args.form) c.args.text.now c.loop-form.i c.loop-form.now k) c.in-Good.is c.principal_at_lem.ensures in
+    let entitled : let f = form_meant c.args.form in Entitled (λ (k : Principal). k.name) (principal_in f) (valid_principal_in f) (principal_weight_in f) any_text c.args.text.now c.loop-form.i c.loop-form.now c.in-Good.m c.in-Good.e c.in-Good.after = subst (λ k. PrincipalMeant (form_meant c.args.form) c.args.text.now c.loop-form.i c.loop-form.now k) c.in-Good.is c.principal_at-line.ensures in
     let E = entitled in omega (arith, E.mid_low, E.mid_high)
 
 pub slice_bounds-in_place-count : goal.slice_bounds-in_place-count
 slice_bounds-in_place-count c =
-    let entitled : let f = form_meant c.args.form in Entitled (λ (k : Principal). k.name) (principal_in f) (valid_principal_in f) (principal_weight_in f) any_text c.args.text.now c.loop-form.i c.loop-form.now c.in-Good.m c.in-Good.e c.in-Good.after = subst (λ k. PrincipalMeant (form_meant c.args.form) c.args.text.now c.loop-form.i c.loop-form.now k) c.in-Good.is c.principal_at_lem.ensures in
+    let entitled : let f = form_meant c.args.form in Entitled (λ (k : Principal). k.name) (principal_in f) (valid_principal_in f) (principal_weight_in f) any_text c.args.text.now c.loop-form.i c.loop-form.now c.in-Good.m c.in-Good.e c.in-Good.after = subst (λ k. PrincipalMeant (form_meant c.args.form) c.args.text.now c.loop-form.i c.loop-form.now k) c.in-Good.is c.principal_at-line.ensures in
     let E = entitled in omega (arith, E.mid_low)
 
 pub bounds-text-i : goal.bounds-text-i
 bounds-text-i c =
-    let entitled : let f = form_meant c.args.form in Entitled (λ (k : Principal). k.name) (principal_in f) (valid_principal_in f) (principal_weight_in f) any_text c.args.text.now c.loop-form.i c.loop-form.now c.in-Good.m c.in-Good.e c.in-Good.after = subst (λ k. PrincipalMeant (form_meant c.args.form) c.args.text.now c.loop-form.i c.loop-form.now k) c.in-Good.is c.principal_at_lem.ensures in
+    let entitled : let f = form_meant c.args.form in Entitled (λ (k : Principal). k.name) (principal_in f) (valid_principal_in f) (principal_weight_in f) any_text c.args.text.now c.loop-form.i c.loop-form.now c.in-Good.m c.in-Good.e c.in-Good.after = subst (λ k. PrincipalMeant (form_meant c.args.form) c.args.text.now c.loop-form.i c.loop-form.now k) c.in-Good.is c.principal_at-line.ensures in
     let E = entitled in omega (arith, E.mid_low, E.mid_high)
 
 pub shape_of-slots-then-not-in_place : goal.shape_of-slots-then-not-in_place
@@ -64,7 +64,7 @@ shape_of-slots-then-not-in_place c = c.loop-form.invariant.0
 pub returns-then-not-in_place : goal.returns-then-not-in_place
 returns-then-not-in_place c =
     let on : T (off_principal (drop c.loop-form.i c.args.text.now)) → ⊥ = λ h. subst (λ (b : Bool). T b) (not-true (off_principal (drop c.loop-form.i c.args.text.now)) (sym c.goes_on.ensures ∙ c.loop-form-test.true)) h in
-    let entitled : let f = form_meant c.args.form in Entitled (λ (k : Principal). k.name) (principal_in f) (valid_principal_in f) (principal_weight_in f) any_text c.args.text.now c.loop-form.i c.loop-form.now c.in-Good.m c.in-Good.e c.in-Good.after = subst (λ k. PrincipalMeant (form_meant c.args.form) c.args.text.now c.loop-form.i c.loop-form.now k) c.in-Good.is c.principal_at_lem.ensures in
+    let entitled : let f = form_meant c.args.form in Entitled (λ (k : Principal). k.name) (principal_in f) (valid_principal_in f) (principal_weight_in f) any_text c.args.text.now c.loop-form.i c.loop-form.now c.in-Good.m c.in-Good.e c.in-Good.after = subst (λ k. PrincipalMeant (form_meant c.args.form) c.args.text.now c.loop-form.i c.loop-form.now k) c.in-Good.is c.principal_at-line.ensures in
     let letter : eqb (get_or c.args.text.now c.loop-form.i 0) 80 ≡ has_password entitled.one.row = letter_password (form_meant c.args.form) c.args.text.now c.loop-form.i 0 entitled.one.row _ entitled.one.reads.here in
     let a = c.args in
     let l = c.loop-form in
@@ -74,30 +74,30 @@ pub enter-requires : goal.enter-requires
 enter-requires c =
     let on : T (off_principal (drop c.loop-form.i c.args.text.now)) → ⊥ = λ h. subst (λ (b : Bool). T b) (not-true (off_principal (drop c.loop-form.i c.args.text.now)) (sym c.goes_on.ensures ∙ c.loop-form-test.true)) h in
     let whole : 8192 ≤ least_of (form_meant c.args.form) * length c.loop-form.slots = subst (λ (n : ℕ). 8192 ≤ least_of (form_meant c.args.form) * n) (sym c.loop-form.invariant.0) c.requires.2 in
-    let entitled : let f = form_meant c.args.form in Entitled (λ (k : Principal). k.name) (principal_in f) (valid_principal_in f) (principal_weight_in f) any_text c.args.text.now c.loop-form.i c.loop-form.now c.in-Good.m c.in-Good.e c.in-Good.after = subst (λ k. PrincipalMeant (form_meant c.args.form) c.args.text.now c.loop-form.i c.loop-form.now k) c.in-Good.is c.principal_at_lem.ensures in
+    let entitled : let f = form_meant c.args.form in Entitled (λ (k : Principal). k.name) (principal_in f) (valid_principal_in f) (principal_weight_in f) any_text c.args.text.now c.loop-form.i c.loop-form.now c.in-Good.m c.in-Good.e c.in-Good.after = subst (λ k. PrincipalMeant (form_meant c.args.form) c.args.text.now c.loop-form.i c.loop-form.now k) c.in-Good.is c.principal_at-line.ensures in
     let a = c.args in
     let l = c.loop-form in
     principal_entering (form_meant a.form) a.text.now a.at l.slots l.i l.n l.now l.invariant.2 on _ _ _ entitled.requires.1 whole
 
 pub shape_of-slots-then-not-enter : goal.shape_of-slots-then-not-enter
-shape_of-slots-then-not-enter c = c.enter.auto.1.1.1.1.0 ∙ c.loop-form.invariant.0
+shape_of-slots-then-not-enter c = c.enter.auto.slots ∙ c.loop-form.invariant.0
 
 pub returns-then-not-enter : goal.returns-then-not-enter
 returns-then-not-enter c =
     let on : T (off_principal (drop c.loop-form.i c.args.text.now)) → ⊥ = λ h. subst (λ (b : Bool). T b) (not-true (off_principal (drop c.loop-form.i c.args.text.now)) (sym c.goes_on.ensures ∙ c.loop-form-test.true)) h in
-    let entitled : let f = form_meant c.args.form in Entitled (λ (k : Principal). k.name) (principal_in f) (valid_principal_in f) (principal_weight_in f) any_text c.args.text.now c.loop-form.i c.loop-form.now c.in-Good.m c.in-Good.e c.in-Good.after = subst (λ k. PrincipalMeant (form_meant c.args.form) c.args.text.now c.loop-form.i c.loop-form.now k) c.in-Good.is c.principal_at_lem.ensures in
+    let entitled : let f = form_meant c.args.form in Entitled (λ (k : Principal). k.name) (principal_in f) (valid_principal_in f) (principal_weight_in f) any_text c.args.text.now c.loop-form.i c.loop-form.now c.in-Good.m c.in-Good.e c.in-Good.after = subst (λ k. PrincipalMeant (form_meant c.args.form) c.args.text.now c.loop-form.i c.loop-form.now k) c.in-Good.is c.principal_at-line.ensures in
     let letter : eqb (get_or c.args.text.now c.loop-form.i 0) 80 ≡ has_password entitled.one.row = letter_password (form_meant c.args.form) c.args.text.now c.loop-form.i 0 entitled.one.row _ entitled.one.reads.here in
-    let entered : (b : Bool) → c.enter.result ≡ b → (rows : List Row) → let l = c.loop-form in let t = c.args.text.now in Rows rows (part t c.args.at l.i) l.n l.slots → Entered rows (part t (l.i + 2) c.in-Good.m) (l.i - c.args.at) l.n l.slots c.enter.new.1.1.1.1.0 b = λ b e rows H. let l = c.loop-form in subst (λ k. Entered rows (part c.args.text.now (l.i + 2) c.in-Good.m) (l.i - c.args.at) l.n l.slots c.enter.new.1.1.1.1.0 k) e (c.enter.ensures rows H) in
+    let entered : (b : Bool) → c.enter.result ≡ b → (rows : List Row) → let l = c.loop-form in let t = c.args.text.now in Rows rows (part t c.args.at l.i) l.n l.slots → Entered rows (part t (l.i + 2) c.in-Good.m) (l.i - c.args.at) l.n l.slots c.enter.new.slots b = λ b e rows H. let l = c.loop-form in subst (λ k. Entered rows (part c.args.text.now (l.i + 2) c.in-Good.m) (l.i - c.args.at) l.n l.slots c.enter.new.slots k) e (c.enter.ensures rows H) in
     let a = c.args in
     let l = c.loop-form in
-    principal_again (form_meant a.form) a.text.now a.at l.slots l.i l.n l.now l.invariant.2 on _ _ _ entitled _ letter.requires.1 c.enter.new.1.1.1.1.0
+    principal_again (form_meant a.form) a.text.now a.at l.slots l.i l.n l.now l.invariant.2 on _ _ _ entitled _ letter.requires.1 c.enter.new.slots
     (entered false (not-true c.enter.result c.if-not-enter.true-raw))
 
 pub overflow_add-n : goal.overflow_add-n
 overflow_add-n c =
     let on : T (off_principal (drop c.loop-form.i c.args.text.now)) → ⊥ = λ h. subst (λ (b : Bool). T b) (not-true (off_principal (drop c.loop-form.i c.args.text.now)) (sym c.goes_on.ensures ∙ c.loop-form-test.true)) h in
     let whole : 8192 ≤ least_of (form_meant c.args.form) * length c.loop-form.slots = subst (λ (n : ℕ). 8192 ≤ least_of (form_meant c.args.form) * n) (sym c.loop-form.invariant.0) c.requires.2 in
-    let entitled : let f = form_meant c.args.form in Entitled (λ (k : Principal). k.name) (principal_in f) (valid_principal_in f) (principal_weight_in f) any_text c.args.text.now c.loop-form.i c.loop-form.now c.in-Good.m c.in-Good.e c.in-Good.after = subst (λ k. PrincipalMeant (form_meant c.args.form) c.args.text.now c.loop-form.i c.loop-form.now k) c.in-Good.is c.principal_at_lem.ensures in
+    let entitled : let f = form_meant c.args.form in Entitled (λ (k : Principal). k.name) (principal_in f) (valid_principal_in f) (principal_weight_in f) any_text c.args.text.now c.loop-form.i c.loop-form.now c.in-Good.m c.in-Good.e c.in-Good.after = subst (λ k. PrincipalMeant (form_meant c.args.form) c.args.text.now c.loop-form.i c.loop-form.now k) c.in-Good.is c.principal_at-line.ensures in
     let a = c.args in
     let l = c.loop-form in
     let h = principal_entering (form_meant a.form) a.text.now a.at l.slots l.i l.n l.now l.invariant.2 on _ _ _ entitled.requires.1 whole in
@@ -105,7 +105,7 @@ overflow_add-n c =
 
 pub loop-form-smaller : goal.loop-form-smaller
 loop-form-smaller c =
-    let entitled : let f = form_meant c.args.form in Entitled (λ (k : Principal). k.name) (principal_in f) (valid_principal_in f) (principal_weight_in f) any_text c.args.text.now c.loop-form.i c.loop-form.now c.in-Good.m c.in-Good.e c.in-Good.after = subst (λ k. PrincipalMeant (form_meant c.args.form) c.args.text.now c.loop-form.i c.loop-form.now k) c.in-Good.is c.principal_at_lem.ensures in
+    let entitled : let f = form_meant c.args.form in Entitled (λ (k : Principal). k.name) (principal_in f) (valid_principal_in f) (principal_weight_in f) any_text c.args.text.now c.loop-form.i c.loop-form.now c.in-Good.m c.in-Good.e c.in-Good.after = subst (λ k. PrincipalMeant (form_meant c.args.form) c.args.text.now c.loop-form.i c.loop-form.now k) c.in-Good.is c.principal_at-line.ensures in
     let on : T (off_principal (drop c.loop-form.i c.args.text.now)) → ⊥ = λ h. subst (λ (b : Bool). T b) (not-true (off_principal (drop c.loop-form.i c.args.text.now)) (sym c.goes_on.ensures ∙ c.loop-form-test.true)) h in
     let forth : c.loop-form.i < c.in-Good.e = let l = c.loop-form in
     principal_ahead (form_meant c.args.form) c.args.text.now c.args.at l.slots l.i l.n l.now l.invariant.2 on _ _ _ entitled in
@@ -115,14 +115,14 @@ pub loop-form-preserved : goal.loop-form-preserved
 loop-form-preserved c =
     let on : T (off_principal (drop c.loop-form.i c.args.text.now)) → ⊥ = λ h. subst (λ (b : Bool). T b) (not-true (off_principal (drop c.loop-form.i c.args.text.now)) (sym c.goes_on.ensures ∙ c.loop-form-test.true)) h in
     let whole : 8192 ≤ least_of (form_meant c.args.form) * length c.loop-form.slots = subst (λ (n : ℕ). 8192 ≤ least_of (form_meant c.args.form) * n) (sym c.loop-form.invariant.0) c.requires.2 in
-    let entitled : let f = form_meant c.args.form in Entitled (λ (k : Principal). k.name) (principal_in f) (valid_principal_in f) (principal_weight_in f) any_text c.args.text.now c.loop-form.i c.loop-form.now c.in-Good.m c.in-Good.e c.in-Good.after = subst (λ k. PrincipalMeant (form_meant c.args.form) c.args.text.now c.loop-form.i c.loop-form.now k) c.in-Good.is c.principal_at_lem.ensures in
+    let entitled : let f = form_meant c.args.form in Entitled (λ (k : Principal). k.name) (principal_in f) (valid_principal_in f) (principal_weight_in f) any_text c.args.text.now c.loop-form.i c.loop-form.now c.in-Good.m c.in-Good.e c.in-Good.after = subst (λ k. PrincipalMeant (form_meant c.args.form) c.args.text.now c.loop-form.i c.loop-form.now k) c.in-Good.is c.principal_at-line.ensures in
     let letter : eqb (get_or c.args.text.now c.loop-form.i 0) 80 ≡ has_password entitled.one.row = letter_password (form_meant c.args.form) c.args.text.now c.loop-form.i 0 entitled.one.row _ entitled.one.reads.here in
-    let entered : (b : Bool) → c.enter.result ≡ b → (rows : List Row) → let l = c.loop-form in let t = c.args.text.now in Rows rows (part t c.args.at l.i) l.n l.slots → Entered rows (part t (l.i + 2) c.in-Good.m) (l.i - c.args.at) l.n l.slots c.enter.new.1.1.1.1.0 b = λ b e rows H. let l = c.loop-form in subst (λ k. Entered rows (part c.args.text.now (l.i + 2) c.in-Good.m) (l.i - c.args.at) l.n l.slots c.enter.new.1.1.1.1.0 k) e (c.enter.ensures rows H) in
+    let entered : (b : Bool) → c.enter.result ≡ b → (rows : List Row) → let l = c.loop-form in let t = c.args.text.now in Rows rows (part t c.args.at l.i) l.n l.slots → Entered rows (part t (l.i + 2) c.in-Good.m) (l.i - c.args.at) l.n l.slots c.enter.new.slots b = λ b e rows H. let l = c.loop-form in subst (λ k. Entered rows (part c.args.text.now (l.i + 2) c.in-Good.m) (l.i - c.args.at) l.n l.slots c.enter.new.slots k) e (c.enter.ensures rows H) in
     let a = c.args in
     let l = c.loop-form in (
-      c.enter.auto.1.1.1.1.0 ∙ l.invariant.0,
+      c.enter.auto.slots ∙ l.invariant.0,
       principal_light (form_meant a.form) a.text.now a.at l.slots l.i l.n l.now l.invariant.2 on _ _ _ entitled,
-      principal_next (form_meant a.form) a.text.now a.at l.slots l.i l.n l.now l.invariant.2 on _ _ _ entitled _ letter.requires.1 c.enter.new.1.1.1.1.0 whole
+      principal_next (form_meant a.form) a.text.now a.at l.slots l.i l.n l.now l.invariant.2 on _ _ _ entitled _ letter.requires.1 c.enter.new.slots whole
           (sym c.in_place.ensures ∙ not-false c.in_place.result c.if-not-in_place.false-raw) (entered true (not-false c.enter.result c.if-not-enter.false-raw)),
     )
 

@@ -50,16 +50,16 @@ enter-requires c =
     field_entering a.text.now a.at a.w l.slots l.i l.n l.now l.invariant.2 is_f _ _ _ entitled.requires.small roomy
 
 pub shape_of-slots-then-not-enter : goal.shape_of-slots-then-not-enter
-shape_of-slots-then-not-enter c = c.enter.auto.1.1.1.1.0 ∙ c.loop-line.invariant.0
+shape_of-slots-then-not-enter c = c.enter.auto.slots ∙ c.loop-line.invariant.0
 
 pub returns-then-not-enter : goal.returns-then-not-enter
 returns-then-not-enter c =
     let is_f : get_or c.args.text.now c.loop-line.i 0 ≡ 70 = sym c.byte_at.ensures ∙ c.loop-line-test.true in
     let entitled : Entitled (λ (f : Field). f.label) field_text valid_field field_weight any_text c.args.text.now c.loop-line.i c.loop-line.now c.in-Good.m c.in-Good.e c.in-Good.after = subst (λ k. FieldMeant c.args.text.now c.loop-line.i c.loop-line.now k) c.in-Good.is c.field_at-line.ensures in
-    let entered : (b : Bool) → c.enter.result ≡ b → (rows : List Row) → let l = c.loop-line in let t = c.args.text.now in Rows rows (part t c.args.at l.i) l.n l.slots → Entered rows (part t (l.i + 2) c.in-Good.m) (l.i - c.args.at) l.n l.slots c.enter.new.1.1.1.1.0 b = λ b e rows H. let l = c.loop-line in subst (λ k. Entered rows (part c.args.text.now (l.i + 2) c.in-Good.m) (l.i - c.args.at) l.n l.slots c.enter.new.1.1.1.1.0 k) e (c.enter.ensures rows H) in
+    let entered : (b : Bool) → c.enter.result ≡ b → (rows : List Row) → let l = c.loop-line in let t = c.args.text.now in Rows rows (part t c.args.at l.i) l.n l.slots → Entered rows (part t (l.i + 2) c.in-Good.m) (l.i - c.args.at) l.n l.slots c.enter.new.slots b = λ b e rows H. let l = c.loop-line in subst (λ k. Entered rows (part c.args.text.now (l.i + 2) c.in-Good.m) (l.i - c.args.at) l.n l.slots c.enter.new.slots k) e (c.enter.ensures rows H) in
     let a = c.args in
     let l = c.loop-line in
-    field_again a.text.now a.at a.w l.slots l.i l.n l.now l.invariant.2 is_f _ _ _ entitled.requires.small c.enter.new.1.1.1.1.0 (entered false (not-true _ c.if-not-enter.true-raw))
+    field_again a.text.now a.at a.w l.slots l.i l.n l.now l.invariant.2 is_f _ _ _ entitled.requires.small c.enter.new.slots (entered false (not-true _ c.if-not-enter.true-raw))
 
 pub overflow_add-n : goal.overflow_add-n
 overflow_add-n c =
@@ -83,11 +83,11 @@ loop-line-preserved c =
     let is_f : get_or c.args.text.now c.loop-line.i 0 ≡ 70 = sym c.byte_at.ensures ∙ c.loop-line-test.true in
     let roomy : 8192 ≤ c.args.w + 2 * length c.loop-line.slots = omega (arith, c.requires.room, c.loop-line.invariant.0) in
     let entitled : Entitled (λ (f : Field). f.label) field_text valid_field field_weight any_text c.args.text.now c.loop-line.i c.loop-line.now c.in-Good.m c.in-Good.e c.in-Good.after = subst (λ k. FieldMeant c.args.text.now c.loop-line.i c.loop-line.now k) c.in-Good.is c.field_at-line.ensures in
-    let entered : (b : Bool) → c.enter.result ≡ b → (rows : List Row) → let l = c.loop-line in let t = c.args.text.now in Rows rows (part t c.args.at l.i) l.n l.slots → Entered rows (part t (l.i + 2) c.in-Good.m) (l.i - c.args.at) l.n l.slots c.enter.new.1.1.1.1.0 b = λ b e rows H. let l = c.loop-line in subst (λ k. Entered rows (part c.args.text.now (l.i + 2) c.in-Good.m) (l.i - c.args.at) l.n l.slots c.enter.new.1.1.1.1.0 k) e (c.enter.ensures rows H) in
+    let entered : (b : Bool) → c.enter.result ≡ b → (rows : List Row) → let l = c.loop-line in let t = c.args.text.now in Rows rows (part t c.args.at l.i) l.n l.slots → Entered rows (part t (l.i + 2) c.in-Good.m) (l.i - c.args.at) l.n l.slots c.enter.new.slots b = λ b e rows H. let l = c.loop-line in subst (λ k. Entered rows (part c.args.text.now (l.i + 2) c.in-Good.m) (l.i - c.args.at) l.n l.slots c.enter.new.slots k) e (c.enter.ensures rows H) in
     let a = c.args in
     let l = c.loop-line in
     let k = field_light a.text.now a.at a.w l.slots l.i l.n l.now l.invariant.2 is_f _ _ _ entitled in (
-      c.enter.auto.1.1.1.1.0 ∙ l.invariant.0,
+      c.enter.auto.slots ∙ l.invariant.0,
       omega (arith, k),
       field_next a.text.now a.at a.w l.slots l.i l.n l.now l.invariant.2 is_f _ _ _ entitled.requires.small _ roomy (entered true (not-false _ c.if-not-enter.false-raw)),
     )

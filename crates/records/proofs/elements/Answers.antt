@@ -34,7 +34,7 @@ element_at-item-requires c =
     }
 
 pub shape_of-slots-in_default : goal.shape_of-slots-in_default
-shape_of-slots-in_default c = c.element_at-item.auto.1.1.1.0 ∙ c.loop-slots.invariant.0
+shape_of-slots-in_default c = c.element_at-item.auto.slots ∙ c.loop-slots.invariant.0
 
 pub returns-in_default : goal.returns-in_default
 returns-in_default c =
@@ -57,7 +57,7 @@ loop-slots-preserved c =
     let on : T (off_element (drop c.loop-slots.i c.args.text.now)) → ⊥ = λ h. subst (λ (b : Bool). T b) (not-true (off_element (drop c.loop-slots.i c.args.text.now)) (sym c.goes_on.ensures ∙ c.loop-slots-test.true)) h in
     let one : One element_text valid_element element_weight off_field c.args.text.now c.loop-slots.i (c.loop-slots.now + 1) c.in-Good.e c.in-Good.after = subst (λ k. ElementMeant c.args.text.now c.loop-slots.i (c.loop-slots.now + 1) k) c.in-Good.is c.element_at-item.ensures in
     let l = c.loop-slots in (
-      c.element_at-item.auto.1.1.1.0 ∙ l.invariant.0,
+      c.element_at-item.auto.slots ∙ l.invariant.0,
       element_light c.args.text.now c.args.at c.args.w l.i l.now l.invariant.2 on _ _ one,
       elements_next c.args.text.now c.args.at c.args.w l.i l.now l.invariant.2 on _ _ one,
     )

@@ -46,18 +46,18 @@ returns-in_default c =
     let is-tab : get_or c.args.text.now (c.args.at + 1) 0 ≡ 9 = sym c.byte_at-2.ensures ∙ c.if-byte_at-ne9.false in
     λ rows H.
     delegator_unknown rows c.args.text.now c.args.at is-d is-tab
-    (subst (λ k. KnownMeant (row_names rows) 10 c.args.text.now (c.args.at + 2) k) c.in_default.is (c.known_at_lem.ensures rows H))
+    (subst (λ k. KnownMeant (row_names rows) 10 c.args.text.now (c.args.at + 2) k) c.in_default.is (c.known_at-name.ensures rows H))
 
 pub overflow_add-result : goal.overflow_add-result
 overflow_add-result c =
-    let known : (rows : List Row) → Rows rows (part c.args.text.now c.args.from c.args.at) c.args.count c.args.slots.now → Member (row_names rows) 10 c.args.text.now (c.args.at + 2) c.in-At.k c.in-At.e = λ rows H. subst (λ k. KnownMeant (row_names rows) 10 c.args.text.now (c.args.at + 2) k) c.in-At.is (c.known_at_lem.ensures rows H) in
+    let known : (rows : List Row) → Rows rows (part c.args.text.now c.args.from c.args.at) c.args.count c.args.slots.now → Member (row_names rows) 10 c.args.text.now (c.args.at + 2) c.in-At.k c.in-At.e = λ rows H. subst (λ k. KnownMeant (row_names rows) 10 c.args.text.now (c.args.at + 2) k) c.in-At.is (c.known_at-name.ensures rows H) in
     let h = (known c.requires.2.rows c.requires.2.held).field.high in omega (arith, h)
 
 pub returns : goal.returns
 returns c =
     let is-d : get_or c.args.text.now c.args.at 0 ≡ 68 = sym c.byte_at.ensures ∙ c.if-byte_at-ne68.false in
     let is-tab : get_or c.args.text.now (c.args.at + 1) 0 ≡ 9 = sym c.byte_at-2.ensures ∙ c.if-byte_at-ne9.false in
-    let known : (rows : List Row) → Rows rows (part c.args.text.now c.args.from c.args.at) c.args.count c.args.slots.now → Member (row_names rows) 10 c.args.text.now (c.args.at + 2) c.in-At.k c.in-At.e = λ rows H. subst (λ k. KnownMeant (row_names rows) 10 c.args.text.now (c.args.at + 2) k) c.in-At.is (c.known_at_lem.ensures rows H) in
+    let known : (rows : List Row) → Rows rows (part c.args.text.now c.args.from c.args.at) c.args.count c.args.slots.now → Member (row_names rows) 10 c.args.text.now (c.args.at + 2) c.in-At.k c.in-At.e = λ rows H. subst (λ k. KnownMeant (row_names rows) 10 c.args.text.now (c.args.at + 2) k) c.in-At.is (c.known_at-name.ensures rows H) in
     λ rows H.
     delegator_good rows c.args.text.now c.args.at is-d is-tab
     (member_word rows c.args.text.now c.args.from c.args.at c.args.count c.args.slots.now H) _ _ (known rows H)

@@ -27,5 +27,5 @@ any_answer-r-requires c =
 pub returns : goal.returns
 returns c s x R m =
     let lent : Slices = let a = c.args in slices a.principals.now a.principal_slots.now a.vars.now a.variable_slots.now a.locals.now a.local_slots.now a.assertions.now in
-    subst (λ r. Given r (step s (return x)) s c.any_answer-r.new.1.1.1.1.1.1.1.1.0) (sym c.answered.ensures)
-    (given_by s x (omega (arith, R.weighed, R.light)) c.any_answer-r.result c.any_answer-r.new.1.1.1.1.1.1.1.1.0 (c.any_answer-r.ensures s x (scoped s _ lent R) (sending s _ lent R) m))
+    subst (λ r. Given r (step s (return x)) s c.any_answer-r.new.value) (sym c.answered.ensures)
+    (given_by s x (omega (arith, R.weighed, R.light)) c.any_answer-r.result c.any_answer-r.new.value (c.any_answer-r.ensures s x (scoped s _ lent R) (sending s _ lent R) m))

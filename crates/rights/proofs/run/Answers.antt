@@ -12,4 +12,4 @@ lend-rounds-requires c =
 pub returns : goal.returns
 returns c =
     let p = c.args.principal in
-    λ a e k. reported a p c.lend-rounds.result (get_or c.lend-rounds.new.1.1.1.1.0 p 0) c.report.result.answer c.report.result.rounds (c.lend-rounds.ensures a e k) c.report.ensures
+    λ a e k. reported a p c.lend-rounds.result (get_or c.lend-rounds.new.board p 0) c.report.result.answer c.report.result.rounds (c.lend-rounds.ensures a e k) c.report.ensures

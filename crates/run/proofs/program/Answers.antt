@@ -27,34 +27,34 @@ returns-then-work-ne65536 c =
 pub returns-then-not-parts : goal.returns-then-not-parts
 returns-then-not-parts c =
     let lent : Buffers = let a = c.args in record { state = a.state.now; work = a.work.now; output = a.output.now } in
-    let meant : Checked → Type 0 = λ r. CheckedMeant c.args.state.now c.check-checked.new.1.0 c.check-checked.new.1.1.0 c.check-checked.new.1.1.1.0 r in
-    let understood : Understood c.args.state.now c.check-checked.new.1.0 c.check-checked.new.1.1.0 c.check-checked.new.1.1.1.0 c.in-Good.parts = subst meant.in-Good.is c.check-checked.ensures in
+    let meant : Checked → Type 0 = λ r. CheckedMeant c.args.state.now c.check-checked.new.principals c.check-checked.new.vars c.check-checked.new.assertions r in
+    let understood : Understood c.args.state.now c.check-checked.new.principals c.check-checked.new.vars c.check-checked.new.assertions c.in-Good.parts = subst meant.in-Good.is c.check-checked.ensures in
     let u = understood in
     run_closed lent.args.program.now c.if-output-ne65536.false c.if-state-ne65536.false c.if-work-ne65536.false u.state u.decoded
     (sym u.represents.is_open ∙ not-true c.in-Good.parts.«open» c.if-not-parts.true)
 
 pub start-requires : goal.start-requires
 start-requires c =
-    let meant : Checked → Type 0 = λ r. CheckedMeant c.args.state.now c.check-checked.new.1.0 c.check-checked.new.1.1.0 c.check-checked.new.1.1.1.0 r in
-    let understood : Understood c.args.state.now c.check-checked.new.1.0 c.check-checked.new.1.1.0 c.check-checked.new.1.1.1.0 c.in-Good.parts = subst meant.in-Good.is c.check-checked.ensures in
+    let meant : Checked → Type 0 = λ r. CheckedMeant c.args.state.now c.check-checked.new.principals c.check-checked.new.vars c.check-checked.new.assertions r in
+    let understood : Understood c.args.state.now c.check-checked.new.principals c.check-checked.new.vars c.check-checked.new.assertions c.in-Good.parts = subst meant.in-Good.is c.check-checked.ensures in
     record {
       understood = understood;
       state_len = (c.if-state-ne65536.false, c.if-work-ne65536.false, c.if-output-ne65536.false);
-      principal_slots_len = (c.check-checked.auto.1.0, c.check-checked.auto.1.1.0, c.check-checked.auto.1.1.1.0);
+      principal_slots_len = (c.check-checked.auto.principals, c.check-checked.auto.vars, c.check-checked.auto.assertions);
     }
 
 pub returns-in-Bad : goal.returns-in-Bad
 returns-in-Bad c =
     let lent : Buffers = let a = c.args in record { state = a.state.now; work = a.work.now; output = a.output.now } in
-    let meant : Checked → Type 0 = λ r. CheckedMeant c.args.state.now c.check-checked.new.1.0 c.check-checked.new.1.1.0 c.check-checked.new.1.1.1.0 r in
+    let meant : Checked → Type 0 = λ r. CheckedMeant c.args.state.now c.check-checked.new.principals c.check-checked.new.vars c.check-checked.new.assertions r in
     run_form lent.args.program.now c.if-output-ne65536.false c.if-state-ne65536.false c.if-work-ne65536.false
     (subst meant.in-Bad.is c.check-checked.ensures)
 
 pub returns-else-not-parts : goal.returns-else-not-parts
 returns-else-not-parts c =
     let lent : Buffers = let a = c.args in record { state = a.state.now; work = a.work.now; output = a.output.now } in
-    let meant : Checked → Type 0 = λ r. CheckedMeant c.args.state.now c.check-checked.new.1.0 c.check-checked.new.1.1.0 c.check-checked.new.1.1.1.0 r in
-    let understood : Understood c.args.state.now c.check-checked.new.1.0 c.check-checked.new.1.1.0 c.check-checked.new.1.1.1.0 c.in-Good.parts = subst meant.in-Good.is c.check-checked.ensures in
+    let meant : Checked → Type 0 = λ r. CheckedMeant c.args.state.now c.check-checked.new.principals c.check-checked.new.vars c.check-checked.new.assertions r in
+    let understood : Understood c.args.state.now c.check-checked.new.principals c.check-checked.new.vars c.check-checked.new.assertions c.in-Good.parts = subst meant.in-Good.is c.check-checked.ensures in
     let u = understood in
     c.start.ensures u
     ∙ run_done lent.args.program.now c.if-output-ne65536.false c.if-state-ne65536.false c.if-work-ne65536.false u.state u.decoded

@@ -20,12 +20,12 @@ number_of-n-requires c = (c.requires.some_running.running.principals_within, som
 
 pub returns-then-n-count : goal.returns-then-n-count
 returns-then-n-count c s R =
-    let number_is : (s : Session) → let a = c.args in Running s a.l (slices a.principals.now a.principal_slots.now a.vars.now a.variable_slots.now a.locals.now a.local_slots.now a.assertions.now) → c.number_of_lem.result ≡ position (principals_of s.store) (part a.text.now a.p) = λ s R. row_number s c.args.l _ R _ c.number_of_lem.result c.number_of_lem.ensures in
-    delegator_failed s c.args.l _ R (part c.args.text.now c.args.p) c.number_of_lem.result (number_is s R) c.if-sender-ne0.false c.if-n-count.true
+    let number_is : (s : Session) → let a = c.args in Running s a.l (slices a.principals.now a.principal_slots.now a.vars.now a.variable_slots.now a.locals.now a.local_slots.now a.assertions.now) → c.number_of-n.result ≡ position (principals_of s.store) (part a.text.now a.p) = λ s R. row_number s c.args.l _ R _ c.number_of-n.result c.number_of-n.ensures in
+    delegator_failed s c.args.l _ R (part c.args.text.now c.args.p) c.number_of-n.result (number_is s R) c.if-sender-ne0.false c.if-n-count.true
 
 pub returns : goal.returns
 returns c s R =
-    let number_is : (s : Session) → let a = c.args in Running s a.l (slices a.principals.now a.principal_slots.now a.vars.now a.variable_slots.now a.locals.now a.local_slots.now a.assertions.now) → c.number_of_lem.result ≡ position (principals_of s.store) (part a.text.now a.p) = λ s R. row_number s c.args.l _ R _ c.number_of_lem.result c.number_of_lem.ensures in
-    let n : c.number_of_lem.result ≡ position (principals_of s.store) (part c.args.text.now c.args.p) = number_is s R in
-    delegator_done s c.args.l _ R (part c.args.text.now c.args.p) c.number_of_lem.result n c.if-sender-ne0.false
+    let number_is : (s : Session) → let a = c.args in Running s a.l (slices a.principals.now a.principal_slots.now a.vars.now a.variable_slots.now a.locals.now a.local_slots.now a.assertions.now) → c.number_of-n.result ≡ position (principals_of s.store) (part a.text.now a.p) = λ s R. row_number s c.args.l _ R _ c.number_of-n.result c.number_of-n.ensures in
+    let n : c.number_of-n.result ≡ position (principals_of s.store) (part c.args.text.now c.args.p) = number_is s R in
+    delegator_done s c.args.l _ R (part c.args.text.now c.args.p) c.number_of-n.result n c.if-sender-ne0.false
     (number_below s c.args.l _ R _ _ n c.if-n-count.false) c.requires.within.1

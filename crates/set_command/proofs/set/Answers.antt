@@ -68,11 +68,11 @@ slice_bounds-assign-end c =
     let session-sends : (s : Session) → Runs s → let a = c.args in Sending s a.l a.vars.now a.variable_slots.now a.assertions.now = λ s R. sending s c.args.l buffers R in
     let does : (s : Session) (y : Syntax.Expr) → Runs s → let x = name_of in Does s (Syntax.set x y) y true (set_effect s x) = λ s y R. set_does s name_of y c.may_do.result (c.may_do.ensures s write (session-sends s R) refl) c.if-not-may_do.false-raw in
     let session-scoped : (s : Session) → Runs s → let a = c.args in Scoped s a.l a.vars.now a.variable_slots.now a.locals.now a.local_slots.now = λ s R. scoped s c.args.l buffers R in
-    let answers : (s : Session) (y : Syntax.Expr) → Runs s → Says y → Answers c.answer-v.result s y c.answer-v.new.1.1.1.1.1.1.1.1.0 = λ s y R m. c.answer-v.ensures s y (session-scoped s R) (session-sends s R) m in
-    let stored : (s : Session) (y : Syntax.Expr) → Runs s → Says y → Stores s y true c.answer-v.new.1.1.1.1.1.1.1.1.0 c.in-Value.len c.in-Value.weight = λ s y R m. let x = name_of in
-    stores s (Syntax.set x y) y true (set_effect s x) (does s y R) c.answer-v.new.1.1.1.1.1.1.1.1.0 c.answer-v.result
+    let answers : (s : Session) (y : Syntax.Expr) → Runs s → Says y → Answers c.answer-v.result s y c.answer-v.new.value = λ s y R m. c.answer-v.ensures s y (session-scoped s R) (session-sends s R) m in
+    let stored : (s : Session) (y : Syntax.Expr) → Runs s → Says y → Stores s y true c.answer-v.new.value c.in-Value.len c.in-Value.weight = λ s y R m. let x = name_of in
+    stores s (Syntax.set x y) y true (set_effect s x) (does s y R) c.answer-v.new.value c.answer-v.result
     (answers s y R m) c.settle.result c.settle.ensures c.in-Value.len c.in-Value.weight c.in-Value.is in
-    let some_stored : Stores c.requires.some_running.session c.requires.names.0.said.expression.expression true c.answer-v.new.1.1.1.1.1.1.1.1.0 c.in-Value.len c.in-Value.weight = stored c.requires.some_running.session c.requires.names.0.said.expression.expression c.requires.some_running.running c.requires.names.0.said.expression.meant in
+    let some_stored : Stores c.requires.some_running.session c.requires.names.0.said.expression.expression true c.answer-v.new.value c.in-Value.len c.in-Value.weight = stored c.requires.some_running.session c.requires.names.0.said.expression.expression c.requires.some_running.running c.requires.names.0.said.expression.meant in
     some_stored.written.within
 
 pub slice_bounds-assign-end-in-Value : goal.slice_bounds-assign-end-in-Value
@@ -84,11 +84,11 @@ slice_bounds-assign-end-in-Value c =
     let session-sends : (s : Session) → Runs s → let a = c.args in Sending s a.l a.vars.now a.variable_slots.now a.assertions.now = λ s R. sending s c.args.l buffers R in
     let does : (s : Session) (y : Syntax.Expr) → Runs s → let x = name_of in Does s (Syntax.set x y) y true (set_effect s x) = λ s y R. set_does s name_of y c.may_do.result (c.may_do.ensures s write (session-sends s R) refl) c.if-not-may_do.false-raw in
     let session-scoped : (s : Session) → Runs s → let a = c.args in Scoped s a.l a.vars.now a.variable_slots.now a.locals.now a.local_slots.now = λ s R. scoped s c.args.l buffers R in
-    let answers : (s : Session) (y : Syntax.Expr) → Runs s → Says y → Answers c.answer-v.result s y c.answer-v.new.1.1.1.1.1.1.1.1.0 = λ s y R m. c.answer-v.ensures s y (session-scoped s R) (session-sends s R) m in
-    let stored : (s : Session) (y : Syntax.Expr) → Runs s → Says y → Stores s y true c.answer-v.new.1.1.1.1.1.1.1.1.0 c.in-Value.len c.in-Value.weight = λ s y R m. let x = name_of in
-    stores s (Syntax.set x y) y true (set_effect s x) (does s y R) c.answer-v.new.1.1.1.1.1.1.1.1.0 c.answer-v.result
+    let answers : (s : Session) (y : Syntax.Expr) → Runs s → Says y → Answers c.answer-v.result s y c.answer-v.new.value = λ s y R m. c.answer-v.ensures s y (session-scoped s R) (session-sends s R) m in
+    let stored : (s : Session) (y : Syntax.Expr) → Runs s → Says y → Stores s y true c.answer-v.new.value c.in-Value.len c.in-Value.weight = λ s y R m. let x = name_of in
+    stores s (Syntax.set x y) y true (set_effect s x) (does s y R) c.answer-v.new.value c.answer-v.result
     (answers s y R m) c.settle.result c.settle.ensures c.in-Value.len c.in-Value.weight c.in-Value.is in
-    let some_stored : Stores c.requires.some_running.session c.requires.names.0.said.expression.expression true c.answer-v.new.1.1.1.1.1.1.1.1.0 c.in-Value.len c.in-Value.weight = stored c.requires.some_running.session c.requires.names.0.said.expression.expression c.requires.some_running.running c.requires.names.0.said.expression.meant in
+    let some_stored : Stores c.requires.some_running.session c.requires.names.0.said.expression.expression true c.answer-v.new.value c.in-Value.len c.in-Value.weight = stored c.requires.some_running.session c.requires.names.0.said.expression.expression c.requires.some_running.running c.requires.names.0.said.expression.meant in
     sym (length-take-le _ _ some_stored.written.within)
 
 pub assign-done-requires : goal.assign-done-requires
@@ -100,11 +100,11 @@ assign-done-requires c =
     let session-sends : (s : Session) → Runs s → let a = c.args in Sending s a.l a.vars.now a.variable_slots.now a.assertions.now = λ s R. sending s c.args.l buffers R in
     let does : (s : Session) (y : Syntax.Expr) → Runs s → let x = name_of in Does s (Syntax.set x y) y true (set_effect s x) = λ s y R. set_does s name_of y c.may_do.result (c.may_do.ensures s write (session-sends s R) refl) c.if-not-may_do.false-raw in
     let session-scoped : (s : Session) → Runs s → let a = c.args in Scoped s a.l a.vars.now a.variable_slots.now a.locals.now a.local_slots.now = λ s R. scoped s c.args.l buffers R in
-    let answers : (s : Session) (y : Syntax.Expr) → Runs s → Says y → Answers c.answer-v.result s y c.answer-v.new.1.1.1.1.1.1.1.1.0 = λ s y R m. c.answer-v.ensures s y (session-scoped s R) (session-sends s R) m in
-    let stored : (s : Session) (y : Syntax.Expr) → Runs s → Says y → Stores s y true c.answer-v.new.1.1.1.1.1.1.1.1.0 c.in-Value.len c.in-Value.weight = λ s y R m. let x = name_of in
-    stores s (Syntax.set x y) y true (set_effect s x) (does s y R) c.answer-v.new.1.1.1.1.1.1.1.1.0 c.answer-v.result
+    let answers : (s : Session) (y : Syntax.Expr) → Runs s → Says y → Answers c.answer-v.result s y c.answer-v.new.value = λ s y R m. c.answer-v.ensures s y (session-scoped s R) (session-sends s R) m in
+    let stored : (s : Session) (y : Syntax.Expr) → Runs s → Says y → Stores s y true c.answer-v.new.value c.in-Value.len c.in-Value.weight = λ s y R m. let x = name_of in
+    stores s (Syntax.set x y) y true (set_effect s x) (does s y R) c.answer-v.new.value c.answer-v.result
     (answers s y R m) c.settle.result c.settle.ensures c.in-Value.len c.in-Value.weight c.in-Value.is in
-    let some_stored : Stores c.requires.some_running.session c.requires.names.0.said.expression.expression true c.answer-v.new.1.1.1.1.1.1.1.1.0 c.in-Value.len c.in-Value.weight = stored c.requires.some_running.session c.requires.names.0.said.expression.expression c.requires.some_running.running c.requires.names.0.said.expression.meant in
+    let some_stored : Stores c.requires.some_running.session c.requires.names.0.said.expression.expression true c.answer-v.new.value c.in-Value.len c.in-Value.weight = stored c.requires.some_running.session c.requires.names.0.said.expression.expression c.requires.some_running.running c.requires.names.0.said.expression.meant in
     let H = some_stored.written in record {
       some_running = c.requires.some_running;
       t = (identifier_name name_of.requires.names.0.name_holds, record { value = H.value; is_value = weighed H });
@@ -119,9 +119,9 @@ returns-in-Over c s y R m =
     let does : (s : Session) (y : Syntax.Expr) → Runs s → let x = name_of in Does s (Syntax.set x y) y true (set_effect s x) = λ s y R. set_does s name_of y c.may_do.result (c.may_do.ensures s write (session-sends s R) refl) c.if-not-may_do.false-raw in
     let Says : Syntax.Expr → Type 0 = λ y. expr_meant c.args.text.now c.args.e ≡ some y in
     let session-scoped : (s : Session) → Runs s → let a = c.args in Scoped s a.l a.vars.now a.variable_slots.now a.locals.now a.local_slots.now = λ s R. scoped s c.args.l buffers R in
-    let answers : (s : Session) (y : Syntax.Expr) → Runs s → Says y → Answers c.answer-v.result s y c.answer-v.new.1.1.1.1.1.1.1.1.0 = λ s y R m. c.answer-v.ensures s y (session-scoped s R) (session-sends s R) m in
+    let answers : (s : Session) (y : Syntax.Expr) → Runs s → Says y → Answers c.answer-v.result s y c.answer-v.new.value = λ s y R m. c.answer-v.ensures s y (session-scoped s R) (session-sends s R) m in
     let x = name_of in
-    over s (Syntax.set x y) y true (set_effect s x) (does s y R) c.answer-v.new.1.1.1.1.1.1.1.1.0 c.answer-v.result
+    over s (Syntax.set x y) y true (set_effect s x) (does s y R) c.answer-v.new.value c.answer-v.result
     (answers s y R m) c.settle.result c.settle.ensures _ buffers.in-Over.is
 
 pub returns-in-Value : goal.returns-in-Value
@@ -133,9 +133,9 @@ returns-in-Value c s y R m =
     let does : (s : Session) (y : Syntax.Expr) → Runs s → let x = name_of in Does s (Syntax.set x y) y true (set_effect s x) = λ s y R. set_does s name_of y c.may_do.result (c.may_do.ensures s write (session-sends s R) refl) c.if-not-may_do.false-raw in
     let Says : Syntax.Expr → Type 0 = λ y. expr_meant c.args.text.now c.args.e ≡ some y in
     let session-scoped : (s : Session) → Runs s → let a = c.args in Scoped s a.l a.vars.now a.variable_slots.now a.locals.now a.local_slots.now = λ s R. scoped s c.args.l buffers R in
-    let answers : (s : Session) (y : Syntax.Expr) → Runs s → Says y → Answers c.answer-v.result s y c.answer-v.new.1.1.1.1.1.1.1.1.0 = λ s y R m. c.answer-v.ensures s y (session-scoped s R) (session-sends s R) m in
-    let stored : (s : Session) (y : Syntax.Expr) → Runs s → Says y → Stores s y true c.answer-v.new.1.1.1.1.1.1.1.1.0 c.in-Value.len c.in-Value.weight = λ s y R m. let x = name_of in
-    stores s (Syntax.set x y) y true (set_effect s x) (does s y R) c.answer-v.new.1.1.1.1.1.1.1.1.0 c.answer-v.result
+    let answers : (s : Session) (y : Syntax.Expr) → Runs s → Says y → Answers c.answer-v.result s y c.answer-v.new.value = λ s y R m. c.answer-v.ensures s y (session-scoped s R) (session-sends s R) m in
+    let stored : (s : Session) (y : Syntax.Expr) → Runs s → Says y → Stores s y true c.answer-v.new.value c.in-Value.len c.in-Value.weight = λ s y R m. let x = name_of in
+    stores s (Syntax.set x y) y true (set_effect s x) (does s y R) c.answer-v.new.value c.answer-v.result
     (answers s y R m) c.settle.result c.settle.ensures c.in-Value.len c.in-Value.weight c.in-Value.is in
     let x = name_of in
     let H = stored s y R m in

@@ -27,7 +27,7 @@ pub copy-requires-in-loop-i : goal.copy-requires-in-loop-i
 copy-requires-in-loop-i c =
     let piece : let l = c.loop-i in length (part l.buf (l.i - c.block_size-n.result) l.i) ≡ c.block_size-n.result = let l = c.loop-i in
     length_part l.buf (l.i - c.block_size-n.result) l.i (omega arith) (omega arith) ∙ omega arith in
-    let back : let l = c.loop-i in take (c.block_size-n.result - 0) (drop 0 c.copy.new.0) ≡ part l.buf (l.i - c.block_size-n.result) l.i = let l = c.loop-i in
+    let back : let l = c.loop-i in take (c.block_size-n.result - 0) (drop 0 c.copy.new.dst) ≡ part l.buf (l.i - c.block_size-n.result) l.i = let l = c.loop-i in
     ap (λ (t : Text). take (c.block_size-n.result - 0) (drop 0 t)) c.copy.ensures ∙ through l.block (part l.buf (l.i - c.block_size-n.result) l.i) c.block_size-n.result piece (omega arith) in
     let e = ap length back ∙ piece in
     omega (arith, e)
@@ -36,7 +36,7 @@ pub loop-i-preserved : goal.loop-i-preserved
 loop-i-preserved c =
     let piece : let l = c.loop-i in length (part l.buf (l.i - c.block_size-n.result) l.i) ≡ c.block_size-n.result = let l = c.loop-i in
     length_part l.buf (l.i - c.block_size-n.result) l.i (omega arith) (omega arith) ∙ omega arith in
-    let back : let l = c.loop-i in take (c.block_size-n.result - 0) (drop 0 c.copy.new.0) ≡ part l.buf (l.i - c.block_size-n.result) l.i = let l = c.loop-i in
+    let back : let l = c.loop-i in take (c.block_size-n.result - 0) (drop 0 c.copy.new.dst) ≡ part l.buf (l.i - c.block_size-n.result) l.i = let l = c.loop-i in
     ap (λ (t : Text). take (c.block_size-n.result - 0) (drop 0 t)) c.copy.ensures ∙ through l.block (part l.buf (l.i - c.block_size-n.result) l.i) c.block_size-n.result piece (omega arith) in
     let a = c.args in
     let l = c.loop-i in
@@ -46,8 +46,8 @@ loop-i-preserved c =
       c.copy-in-loop-i.ensures
           ∙ ap (over l.buf (l.i - c.block_size-n.result + (a.to - a.from))) back
           ∙ up_more a.buf.now l.buf (a.to - a.from) (l.i - c.block_size-n.result) l.i a.len (omega arith) (omega arith) (omega arith) l.invariant.2,
-      c.copy-in-loop-i.auto.0 ∙ l.invariant.3,
-      c.copy.auto.0 ∙ l.invariant.4,
+      c.copy-in-loop-i.auto.dst ∙ l.invariant.3,
+      c.copy.auto.dst ∙ l.invariant.4,
     )
 
 pub shape_of-buf : goal.shape_of-buf

@@ -41,6 +41,6 @@ write-requires c =
 pub returns : goal.returns
 returns c rows H =
     let a = c.args in
-    subst (λ (l : Look). Says l a.out.now c.write.new.1.1.0 c.write.result)
+    subst (λ (l : Look). Says l a.out.now c.write.new.out c.write.result)
     (sym (name_here rows a.number a.text.now a.count a.slots.now H c.if-count-number.false c.nth-place.result (c.nth-place.ensures rows H)))
     c.write.ensures

@@ -76,7 +76,7 @@ returns-in-Kept c ks K =
     let kept : (ks : List Principal) → let a = c.args in Principals ks a.text.now a.count a.slots.now → PasswordAt ks a.text.now c.in-At.number (Kept c.in-Kept.start c.in-Kept.end) = λ ks K. let a = c.args in
     subst (λ k. PasswordAt ks a.text.now c.in-At.number k) c.in-Kept.is (c.password_of-password.ensures ks K) in
     let a = c.args in
-    subst (λ (l : Look). Says l a.out.now c.write.new.1.1.0 c.write.result)
+    subst (λ (l : Look). Says l a.out.now c.write.new.out c.write.result)
     (sym (principal_kept ks a.name.now c.in-At.number c.in-At.start c.in-At.end (here ks K) a.text.now c.in-Kept.start c.in-Kept.end (kept ks K)))
     c.write.ensures
 

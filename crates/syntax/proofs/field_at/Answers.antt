@@ -51,7 +51,7 @@ returns-in_default-value c =
     let ts = lex (drop a.at t) in
     let e1 = told (found_meant t) c.name_at-label.ensures.meant c.in-At.is in
     let e2 = told (next_meant t) c.expect-equals.ensures.meant c.in-At-equals.is in
-    let e3 = told (operand_read_meant t) c.Operand-at.ensures.0 c.in_default-value.is in record {
+    let e3 = told (operand_read_meant t) c.operand_at-value.ensures.meant c.in_default-value.is in record {
       meant = sym (record_step ts ∙ rw (e1, e2, e3));
       placed = tt;
     }
@@ -59,7 +59,7 @@ returns-in_default-value c =
 pub sign_at-sign-requires : goal.sign_at-sign-requires
 sign_at-sign-requires c =
     let t = c.args.text.now in
-    let p3 = known (OperandPlaced t c.in-At-equals.b) c.Operand-at.ensures.1 c.in-Found.is in
+    let p3 = known (OperandPlaced t c.in-At-equals.b) c.operand_at-value.ensures.placed c.in-Found.is in
     p3.2
 
 pub returns-in_default-sign : goal.returns-in_default-sign
@@ -70,7 +70,7 @@ returns-in_default-sign c =
     let ws = lex (drop c.in-Found.e t) in
     let e1 = told (found_meant t) c.name_at-label.ensures.meant c.in-At.is in
     let e2 = told (next_meant t) c.expect-equals.ensures.meant c.in-At-equals.is in
-    let e3 = told (operand_read_meant t) c.Operand-at.ensures.0 c.in-Found.is in
+    let e3 = told (operand_read_meant t) c.operand_at-value.ensures.meant c.in-Found.is in
     let e4 = told (found_meant t) c.sign_at-sign.ensures.meant c.in_default-sign.is in let both = (sym (record_step ts ∙ rw (e1, e2, e3, sign_none (bytes "}") ws e4, sign_none (bytes ",") ws e4)), tt) in record { meant = both.0; placed = both.1 }
 
 pub is_sign-requires : goal.is_sign-requires
@@ -87,12 +87,12 @@ returns-then-is_sign c =
     let ws = lex (drop c.in-Found.e t) in
     let e1 = told (found_meant t) c.name_at-label.ensures.meant c.in-At.is in
     let e2 = told (next_meant t) c.expect-equals.ensures.meant c.in-At-equals.is in
-    let e3 = told (operand_read_meant t) c.Operand-at.ensures.0 c.in-Found.is in
+    let e3 = told (operand_read_meant t) c.operand_at-value.ensures.meant c.in-Found.is in
     let e4 = told (found_meant t) c.sign_at-sign.ensures.meant c.in-At-sign.is in
     let comma = sign_same (bytes ",") ws e4 (sym c.is_sign.ensures ∙ c.if-is_sign.true) in
     let p1 = known (FoundPlaced t a.at) c.name_at-label.ensures.placed c.in-At.is in
     let p2 = known (NextPlaced t c.in-At.a) c.expect-equals.ensures.placed c.in-At-equals.is in
-    let p3 = known (OperandPlaced t c.in-At-equals.b) c.Operand-at.ensures.1 c.in-Found.is in
+    let p3 = known (OperandPlaced t c.in-At-equals.b) c.operand_at-value.ensures.placed c.in-Found.is in
     let p4 = known (FoundPlaced t c.in-Found.e) c.sign_at-sign.ensures.placed c.in-At-sign.is in record {
       meant = sym (record_step ts ∙ comma_field ts e1 e2 e3 comma);
       placed = (omega arith, p3.0, omega arith, omega arith);
@@ -112,11 +112,11 @@ returns-then-is_sign-2 c =
     let ws = lex (drop c.in-Found.e t) in
     let e1 = told (found_meant t) c.name_at-label.ensures.meant c.in-At.is in
     let e2 = told (next_meant t) c.expect-equals.ensures.meant c.in-At-equals.is in
-    let e3 = told (operand_read_meant t) c.Operand-at.ensures.0 c.in-Found.is in
+    let e3 = told (operand_read_meant t) c.operand_at-value.ensures.meant c.in-Found.is in
     let e4 = told (found_meant t) c.sign_at-sign.ensures.meant c.in-At-sign.is in let both = let brace = sign_same (bytes "}") ws e4 (sym c.is_sign-2.ensures ∙ c.if-is_sign-2.true) in
     let p1 = known (FoundPlaced t a.at) c.name_at-label.ensures.placed c.in-At.is in
     let p2 = known (NextPlaced t c.in-At.a) c.expect-equals.ensures.placed c.in-At-equals.is in
-    let p3 = known (OperandPlaced t c.in-At-equals.b) c.Operand-at.ensures.1 c.in-Found.is in
+    let p3 = known (OperandPlaced t c.in-At-equals.b) c.operand_at-value.ensures.placed c.in-Found.is in
     let p4 = known (FoundPlaced t c.in-Found.e) c.sign_at-sign.ensures.placed c.in-At-sign.is in
     (sym (record_step ts ∙ rw (e1, e2, e3, brace)), (omega arith, p3.0, omega arith, omega arith)) in record { meant = both.0; placed = both.1 }
 
@@ -128,7 +128,7 @@ returns c =
     let ws = lex (drop c.in-Found.e t) in
     let e1 = told (found_meant t) c.name_at-label.ensures.meant c.in-At.is in
     let e2 = told (next_meant t) c.expect-equals.ensures.meant c.in-At-equals.is in
-    let e3 = told (operand_read_meant t) c.Operand-at.ensures.0 c.in-Found.is in
+    let e3 = told (operand_read_meant t) c.operand_at-value.ensures.meant c.in-Found.is in
     let e4 = told (found_meant t) c.sign_at-sign.ensures.meant c.in-At-sign.is in
     let comma = sign_other (bytes ",") ws e4 (sym c.is_sign.ensures ∙ c.if-is_sign.false) in let both = let brace = sign_other (bytes "}") ws e4 (sym c.is_sign-2.ensures ∙ c.if-is_sign-2.false) in
     (sym (record_step ts ∙ rw (e1, e2, e3, brace, comma)), tt) in record { meant = both.0; placed = both.1 }

@@ -39,7 +39,7 @@ begin-start-requires c =
 pub perform-performed-requires : goal.perform-performed-requires
 perform-performed-requires c =
     let Known : Type 0 = let a = c.args in Admitted a.state.now a.principal_slots.now a.variable_slots.now a.assertions.now a.parts a.program.now a.sender a.at in
-    let begun : Slices = let a = c.args in slices c.begin-start.new.1.1.1.1.1.1.0 a.principal_slots.now c.begin-start.new.1.1.1.1.1.1.1.0 a.variable_slots.now (replicate 32768 0) (replicate 4096 0) a.assertions.now in
+    let begun : Slices = let a = c.args in slices c.begin-start.new.principals a.principal_slots.now c.begin-start.new.vars a.variable_slots.now (replicate 32768 0) (replicate 4096 0) a.assertions.now in
     let begins : (a : Known) → Running (opened a.understood.state a.sent_by.opening) c.begin-start.result begun = λ a. c.begin-start.ensures a.understood.state (sent a.sent_by.opening []) a.understood.represents (store_valid a.understood) a.sent_by.logged_in a.sent_by.numbered in
     record {
       some_running = record { session = opened c.requires.admitted.understood.state c.requires.admitted.sent_by.opening; running = begins c.requires.admitted };
@@ -48,43 +48,43 @@ perform-performed-requires c =
     }
 
 pub slice_bounds-settle-end : goal.slice_bounds-settle-end
-slice_bounds-settle-end c = sym (c.perform-performed.auto.0 ∙ c.begin-start.auto.1.1.1.1.1.1.0 ∙ length-replicate {A = ℕ} 11008 0)
+slice_bounds-settle-end c = sym (c.perform-performed.auto.principals ∙ c.begin-start.auto.principals ∙ length-replicate {A = ℕ} 11008 0)
 
 pub slice_bounds-settle-end-2 : goal.slice_bounds-settle-end-2
-slice_bounds-settle-end-2 c = sym (c.perform-performed.auto.1.1.1.1.0 ∙ length-replicate {A = ℕ} 32768 0)
+slice_bounds-settle-end-2 c = sym (c.perform-performed.auto.locals ∙ length-replicate {A = ℕ} 32768 0)
 
 pub slice_bounds-settle-end-3 : goal.slice_bounds-settle-end-3
-slice_bounds-settle-end-3 c = sym (c.perform-performed.auto.1.1.1.1.1.0 ∙ length-replicate {A = ℕ} 4096 0)
+slice_bounds-settle-end-3 c = sym (c.perform-performed.auto.local_slots ∙ length-replicate {A = ℕ} 4096 0)
 
 pub settle-requires : goal.settle-requires
 settle-requires c =
     let Known : Type 0 = let a = c.args in Admitted a.state.now a.principal_slots.now a.variable_slots.now a.assertions.now a.parts a.program.now a.sender a.at in
-    let left : Slices = slices c.perform-performed.new.0 c.perform-performed.new.1.0 c.perform-performed.new.1.1.0 c.perform-performed.new.1.1.1.0 c.perform-performed.new.1.1.1.1.0 c.perform-performed.new.1.1.1.1.1.0 c.perform-performed.new.1.1.1.1.1.1.0 in
-    let begun : Slices = let a = c.args in slices c.begin-start.new.1.1.1.1.1.1.0 a.principal_slots.now c.begin-start.new.1.1.1.1.1.1.1.0 a.variable_slots.now (replicate 32768 0) (replicate 4096 0) a.assertions.now in
+    let left : Slices = slices c.perform-performed.new.principals c.perform-performed.new.principal_slots c.perform-performed.new.vars c.perform-performed.new.variable_slots c.perform-performed.new.locals c.perform-performed.new.local_slots c.perform-performed.new.assertions in
+    let begun : Slices = let a = c.args in slices c.begin-start.new.principals a.principal_slots.now c.begin-start.new.vars a.variable_slots.now (replicate 32768 0) (replicate 4096 0) a.assertions.now in
     let begins : (a : Known) → Running (opened a.understood.state a.sent_by.opening) c.begin-start.result begun = λ a. c.begin-start.ensures a.understood.state (sent a.sent_by.opening []) a.understood.represents (store_valid a.understood) a.sent_by.logged_in a.sent_by.numbered in
-    let ends : (a : Known) → Ends c.perform-performed.result a.sent_by.opening.sender (end_on (opened a.understood.state a.sent_by.opening) (body_from c.args.program.now c.args.at)) left.args.output.now c.perform-performed.new.1.1.1.1.1.1.1.1.1.1.1.1.0 = λ a. c.perform-performed.ensures (opened a.understood.state a.sent_by.opening) (begins a) in
+    let ends : (a : Known) → Ends c.perform-performed.result a.sent_by.opening.sender (end_on (opened a.understood.state a.sent_by.opening) (body_from c.args.program.now c.args.at)) left.args.output.now c.perform-performed.new.output = λ a. c.perform-performed.ensures (opened a.understood.state a.sent_by.opening) (begins a) in
     let g = c.args in record {
       some_end = record { sender = c.requires.admitted.sent_by.opening.sender; end = end_on (opened c.requires.admitted.understood.state c.requires.admitted.sent_by.opening) (body_from g.program.now g.at); before = g.output.now; ends = ends c.requires.admitted };
       work_len = (
-        c.perform-performed.auto.1.1.0 ∙ c.begin-start.auto.1.1.1.1.1.1.1.0 ∙ c.requires.state_len.1,
+        c.perform-performed.auto.vars ∙ c.begin-start.auto.vars ∙ c.requires.state_len.1,
         c.requires.state_len.0,
-        c.perform-performed.auto.1.1.1.1.1.1.1.1.1.1.1.1.0 ∙ c.requires.state_len.2,
+        c.perform-performed.auto.output ∙ c.requires.state_len.2,
         omega (arith, c.requires.admitted.understood.represents.used_within, c.requires.state_len.0),
         c.requires.admitted.understood.represents.rest_zero ∙ ap (λ (n : ℕ). replicate (n - g.parts.used) 0) c.requires.state_len.0,
       );
     }
 
 pub shape_of-work : goal.shape_of-work
-shape_of-work c = c.settle.auto.1.1.1.0 ∙ c.perform-performed.auto.1.1.0 ∙ c.begin-start.auto.1.1.1.1.1.1.1.0
+shape_of-work c = c.settle.auto.work ∙ c.perform-performed.auto.vars ∙ c.begin-start.auto.vars
 
 pub returns : goal.returns
 returns c a =
     let lent : Buffers = let a = c.args in record { state = a.state.now; work = a.work.now; output = a.output.now } in
     let Known : Type 0 = let a = c.args in Admitted a.state.now a.principal_slots.now a.variable_slots.now a.assertions.now a.parts a.program.now a.sender a.at in
-    let left : Slices = slices c.perform-performed.new.0 c.perform-performed.new.1.0 c.perform-performed.new.1.1.0 c.perform-performed.new.1.1.1.0 c.perform-performed.new.1.1.1.1.0 c.perform-performed.new.1.1.1.1.1.0 c.perform-performed.new.1.1.1.1.1.1.0 in
-    let begun : Slices = let a = c.args in slices c.begin-start.new.1.1.1.1.1.1.0 a.principal_slots.now c.begin-start.new.1.1.1.1.1.1.1.0 a.variable_slots.now (replicate 32768 0) (replicate 4096 0) a.assertions.now in
+    let left : Slices = slices c.perform-performed.new.principals c.perform-performed.new.principal_slots c.perform-performed.new.vars c.perform-performed.new.variable_slots c.perform-performed.new.locals c.perform-performed.new.local_slots c.perform-performed.new.assertions in
+    let begun : Slices = let a = c.args in slices c.begin-start.new.principals a.principal_slots.now c.begin-start.new.vars a.variable_slots.now (replicate 32768 0) (replicate 4096 0) a.assertions.now in
     let begins : (a : Known) → Running (opened a.understood.state a.sent_by.opening) c.begin-start.result begun = λ a. c.begin-start.ensures a.understood.state (sent a.sent_by.opening []) a.understood.represents (store_valid a.understood) a.sent_by.logged_in a.sent_by.numbered in
-    let ends : (a : Known) → Ends c.perform-performed.result a.sent_by.opening.sender (end_on (opened a.understood.state a.sent_by.opening) (body_from c.args.program.now c.args.at)) left.args.output.now c.perform-performed.new.1.1.1.1.1.1.1.1.1.1.1.1.0 = λ a. c.perform-performed.ensures (opened a.understood.state a.sent_by.opening) (begins a) in
+    let ends : (a : Known) → Ends c.perform-performed.result a.sent_by.opening.sender (end_on (opened a.understood.state a.sent_by.opening) (body_from c.args.program.now c.args.at)) left.args.output.now c.perform-performed.new.output = λ a. c.perform-performed.ensures (opened a.understood.state a.sent_by.opening) (begins a) in
     let g = c.args in
     let s = a.understood.state in
     let o = body_from g.program.now g.at in

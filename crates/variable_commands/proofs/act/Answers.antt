@@ -116,46 +116,46 @@ pub returns-in-Set : goal.returns-in-Set
 returns-in-Set c s k R m =
     let t = c.args.text.now in
     let M = said (expr_meant t c.in-Set.e) (set (part t c.in-Set.x)) k (sym (ap (variable_meant t) c.in-Set.is) ∙ m) in
-    let b = slices c.args.principals.now c.args.principal_slots.now c.set-v.new.1.1.0 c.set-v.new.1.1.1.0 c.set-v.new.1.1.1.1.0 c.set-v.new.1.1.1.1.1.0 c.set-v.new.1.1.1.1.1.1.0 in
-    known (λ (j : Command). Acts c.done.result (step s j) s c.args.l b c.set-v.new.1.1.1.1.1.1.1.0)
-    (c.done.ensures (step s (set (part t c.in-Set.x) M.expression)) b s c.args.l c.set-v.new.1.1.1.1.1.1.1.0 (c.set-v.ensures s M.expression R M.meant) (λ f h. line_is s (set (part t c.in-Set.x) M.expression) f tt h))
+    let b = slices c.args.principals.now c.args.principal_slots.now c.set-v.new.vars c.set-v.new.variable_slots c.set-v.new.locals c.set-v.new.local_slots c.set-v.new.assertions in
+    known (λ (j : Command). Acts c.done.result (step s j) s c.args.l b c.set-v.new.value)
+    (c.done.ensures (step s (set (part t c.in-Set.x) M.expression)) b s c.args.l c.set-v.new.value (c.set-v.ensures s M.expression R M.meant) (λ f h. line_is s (set (part t c.in-Set.x) M.expression) f tt h))
     M.is_command
 
 pub returns-in-Append : goal.returns-in-Append
 returns-in-Append c s k R m =
     let t = c.args.text.now in
     let M = said (expr_meant t c.in-Append.e) (append_to (part t c.in-Append.x)) k (sym (ap (variable_meant t) c.in-Append.is) ∙ m) in
-    let b = slices c.args.principals.now c.args.principal_slots.now c.append-v.new.1.1.0 c.append-v.new.1.1.1.0 c.append-v.new.1.1.1.1.0 c.append-v.new.1.1.1.1.1.0 c.args.assertions.now in
-    known (λ (j : Command). Acts c.done-in-Append.result (step s j) s c.args.l b c.append-v.new.1.1.1.1.1.1.1.0)
-    (c.done-in-Append.ensures (step s (append_to (part t c.in-Append.x) M.expression)) b s c.args.l c.append-v.new.1.1.1.1.1.1.1.0 (c.append-v.ensures s M.expression R M.meant) (λ f h. line_is s (append_to (part t c.in-Append.x) M.expression) f tt h))
+    let b = slices c.args.principals.now c.args.principal_slots.now c.append-v.new.vars c.append-v.new.variable_slots c.append-v.new.locals c.append-v.new.local_slots c.args.assertions.now in
+    known (λ (j : Command). Acts c.done-in-Append.result (step s j) s c.args.l b c.append-v.new.value)
+    (c.done-in-Append.ensures (step s (append_to (part t c.in-Append.x) M.expression)) b s c.args.l c.append-v.new.value (c.append-v.ensures s M.expression R M.meant) (λ f h. line_is s (append_to (part t c.in-Append.x) M.expression) f tt h))
     M.is_command
 
 pub returns-in-Local : goal.returns-in-Local
 returns-in-Local c s k R m =
     let t = c.args.text.now in
     let M = said (expr_meant t c.in-Local.e) (local (part t c.in-Local.x)) k (sym (ap (variable_meant t) c.in-Local.is) ∙ m) in
-    let b = slices c.args.principals.now c.args.principal_slots.now c.args.vars.now c.args.variable_slots.now c.local-v.new.1.1.1.1.0 c.local-v.new.1.1.1.1.1.0 c.args.assertions.now in
-    known (λ (j : Command). Acts c.done-in-Local.result (step s j) s c.args.l b c.local-v.new.1.1.1.1.1.1.1.0)
-    (c.done-in-Local.ensures (step s (local (part t c.in-Local.x) M.expression)) b s c.args.l c.local-v.new.1.1.1.1.1.1.1.0 (c.local-v.ensures s M.expression R M.meant) (λ f h. line_is s (local (part t c.in-Local.x) M.expression) f tt h))
+    let b = slices c.args.principals.now c.args.principal_slots.now c.args.vars.now c.args.variable_slots.now c.local-v.new.locals c.local-v.new.local_slots c.args.assertions.now in
+    known (λ (j : Command). Acts c.done-in-Local.result (step s j) s c.args.l b c.local-v.new.value)
+    (c.done-in-Local.ensures (step s (local (part t c.in-Local.x) M.expression)) b s c.args.l c.local-v.new.value (c.local-v.ensures s M.expression R M.meant) (λ f h. line_is s (local (part t c.in-Local.x) M.expression) f tt h))
     M.is_command
 
 pub returns-in-Foreach : goal.returns-in-Foreach
 returns-in-Foreach c s k R m =
     let t = c.args.text.now in
     let M = said (expr_meant t c.in-Foreach.e) (foreach (part t c.in-Foreach.y) (part t c.in-Foreach.x)) k (sym (ap (variable_meant t) c.in-Foreach.is) ∙ m) in
-    let b = slices c.args.principals.now c.args.principal_slots.now c.foreach-v.new.1.1.0 c.foreach-v.new.1.1.1.0 c.foreach-v.new.1.1.1.1.0 c.foreach-v.new.1.1.1.1.1.0 c.foreach-v.new.1.1.1.1.1.1.0 in
-    known (λ (j : Command). Acts c.done-in-Foreach.result (step s j) s c.args.l b c.foreach-v.new.1.1.1.1.1.1.1.0)
-    (c.done-in-Foreach.ensures (step s (foreach (part t c.in-Foreach.y) (part t c.in-Foreach.x) M.expression)) b s c.args.l c.foreach-v.new.1.1.1.1.1.1.1.0 (c.foreach-v.ensures s M.expression R M.meant) (λ f h. line_is s (foreach (part t c.in-Foreach.y) (part t c.in-Foreach.x) M.expression) f tt h))
+    let b = slices c.args.principals.now c.args.principal_slots.now c.foreach-v.new.vars c.foreach-v.new.variable_slots c.foreach-v.new.locals c.foreach-v.new.local_slots c.foreach-v.new.assertions in
+    known (λ (j : Command). Acts c.done-in-Foreach.result (step s j) s c.args.l b c.foreach-v.new.value)
+    (c.done-in-Foreach.ensures (step s (foreach (part t c.in-Foreach.y) (part t c.in-Foreach.x) M.expression)) b s c.args.l c.foreach-v.new.value (c.foreach-v.ensures s M.expression R M.meant) (λ f h. line_is s (foreach (part t c.in-Foreach.y) (part t c.in-Foreach.x) M.expression) f tt h))
     M.is_command
 
 pub returns-in-Filtereach : goal.returns-in-Filtereach
 returns-in-Filtereach c s k R m =
     let t = c.args.text.now in
     let M = said (expr_meant t c.in-Filtereach.e) (filtereach (part t c.in-Filtereach.y) (part t c.in-Filtereach.x)) k (sym (ap (variable_meant t) c.in-Filtereach.is) ∙ m) in
-    let b = slices c.args.principals.now c.args.principal_slots.now c.filtereach-v.new.1.1.0 c.filtereach-v.new.1.1.1.0 c.filtereach-v.new.1.1.1.1.0 c.filtereach-v.new.1.1.1.1.1.0
-    c.filtereach-v.new.1.1.1.1.1.1.0 in
-    known (λ (j : Command). Acts c.done-in-Filtereach.result (step s j) s c.args.l b c.filtereach-v.new.1.1.1.1.1.1.1.0)
-    (c.done-in-Filtereach.ensures (step s (filtereach (part t c.in-Filtereach.y) (part t c.in-Filtereach.x) M.expression)) b s c.args.l c.filtereach-v.new.1.1.1.1.1.1.1.0 (c.filtereach-v.ensures s M.expression R M.meant) (λ f h. line_is s (filtereach (part t c.in-Filtereach.y) (part t c.in-Filtereach.x) M.expression) f tt h))
+    let b = slices c.args.principals.now c.args.principal_slots.now c.filtereach-v.new.vars c.filtereach-v.new.variable_slots c.filtereach-v.new.locals c.filtereach-v.new.local_slots
+    c.filtereach-v.new.assertions in
+    known (λ (j : Command). Acts c.done-in-Filtereach.result (step s j) s c.args.l b c.filtereach-v.new.value)
+    (c.done-in-Filtereach.ensures (step s (filtereach (part t c.in-Filtereach.y) (part t c.in-Filtereach.x) M.expression)) b s c.args.l c.filtereach-v.new.value (c.filtereach-v.ensures s M.expression R M.meant) (λ f h. line_is s (filtereach (part t c.in-Filtereach.y) (part t c.in-Filtereach.x) M.expression) f tt h))
     M.is_command
 
 pub returns-in-Return : goal.returns-in-Return
@@ -163,6 +163,6 @@ returns-in-Return c s k R m =
     let t = c.args.text.now in
     let M = said (expr_meant t c.in-Return.e) return k (sym (ap (variable_meant t) c.in-Return.is) ∙ m) in
     let b = slices c.args.principals.now c.args.principal_slots.now c.args.vars.now c.args.variable_slots.now c.args.locals.now c.args.local_slots.now c.args.assertions.now in
-    known (λ (j : Command). Acts c.given.result (step s j) s c.args.l b c.value-v.new.1.1.1.1.1.1.1.0)
-    (c.given.ensures (step s (return M.expression)) b s c.args.l c.value-v.new.1.1.1.1.1.1.1.0 R (c.value-v.ensures s M.expression R M.meant))
+    known (λ (j : Command). Acts c.given.result (step s j) s c.args.l b c.value-v.new.value)
+    (c.given.ensures (step s (return M.expression)) b s c.args.l c.value-v.new.value R (c.value-v.ensures s M.expression R M.meant))
     M.is_command

@@ -16,5 +16,5 @@ add_variable-n-requires c =
 pub returns : goal.returns
 returns c vs v L n W =
     let a = c.args in
-    added L a.name.now v a.value.now a.weight c.requires.2 W n c.add_variable-n.new.0 c.add_variable-n.result c.add_variable-n.new.1.1.0 c.if-after-gt8192.false c.add_variable-n.auto.0 c.add_variable-n.auto.1.1.0
+    added L a.name.now v a.value.now a.weight c.requires.2 W n c.add_variable-n.new.buf c.add_variable-n.result c.add_variable-n.new.slots c.if-after-gt8192.false c.add_variable-n.auto.buf c.add_variable-n.auto.slots
     c.add_variable-n.ensures.outside.within (c.add_variable-n.ensures.held vs v L.held c.requires.2 W.held.is_text_lem)

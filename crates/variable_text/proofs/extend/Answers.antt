@@ -32,5 +32,5 @@ append_value-n-requires c =
 pub returns : goal.returns
 returns c vs x es fs L n i X =
     let a = c.args in
-    extended L x a.number c.requires.0.below n es fs i a.more.now a.weight X c.append_value-n.new.0 c.append_value-n.result c.append_value-n.new.1.1.0 c.if-after-gt8192.false c.append_value-n.auto.0 c.append_value-n.auto.1.1.0
+    extended L x a.number c.requires.0.below n es fs i a.more.now a.weight X c.append_value-n.new.buf c.append_value-n.result c.append_value-n.new.slots c.if-after-gt8192.false c.append_value-n.auto.buf c.append_value-n.auto.slots
     c.append_value-n.ensures.outside.within (c.append_value-n.ensures.held vs x es fs L.held n i X.is_text_lem)

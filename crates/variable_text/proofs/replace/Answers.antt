@@ -50,5 +50,5 @@ pub returns : goal.returns
 returns c vs x v L n W =
     let a = c.args in
     replaced L x a.number c.requires.0.below n v a.value.now a.weight W c.weight_of-old.result
-    (c.weight_of-old.ensures vs L.held L.are_valid) c.set_value-n.new.0 c.set_value-n.result c.set_value-n.new.1.1.0 c.if-after-gt8192.false c.set_value-n.auto.0 c.set_value-n.auto.1.1.0
+    (c.weight_of-old.ensures vs L.held L.are_valid) c.set_value-n.new.buf c.set_value-n.result c.set_value-n.new.slots c.if-after-gt8192.false c.set_value-n.auto.buf c.set_value-n.auto.slots
     c.set_value-n.ensures.outside.within (c.set_value-n.ensures.held vs x v L.held n W.held.is_text_lem)

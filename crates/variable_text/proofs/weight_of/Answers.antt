@@ -16,12 +16,12 @@ value_of-at-requires c =
 
 pub slice_bounds-weigh-count : goal.slice_bounds-weigh-count
 slice_bounds-weigh-count c =
-    let placed : let a = c.args in ValueAt c.requires.0.variables a.text.now a.number c.value_of_lem.result.start c.value_of_lem.result.end = c.value_of_lem.ensures c.requires.0.variables c.requires.0.held in
+    let placed : let a = c.args in ValueAt c.requires.0.variables a.text.now a.number c.value_of-at.result.start c.value_of-at.result.end = c.value_of-at.ensures c.requires.0.variables c.requires.0.held in
     omega (arith, placed.order)
 
 pub weigh-requires : goal.weigh-requires
 weigh-requires c =
-    let placed : let a = c.args in ValueAt c.requires.0.variables a.text.now a.number c.value_of_lem.result.start c.value_of_lem.result.end = c.value_of_lem.ensures c.requires.0.variables c.requires.0.held in
+    let placed : let a = c.args in ValueAt c.requires.0.variables a.text.now a.number c.value_of-at.result.start c.value_of-at.result.end = c.value_of-at.ensures c.requires.0.variables c.requires.0.held in
     let a = c.args in
     let S = c.requires.0 in
     let l : a.number < length S.variables = omega (arith, S.held.counted, c.requires.1) in
@@ -31,4 +31,4 @@ pub returns : goal.returns
 returns c vs W h =
     let a = c.args in
     let l : a.number < length vs = omega (arith, W.counted, c.requires.1) in
-    c.weigh.ensures _ (value_holds vs a.text.now a.number _ _ h l (c.value_of_lem.ensures vs W))
+    c.weigh.ensures _ (value_holds vs a.text.now a.number _ _ h l (c.value_of-at.ensures vs W))

@@ -28,7 +28,7 @@ returns-then-code-eq4 c u =
     let Known : Type 0 = Understood c.args.state.now c.args.principals.now c.args.vars.now c.args.assertions.now c.args.parts in
     let principal_at_lem : (u : Known) → At c.in-At.number c.in-At.start c.in-At.end ≡ place (map principal_row (store u).principals) c.args.name.now = λ u. sym c.in-At.is ∙ c.find-principal.ensures (map principal_row (store u).principals) (are_principals u) in
     unknown_right u c.args.name.now c.args.variable.now c.in-At.number c.in-At.start c.in-At.end (principal_at_lem u) (right_byte c.args.right)
-    (sym c.right_code_lem.ensures ∙ c.if-code-eq4.true)
+    (sym c.right_code-code.ensures ∙ c.if-code-eq4.true)
 
 pub find-place-requires : goal.find-place-requires
 find-place-requires c = vars_rows c.requires
@@ -52,13 +52,13 @@ returns-in-Yes c u =
     let Known : Type 0 = Understood c.args.state.now c.args.principals.now c.args.vars.now c.args.assertions.now c.args.parts in
     let principal_at_lem : (u : Known) → At c.in-At.number c.in-At.start c.in-At.end ≡ place (map principal_row (store u).principals) c.args.name.now = λ u. sym c.in-At.is ∙ c.find-principal.ensures (map principal_row (store u).principals) (are_principals u) in
     let place_at : (u : Known) → At c.in-At-place.shared c.in-At-place.start c.in-At-place.end ≡ place (map variable_row (store u).variables) c.args.variable.now = λ u. sym c.in-At-place.is ∙ c.find-place.ensures (map variable_row (store u).variables) (are_vars u) in
-    let named-right : Names (right_byte c.args.right) = names_one (right_byte c.args.right) (λ e. c.if-code-eq4.false (c.right_code_lem.ensures ∙ e)) in
+    let named-right : Names (right_byte c.args.right) = names_one (right_byte c.args.right) (λ e. c.if-code-eq4.false (c.right_code-code.ensures ∙ e)) in
     let by_chain : (u : Known) → length_answer (length_of c.chain-chain.result) ≡ C.question (store u) c.args.name.now c.args.variable.now (right_byte c.args.right) = λ u. let p = c.args.name.now in
     let x = c.args.variable.now in
     let R = named-right in
     let q = principal_at_lem u in
     let w = place_at u in
-    let is_code : c.right_code_lem.result ≡ code R.right = c.right_code_lem.ensures ∙ ap right_code R.is_right in
+    let is_code : c.right_code-code.result ≡ code R.right = c.right_code-code.ensures ∙ ap right_code R.is_right in
     ap length_answer (c.chain-chain.ensures (store u) R.right x p (store_valid u) u.represents.assertions (asks u p x c.in-At.number c.in-At.start c.in-At.end q c.in-At-place.shared c.in-At-place.start c.in-At-place.end w R.right _ is_code))
     ∙ answered u p x c.in-At.number c.in-At.start c.in-At.end q c.in-At-place.shared c.in-At-place.start c.in-At-place.end w (right_byte c.args.right) R.right R.is_right in
     ap (λ (o : Answer). length_answer (length_of o)) (sym c.in-Yes.is) ∙ by_chain u
@@ -68,13 +68,13 @@ returns-in-No c u =
     let Known : Type 0 = Understood c.args.state.now c.args.principals.now c.args.vars.now c.args.assertions.now c.args.parts in
     let principal_at_lem : (u : Known) → At c.in-At.number c.in-At.start c.in-At.end ≡ place (map principal_row (store u).principals) c.args.name.now = λ u. sym c.in-At.is ∙ c.find-principal.ensures (map principal_row (store u).principals) (are_principals u) in
     let place_at : (u : Known) → At c.in-At-place.shared c.in-At-place.start c.in-At-place.end ≡ place (map variable_row (store u).variables) c.args.variable.now = λ u. sym c.in-At-place.is ∙ c.find-place.ensures (map variable_row (store u).variables) (are_vars u) in
-    let named-right : Names (right_byte c.args.right) = names_one (right_byte c.args.right) (λ e. c.if-code-eq4.false (c.right_code_lem.ensures ∙ e)) in
+    let named-right : Names (right_byte c.args.right) = names_one (right_byte c.args.right) (λ e. c.if-code-eq4.false (c.right_code-code.ensures ∙ e)) in
     let by_chain : (u : Known) → length_answer (length_of c.chain-chain.result) ≡ C.question (store u) c.args.name.now c.args.variable.now (right_byte c.args.right) = λ u. let p = c.args.name.now in
     let x = c.args.variable.now in
     let R = named-right in
     let q = principal_at_lem u in
     let w = place_at u in
-    let is_code : c.right_code_lem.result ≡ code R.right = c.right_code_lem.ensures ∙ ap right_code R.is_right in
+    let is_code : c.right_code-code.result ≡ code R.right = c.right_code-code.ensures ∙ ap right_code R.is_right in
     ap length_answer (c.chain-chain.ensures (store u) R.right x p (store_valid u) u.represents.assertions (asks u p x c.in-At.number c.in-At.start c.in-At.end q c.in-At-place.shared c.in-At-place.start c.in-At-place.end w R.right _ is_code))
     ∙ answered u p x c.in-At.number c.in-At.start c.in-At.end q c.in-At-place.shared c.in-At-place.start c.in-At-place.end w (right_byte c.args.right) R.right R.is_right in
     ap (λ (o : Answer). length_answer (length_of o)) (sym c.in-No.is) ∙ by_chain u

@@ -40,7 +40,7 @@ returns c s b a A =
     let g = c.args in
     let p = c.requires in
     let room = entered_room p.session g.l p.buffers g.assertions.now p.assertion g.number g.weight p.asserts c.if-after-gt8192.false in
-    let z : length c.enter-n.new.0 ≡ length g.assertions.now = c.enter-n.auto.0 in
-    subst (λ (k : Layout). Running (entered s (a ∷ [])) k (restood b c.enter-n.new.0)) (sym c.with_assertions_lem.ensures)
-    (entered_new s g.l b g.assertions.now a g.number g.weight A c.enter-n.new.0 c.enter-n.result
+    let z : length c.enter-n.new.list ≡ length g.assertions.now = c.enter-n.auto.list in
+    subst (λ (k : Layout). Running (entered s (a ∷ [])) k (restood b c.enter-n.new.list)) (sym c.with_assertions.ensures)
+    (entered_new s g.l b g.assertions.now a g.number g.weight A c.enter-n.new.list c.enter-n.result
     (sym c.stands.ensures ∙ c.if-stands.false) c.if-after-gt8192.false z (omega (arith, z, room, c.enter-n.ensures.others.0.1)) c.enter-n.ensures.entered)

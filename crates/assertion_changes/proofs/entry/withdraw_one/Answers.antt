@@ -31,9 +31,9 @@ returns-then-stands c s b a A =
     let g = c.args in
     let p = c.requires in
     let room = within p.session g.l p.buffers g.assertions.now p.assertion g.number g.weight p.asserts in
-    let z : length c.withdraw-n.new.0 ≡ length g.assertions.now = c.withdraw-n.auto.0 in
-    subst (λ (k : Layout). Running (withdrawn s (a ∷ [])) k (restood b c.withdraw-n.new.0)) (sym c.with_assertions_lem.ensures)
-    (withdrawn_one s g.l b g.assertions.now a g.number g.weight A c.withdraw-n.new.0 c.withdraw-n.result
+    let z : length c.withdraw-n.new.list ≡ length g.assertions.now = c.withdraw-n.auto.list in
+    subst (λ (k : Layout). Running (withdrawn s (a ∷ [])) k (restood b c.withdraw-n.new.list)) (sym c.with_assertions.ensures)
+    (withdrawn_one s g.l b g.assertions.now a g.number g.weight A c.withdraw-n.new.list c.withdraw-n.result
     (sym c.stands.ensures ∙ c.if-stands.true) z (omega (arith, z, room, c.withdraw-n.ensures.others.0)) c.withdraw-n.ensures.withdrawn)
 
 pub returns : goal.returns

@@ -20,5 +20,5 @@ copy_in-c-requires c = omega (arith, c.put_header-a.ensures.ends, written_length
 pub returns : goal.returns
 returns c =
     c.zero_rest.ensures
-    ∙ brought_padded c.args.former.now c.args.parts c.args.state.now c.copy_in-c.new.0 c.copy_in-c.result c.requires.size
+    ∙ brought_padded c.args.former.now c.args.parts c.args.state.now c.copy_in-c.new.out c.copy_in-c.result c.requires.size
     (c.put_header-a.ensures ▸ c.put_counted-b.ensures ▸ c.copy_in-c.ensures)

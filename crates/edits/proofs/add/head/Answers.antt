@@ -18,12 +18,12 @@ copy-requires c =
 pub bounds-buf-last : goal.bounds-buf-last
 bounds-buf-last c =
     let two : let a = c.args in length (set (set a.buf.now a.at a.letter) (a.at + 1) 9) ≡ length a.buf.now = let a = c.args in length-set (set a.buf.now a.at a.letter) (a.at + 1) 9 ∙ length-set a.buf.now a.at a.letter in
-    omega (arith, two, c.requires, c.copy.auto.0)
+    omega (arith, two, c.requires, c.copy.auto.dst)
 
 pub shape_of-buf : goal.shape_of-buf
 shape_of-buf c =
     let two : let a = c.args in length (set (set a.buf.now a.at a.letter) (a.at + 1) 9) ≡ length a.buf.now = let a = c.args in length-set (set a.buf.now a.at a.letter) (a.at + 1) 9 ∙ length-set a.buf.now a.at a.letter in
-    simp length-set (c.copy.auto.0 ∙ two)
+    simp length-set (c.copy.auto.dst ∙ two)
 
 pub returns : goal.returns
 returns c =

@@ -59,7 +59,7 @@ bounds-buf-start c =
     let l = lies (map principal_row S.principals) t a.count a.slots.now (principals_rows S.principals t a.count a.slots.now S.held) a.number S.below c.nth-place.result (placed S.principals S.held) in
     let n = length-take-le a.len a.buf.now fits in
     (omega (arith, l.first), omega (arith, l.middle, l.last, n)) in
-    omega (arith, safe, c.requires.1, c.rewrite-n.auto.0)
+    omega (arith, safe, c.requires.1, c.rewrite-n.auto.buf)
 
 pub returns : goal.returns
 returns c =
@@ -77,9 +77,9 @@ returns c =
     let f = safe in
     let size : c.rewrite-n.result ≡ a.len + 1 = c.rewrite-n.ensures.size ∙ omega (arith, f) in record {
       size = size;
-      outside = store_outside a.buf.now c.rewrite-n.new.0 c.rewrite-n.result a.slots.now c.rewrite-n.new.1.1.0 a.count c.nth-place.result.start 80 (omega (arith, f, size)) c.rewrite-n.ensures.outside;
+      outside = store_outside a.buf.now c.rewrite-n.new.buf c.rewrite-n.result a.slots.now c.rewrite-n.new.slots a.count c.nth-place.result.start 80 (omega (arith, f, size)) c.rewrite-n.ensures.outside;
       held = λ ks K e.
-            opened ks t a.count a.slots.now K a.number k c.rewrite-n.new.0 c.rewrite-n.result c.nth-place.result.start c.rewrite-n.new.1.1.0
+            opened ks t a.count a.slots.now K a.number k c.rewrite-n.new.buf c.rewrite-n.result c.nth-place.result.start c.rewrite-n.new.slots
             (c.rewrite-n.ensures.held (map principal_row ks) (tabbed (principal_at ks a.number)) (principals_rows ks t a.count a.slots.now K)
             (bare_respelled ks t a.count a.slots.now K a.number k c.nth-place.result (placed ks K) e))
             (placed ks K).starts (omega (arith, f, size));

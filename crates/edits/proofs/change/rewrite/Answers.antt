@@ -56,9 +56,9 @@ returns c =
     let i = inside in
     let fits : c.splice-n.result ≤ length a.buf.now = omega (arith, c.splice-n.ensures.size, p.3) in record {
       size = c.splice-n.ensures.size;
-      outside = outside a.buf.now a.src.now c.splice-n.new.0 a.len a.count a.number a.from a.to c.splice-n.result a.slots.now c.shift.new.0 p.2.below i.1 p.1 p.2.order i.0
+      outside = outside a.buf.now a.src.now c.splice-n.new.buf a.len a.count a.number a.from a.to c.splice-n.result a.slots.now c.shift.new.slots p.2.below i.1 p.1 p.2.order i.0
             c.splice-n.ensures.size fits c.splice-n.ensures.left c.shift.ensures;
       held = λ rows row H R.
-            rewritten rows row a.buf.now a.src.now c.splice-n.new.0 a.len a.count a.number a.from a.to c.splice-n.result a.slots.now c.shift.new.0 H p.2.below i.1 p.0 p.1
+            rewritten rows row a.buf.now a.src.now c.splice-n.new.buf a.len a.count a.number a.from a.to c.splice-n.result a.slots.now c.shift.new.slots H p.2.below i.1 p.0 p.1
             p.2.order i.0 R c.splice-n.ensures.size fits c.splice-n.ensures.left c.shift.ensures;
     }

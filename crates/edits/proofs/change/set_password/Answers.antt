@@ -83,7 +83,7 @@ write_password-requires-in-Absent c =
     let ks = S.principals in
     let w = a.password.now in
     let l = below_principals ks text a.count a.slots.now S.held a.number S.below in
-    let z : length c.open_line-n.new.0 ≡ length a.buf.now = c.open_line-n.auto.0 in (
+    let z : length c.open_line-n.new.buf ≡ length a.buf.now = c.open_line-n.auto.buf in (
       omega (arith, z, c.requires.0),
       omega (arith, z, c.open_line-n.ensures.size, longer),
       record {
@@ -92,7 +92,7 @@ write_password-requires-in-Absent c =
         held = c.open_line-n.ensures.held ks S.held (bare ks S.held);
         below = S.below;
         kept = with_kept ks a.number [] l;
-        fits = subst (λ (q : List Principal). length (principals_text q) ≤ length c.open_line-n.new.0) (sym (with_twice ks a.number [] w l)) (omega (arith, room, z));
+        fits = subst (λ (q : List Principal). length (principals_text q) ≤ length c.open_line-n.new.buf) (sym (with_twice ks a.number [] w l)) (omega (arith, room, z));
       },
     )
 
@@ -106,7 +106,7 @@ returns-in-Kept c =
     let a = c.args in record {
       outside = c.write_password.ensures.outside;
       held = λ ks p K d n.
-          subst (λ (q : List Principal). Principals q (take c.write_password.result c.write_password.new.0) a.count c.write_password.new.1.1.0) (sym (by_number ks p K d n))
+          subst (λ (q : List Principal). Principals q (take c.write_password.result c.write_password.new.buf) a.count c.write_password.new.slots) (sym (by_number ks p K d n))
           (c.write_password.ensures.held ks _ K (kept ks K));
     }
 
@@ -117,22 +117,22 @@ returns-in-Absent c =
     let b = below_principals ks text a.count a.slots.now K a.number c.requires.2.below in
     changed_at ks p a.password.now d (omega (arith, n, b)) ∙ ap (λ (k : ℕ). with_password ks k a.password.now) (sym n) in
     let bare : (ks : List Principal) → Principals ks text.args.count c.args.slots.now → (principal_at ks c.args.number).password ≡ none = λ ks K. sym (ap (password_meant text) (sym c.in-Absent.is) ∙ (c.password_of-p.ensures ks K).meant) in
-    let both-done : (ks : List Principal) → let a = c.args in Principals ks text a.count a.slots.now → Principals (with_password ks a.number a.password.now) (take c.write_password-in-Absent.result c.write_password-in-Absent.new.0) a.count c.write_password-in-Absent.new.1.1.0 = λ ks K. let a = c.args in
+    let both-done : (ks : List Principal) → let a = c.args in Principals ks text a.count a.slots.now → Principals (with_password ks a.number a.password.now) (take c.write_password-in-Absent.result c.write_password-in-Absent.new.buf) a.count c.write_password-in-Absent.new.slots = λ ks K. let a = c.args in
     let l = below_principals ks text a.count a.slots.now K a.number c.requires.2.below in
-    subst (λ (q : List Principal). Principals q (take c.write_password-in-Absent.result c.write_password-in-Absent.new.0) a.count c.write_password-in-Absent.new.1.1.0) (with_twice ks a.number [] a.password.now l)
+    subst (λ (q : List Principal). Principals q (take c.write_password-in-Absent.result c.write_password-in-Absent.new.buf) a.count c.write_password-in-Absent.new.slots) (with_twice ks a.number [] a.password.now l)
     (c.write_password-in-Absent.ensures.held (with_password ks a.number []) [] (c.open_line-n.ensures.held ks K (bare ks K)) (with_kept ks a.number [] l)) in
     let grown : c.open_line-n.result ≤ c.write_password-in-Absent.result = let a = c.args in
     let S = c.requires.2 in
-    let h : c.write_password-in-Absent.result ≤ length c.write_password-in-Absent.new.0 = omega (arith, c.write_password-in-Absent.ensures.outside.within, c.write_password-in-Absent.auto.0) in
+    let h : c.write_password-in-Absent.result ≤ length c.write_password-in-Absent.new.buf = omega (arith, c.write_password-in-Absent.ensures.outside.within, c.write_password-in-Absent.auto.buf) in
     omega (
       arith,
       c.open_line-n.ensures.size,
-      held_size (with_password S.principals a.number a.password.now) c.write_password-in-Absent.new.0 c.write_password-in-Absent.result a.count c.write_password-in-Absent.new.1.1.0 h (both-done S.principals S.held),
+      held_size (with_password S.principals a.number a.password.now) c.write_password-in-Absent.new.buf c.write_password-in-Absent.result a.count c.write_password-in-Absent.new.slots h (both-done S.principals S.held),
       bare_size S.principals text a.count a.slots.now S.held a.number S.below a.password.now (bare S.principals S.held),
       length-take-le a.len a.buf.now c.requires.1,
     ) in
     let a = c.args in record {
-      outside = outside_on a.buf.now c.open_line-n.new.0 c.write_password-in-Absent.new.0 c.open_line-n.result c.write_password-in-Absent.result a.slots.now c.open_line-n.new.1.1.0 c.write_password-in-Absent.new.1.1.0 a.count grown.open_line-n.auto.0 c.open_line-n.ensures.outside c.write_password-in-Absent.ensures.outside;
+      outside = outside_on a.buf.now c.open_line-n.new.buf c.write_password-in-Absent.new.buf c.open_line-n.result c.write_password-in-Absent.result a.slots.now c.open_line-n.new.slots c.write_password-in-Absent.new.slots a.count grown.open_line-n.auto.buf c.open_line-n.ensures.outside c.write_password-in-Absent.ensures.outside;
       held = λ ks p K d n.
-          subst (λ (q : List Principal). Principals q (take c.write_password-in-Absent.result c.write_password-in-Absent.new.0) a.count c.write_password-in-Absent.new.1.1.0) (sym (by_number ks p K d n)) (both-done ks K);
+          subst (λ (q : List Principal). Principals q (take c.write_password-in-Absent.result c.write_password-in-Absent.new.buf) a.count c.write_password-in-Absent.new.slots) (sym (by_number ks p K d n)) (both-done ks K);
     }

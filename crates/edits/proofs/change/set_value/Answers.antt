@@ -63,7 +63,7 @@ returns c =
     let k = c.requires.2.below in record {
       outside = c.rewrite.ensures.outside;
       held = λ vs x v W n e.
-          put_held vs t a.count a.slots.now W x a.number k n v (take c.rewrite.result c.rewrite.new.0) c.rewrite.new.1.1.0
+          put_held vs t a.count a.slots.now W x a.number k n v (take c.rewrite.result c.rewrite.new.buf) c.rewrite.new.slots
           (c.rewrite.ensures.held (map variable_row vs) (variable_row (with_value vs t a.count a.slots.now W x a.number k n v)) (variables_rows vs t a.count a.slots.now W)
           (spelled vs x v W k n e));
     }

@@ -70,7 +70,7 @@ returns c =
     let w = a.password.now in record {
       outside = c.rewrite.ensures.outside;
       held = λ ks old K e.
-          with_held ks t a.count a.slots.now K a.number k w (take c.rewrite.result c.rewrite.new.0) c.rewrite.new.1.1.0
+          with_held ks t a.count a.slots.now K a.number k w (take c.rewrite.result c.rewrite.new.buf) c.rewrite.new.slots
           (c.rewrite.ensures.held (map principal_row ks) (principal_row (passworded w (principal_at ks a.number))) (principals_rows ks t a.count a.slots.now K)
           (kept_respelled ks t a.count a.slots.now K a.number k c.nth-place.result (placed ks K) c.count_at-digits.result (c.count_at-digits.ensures.counted ks K) old w e));
     }

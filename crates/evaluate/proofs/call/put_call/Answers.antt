@@ -43,5 +43,5 @@ returns c s S =
     let a = c.args in
     let F = c.string_in-i.ensures.meant s (c.source-a.ensures s S) in
     let G = c.string_in-j.ensures.meant s (c.source-b.ensures s S) in
-    subst (λ (o : Outcome Value). Valued c.apply.result o c.apply.new.1.1.1.1.1.0) (sym (call_is s (function_meant a.f) (operand_meant a.text.now a.v) (operand_meant a.text.now a.w)))
-    (subst (λ (p : Option Text × Option Text). Valued c.apply.result (applied_to (function_meant a.f) p.0 p.1) c.apply.new.1.1.1.1.1.0) (λ i. (F i, G i)) c.apply.ensures)
+    subst (λ (o : Outcome Value). Valued c.apply.result o c.apply.new.out) (sym (call_is s (function_meant a.f) (operand_meant a.text.now a.v) (operand_meant a.text.now a.w)))
+    (subst (λ (p : Option Text × Option Text). Valued c.apply.result (applied_to (function_meant a.f) p.0 p.1) c.apply.new.out) (λ i. (F i, G i)) c.apply.ensures)

@@ -30,5 +30,5 @@ pub returns : goal.returns
 returns c s S =
     let a = c.args in
     let H = c.source-a.ensures s S in
-    subst (λ (o : Outcome Value). Valued c.lower.result o c.lower.new.1.1.0) (sym (lower_is s (operand_meant a.text.now a.v)))
-    (subst (λ (o : Option Text). Valued c.lower.result (lowered_to o) c.lower.new.1.1.0) (c.string_in-i.ensures.meant s H) c.lower.ensures)
+    subst (λ (o : Outcome Value). Valued c.lower.result o c.lower.new.out) (sym (lower_is s (operand_meant a.text.now a.v)))
+    (subst (λ (o : Option Text). Valued c.lower.result (lowered_to o) c.lower.new.out) (c.string_in-i.ensures.meant s H) c.lower.ensures)

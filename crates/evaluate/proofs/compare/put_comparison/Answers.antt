@@ -45,5 +45,5 @@ returns c s S =
     let p = operand_meant a.text.now a.w in
     let F = c.element_at-i.ensures s (c.source-a.ensures s S) in
     let G = c.element_at-j.ensures s (c.source-b.ensures s S) in
-    subst (λ (r : Outcome Value). Valued c.compare.result r c.compare.new.1.1.1.1.1.0) (sym (compare_is s (comparison_meant a.c) o p))
+    subst (λ (r : Outcome Value). Valued c.compare.result r c.compare.new.out) (sym (compare_is s (comparison_meant a.c) o p))
     (c.compare.ensures (element_of (operand_value s o)) (element_of (operand_value s p)) F G)

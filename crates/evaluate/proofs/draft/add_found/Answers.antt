@@ -28,7 +28,7 @@ add-requires c =
     }
 
 pub returns-in-At : goal.returns-in-At
-returns-in-At c fs D h = extends_as fs c.args.label.now c.args.value.now c.add.result c.add.new.0 c.add.new.1.0 c.in-At.is (c.add.ensures fs D h)
+returns-in-At c fs D h = extends_as fs c.args.label.now c.args.value.now c.add.result c.add.new.out c.add.new.slots c.in-At.is (c.add.ensures fs D h)
 
 pub returns-in-Missing : goal.returns-in-Missing
 returns-in-Missing c fs D h = extends_as fs c.args.label.now c.args.value.now _ c.args.out.now c.args.slots.now c.in-Missing.is tt

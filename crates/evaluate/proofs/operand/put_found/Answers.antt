@@ -19,7 +19,7 @@ pub put_text-requires : goal.put_text-requires
 put_text-requires c = (subst (λ (f : Found). MaybeString (text_at c.args.value.now f)) c.in-At.is c.requires.1, c.requires.2)
 
 pub returns-in-At : goal.returns-in-At
-returns-in-At c = subst (λ (f : Found). Valued c.put_text.result (by_weight (string_value (text_at c.args.value.now f))) c.put_text.new.1.0) (sym c.in-At.is) c.put_text.ensures
+returns-in-At c = subst (λ (f : Found). Valued c.put_text.result (by_weight (string_value (text_at c.args.value.now f))) c.put_text.new.out) (sym c.in-At.is) c.put_text.ensures
 
 pub returns-in-Missing : goal.returns-in-Missing
 returns-in-Missing c = ap (λ (f : Found). by_weight (string_value (text_at c.args.value.now f))) c.in-Missing.is

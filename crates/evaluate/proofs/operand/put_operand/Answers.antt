@@ -68,7 +68,7 @@ put_text-requires c = (subst (λ (o : Operand). T (valid_operand (operand_meant 
 pub returns-in-Name : goal.returns-in-Name
 returns-in-Name c s S =
     let name-read : (s : Session) → let a = c.args in Scope s a.shared.now a.slots.now a.count a.locals.now a.lslots.now a.lcount → ReadAs (lookup s (part a.text.now c.in-Name.x)) c.read-value.result.now = λ s S. read_name S (part c.args.text.now c.in-Name.x) c.read-value.result.now (c.read-value.ensures s.store.variables s.locals S.shared_held S.locals_held) in
-    valued_as c.put_value.result s c.args.text.now c.put_value.new.1.0 c.in-Name.is
+    valued_as c.put_value.result s c.args.text.now c.put_value.new.out c.in-Name.is
     (c.put_value.ensures (lookup s (part c.args.text.now c.in-Name.x)) (name-read s S))
 
 pub returns-in-Field : goal.returns-in-Field
@@ -77,8 +77,8 @@ returns-in-Field c s S =
     let x = part c.args.text.now c.in-Field.x in
     let y = part c.args.text.now c.in-Field.y in
     let e = ap string_value (c.field_of-found.ensures.meant (lookup s x) (dot-read s S)) ∙ dot_value s x y in
-    valued_as c.put_found.result s c.args.text.now c.put_found.new.1.1.0 c.in-Field.is
-    (subst (λ (o : Option Value). Valued c.put_found.result (by_weight o) c.put_found.new.1.1.0) e c.put_found.ensures)
+    valued_as c.put_found.result s c.args.text.now c.put_found.new.out c.in-Field.is
+    (subst (λ (o : Option Value). Valued c.put_found.result (by_weight o) c.put_found.new.out) e c.put_found.ensures)
 
 pub returns-in-Quoted : goal.returns-in-Quoted
-returns-in-Quoted c s S = valued_as c.put_text.result s c.args.text.now c.put_text.new.1.0 c.in-Quoted.is c.put_text.ensures
+returns-in-Quoted c s S = valued_as c.put_text.result s c.args.text.now c.put_text.new.out c.in-Quoted.is c.put_text.ensures

@@ -28,4 +28,4 @@ add_found-requires c =
 pub returns : goal.returns
 returns c s fs S D h =
     let a = c.args in
-    extends_by fs (part a.text.now a.x) c.add_found.result c.add_found.new.0 c.add_found.new.1.0 (c.string_in-found.ensures.meant s (c.source-s.ensures s S)) (c.add_found.ensures fs D h)
+    extends_by fs (part a.text.now a.x) c.add_found.result c.add_found.new.out c.add_found.new.slots (c.string_in-found.ensures.meant s (c.source-s.ensures s S)) (c.add_found.ensures fs D h)

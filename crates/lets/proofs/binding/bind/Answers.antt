@@ -99,14 +99,14 @@ returns c s k v base number P =
     let sum_is : (s : Session) (k : Frame) (v : Value) (base number : ℕ) (P : Pushes s k v base number) → c.small.result + 1 + (c.name_of-x.result.end - c.name_of-x.result.start) + c.args.weight ≡ total P = λ s k v base number P. omega (arith, name-size s k v base number P, c.small.ensures.0, P.weighs, P.value_weighs) in
     let fits : (s : Session) (k : Frame) (v : Value) (base number : ℕ) (P : Pushes s k v base number) → total P ≤ limit = λ s k v base number P. let e = sum_is s k v base number P in
     omega (arith, e, c.if-bound-gt8192.false) in
-    let added : (s : Session) (k : Frame) (v : Value) (base number : ℕ) (P : Pushes s k v base number) → Variables (more P) (take c.add_variable-end.result c.add_variable-end.new.0) (c.small-n.result + 1) c.add_variable-end.new.1.1.0 = λ s k v base number P. let a = c.args in
+    let added : (s : Session) (k : Frame) (v : Value) (base number : ℕ) (P : Pushes s k v base number) → Variables (more P) (take c.add_variable-end.result c.add_variable-end.new.buf) (c.small-n.result + 1) c.add_variable-end.new.slots = λ s k v base number P. let a = c.args in
     let nm = c.name_of-x.ensures.named k P.standing.framed in
     let H : Variables k.locals (take c.large-len.result a.scope.now) c.small-n.result a.local_slots.now =
     subst (λ (m : ℕ). Variables k.locals (take m a.scope.now) c.small-n.result a.local_slots.now) (sym c.large-len.ensures)
     (subst (λ (m : ℕ). Variables k.locals (take (get_or a.lens.now a.d 0) a.scope.now) m a.local_slots.now) (sym c.small-n.ensures.0) P.standing.held.locals_held) in
-    subst (λ (y : Name). Variables (k.locals ++ (record { name = y; value = v } ∷ [])) (take c.add_variable-end.result c.add_variable-end.new.0) (c.small-n.result + 1) c.add_variable-end.new.1.1.0) nm
+    subst (λ (y : Name). Variables (k.locals ++ (record { name = y; value = v } ∷ [])) (take c.add_variable-end.result c.add_variable-end.new.buf) (c.small-n.result + 1) c.add_variable-end.new.slots) nm
     (c.add_variable-end.ensures.held k.locals v H (subst (λ (y : Name). T (is_name y)) (sym nm) P.name_holds) P.is_value.is_text_lem) in
     let a = c.args in
-    subst (λ (w : ℕ). Opened s k v (texts a.shared.now a.slots.now a.count c.add_variable-end.new.0 c.add_variable-end.new.1.1.0) base number c.add_variable-end.result (c.small-n.result + 1) w) (sym (sum_is s k v base number P))
-    (binds_done P c.add_variable-end.new.0 c.add_variable-end.new.1.1.0 c.add_variable-end.result (c.small-n.result + 1) (sym (c.is_taken.ensures s k P.standing) ∙ c.if-is_taken.false) (fits s k v base number P)
-    (added s k v base number P) (omega (arith, c.add_variable-end.ensures.outside.within, c.add_variable-end.auto.0)))
+    subst (λ (w : ℕ). Opened s k v (texts a.shared.now a.slots.now a.count c.add_variable-end.new.buf c.add_variable-end.new.slots) base number c.add_variable-end.result (c.small-n.result + 1) w) (sym (sum_is s k v base number P))
+    (binds_done P c.add_variable-end.new.buf c.add_variable-end.new.slots c.add_variable-end.result (c.small-n.result + 1) (sym (c.is_taken.ensures s k P.standing) ∙ c.if-is_taken.false) (fits s k v base number P)
+    (added s k v base number P) (omega (arith, c.add_variable-end.ensures.outside.within, c.add_variable-end.auto.buf)))

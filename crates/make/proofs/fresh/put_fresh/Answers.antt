@@ -9,7 +9,7 @@ use Rattle.make.proofs.fresh.put_fresh.Goals as goal
 pub returns : goal.returns
 returns c =
     c.zero_rest.ensures
-    ∙ fresh_padded c.args.password.now c.args.state.now c.put_delegator-e.new.0 c.put_delegator-e.result c.requires.0
+    ∙ fresh_padded c.args.password.now c.args.state.now c.put_delegator-e.new.out c.put_delegator-e.result c.requires.0
     (c.put_header-a.ensures
     ▸ c.copy_in-b.ensures
     ▸ c.copy_in-c.ensures

@@ -40,8 +40,8 @@ loop-i-smaller c =
     let Next : (es : List Element) → Type 0 = λ es. NextElement c.args.text.now es c.args.out.now c.args.o c.loop-i.i c.loop-i.p c.loop-i c.loop-i.out in
     let next : (es : List Element) → Elements c.args.text.now c.args.at es → Next es = λ es E. next_one c.args.text.now es c.args.out.now c.args.o c.loop-i.i c.loop-i.p c.loop-i c.loop-i.out (c.loop-i.invariant.2 es E) c.loop-i-test.true in
     let known : Next c.requires.elements = next c.pre.elements c.pre.stand in
-    let moves : (c.loop-i.i < c.element_json_lem.result.read) × (c.element_json_lem.result.read ≤ length c.args.text.now) = let N = known in
-    one_within _ _ _ _ _ _ _ _ N c.element_json_lem.result.read (c.element_json_lem.ensures N.element _ (one_at _ _ _ _ _ _ _ _ N)).read_to in
+    let moves : (c.loop-i.i < c.element_json-m.result.read) × (c.element_json-m.result.read ≤ length c.args.text.now) = let N = known in
+    one_within _ _ _ _ _ _ _ _ N c.element_json-m.result.read (c.element_json-m.ensures N.element _ (one_at _ _ _ _ _ _ _ _ N)).read_to in
     omega (arith, moves)
 
 pub loop-i-preserved : goal.loop-i-preserved
@@ -49,14 +49,14 @@ loop-i-preserved c =
     let Next : (es : List Element) → Type 0 = λ es. NextElement c.args.text.now es c.args.out.now c.args.o c.loop-i.i c.loop-i.p c.loop-i c.loop-i.out in
     let next : (es : List Element) → Elements c.args.text.now c.args.at es → Next es = λ es E. next_one c.args.text.now es c.args.out.now c.args.o c.loop-i.i c.loop-i.p c.loop-i c.loop-i.out (c.loop-i.invariant.2 es E) c.loop-i-test.true in
     let known : Next c.requires.elements = next c.pre.elements c.pre.stand in
-    let moves : (c.loop-i.i < c.element_json_lem.result.read) × (c.element_json_lem.result.read ≤ length c.args.text.now) = let N = known in
-    one_within _ _ _ _ _ _ _ _ N c.element_json_lem.result.read (c.element_json_lem.ensures N.element _ (one_at _ _ _ _ _ _ _ _ N)).read_to in
+    let moves : (c.loop-i.i < c.element_json-m.result.read) × (c.element_json-m.result.read ≤ length c.args.text.now) = let N = known in
+    one_within _ _ _ _ _ _ _ _ N c.element_json-m.result.read (c.element_json-m.ensures N.element _ (one_at _ _ _ _ _ _ _ _ N)).read_to in
     (
       moves.1,
       omega arith,
       λ es E.
           let N = next es E in
-          one_going _ _ _ _ _ _ _ _ N _ _ _ c.element_json_lem.result c.put_byte-a.ensures (c.element_json_lem.ensures N.element _ (one_at _ _ _ _ _ _ _ _ N)),
+          one_going _ _ _ _ _ _ _ _ N _ _ _ c.element_json-m.result c.put_byte-a.ensures (c.element_json-m.ensures N.element _ (one_at _ _ _ _ _ _ _ _ N)),
     )
 
 pub returns : goal.returns

@@ -49,8 +49,8 @@ loop-i-smaller c =
     let next : (fs : List Field) (rest : Text) → FieldsAt c.args.text.now c.args.at fs rest → Next fs rest = λ fs rest F. next_field c.args.text.now c.args.at fs rest c.args.out.now c.args.o c.loop-i.i c.loop-i.p c.loop-i.sep
     c.loop-i.out (c.loop-i.invariant.2 fs rest F) c.loop-i-test.true c.if-text-i-ne70.false in
     let known : Next c.requires.fields c.requires.rest = next c.pre.fields c.pre.rest c.pre.stand in
-    let moves : (c.loop-i.i < c.field_json_lem.result.read) × (c.field_json_lem.result.read ≤ length c.args.text.now) = let N = known in
-    next_within _ _ _ _ _ _ _ _ _ _ N c.field_json_lem.result.read (c.field_json_lem.ensures N.field _ (next_at _ _ _ _ _ _ _ _ _ _ N)).read_to in
+    let moves : (c.loop-i.i < c.field_json-m.result.read) × (c.field_json-m.result.read ≤ length c.args.text.now) = let N = known in
+    next_within _ _ _ _ _ _ _ _ _ _ N c.field_json-m.result.read (c.field_json-m.ensures N.field _ (next_at _ _ _ _ _ _ _ _ _ _ N)).read_to in
     omega (arith, moves)
 
 pub loop-i-preserved : goal.loop-i-preserved
@@ -59,14 +59,14 @@ loop-i-preserved c =
     let next : (fs : List Field) (rest : Text) → FieldsAt c.args.text.now c.args.at fs rest → Next fs rest = λ fs rest F. next_field c.args.text.now c.args.at fs rest c.args.out.now c.args.o c.loop-i.i c.loop-i.p c.loop-i.sep
     c.loop-i.out (c.loop-i.invariant.2 fs rest F) c.loop-i-test.true c.if-text-i-ne70.false in
     let known : Next c.requires.fields c.requires.rest = next c.pre.fields c.pre.rest c.pre.stand in
-    let moves : (c.loop-i.i < c.field_json_lem.result.read) × (c.field_json_lem.result.read ≤ length c.args.text.now) = let N = known in
-    next_within _ _ _ _ _ _ _ _ _ _ N c.field_json_lem.result.read (c.field_json_lem.ensures N.field _ (next_at _ _ _ _ _ _ _ _ _ _ N)).read_to in
+    let moves : (c.loop-i.i < c.field_json-m.result.read) × (c.field_json-m.result.read ≤ length c.args.text.now) = let N = known in
+    next_within _ _ _ _ _ _ _ _ _ _ N c.field_json-m.result.read (c.field_json-m.ensures N.field _ (next_at _ _ _ _ _ _ _ _ _ _ N)).read_to in
     (
       moves.1,
       omega arith,
       λ fs rest F.
           let N = next fs rest F in
-          next_going _ _ _ _ _ _ _ _ _ _ N _ _ _ c.field_json_lem.result c.put_byte-a.ensures (c.field_json_lem.ensures N.field _ (next_at _ _ _ _ _ _ _ _ _ _ N)),
+          next_going _ _ _ _ _ _ _ _ _ _ N _ _ _ c.field_json-m.result c.put_byte-a.ensures (c.field_json-m.ensures N.field _ (next_at _ _ _ _ _ _ _ _ _ _ N)),
     )
 
 pub returns : goal.returns

@@ -23,7 +23,7 @@ element_json-m-requires c =
 pub returns-then-value-ne76 : goal.returns-then-value-ne76
 returns-then-value-ne76 c v h =
     let S = single_at v c.args.value.now h c.if-value-ne76.true in
-    rewritten (ap value_json (sym S.is_value)) (c.element_json_lem.ensures S.element [] S.stands).written
+    rewritten (ap value_json (sym S.is_value)) (c.element_json-m.ensures S.element [] S.stands).written
 
 pub copy_in-requires : goal.copy_in-requires
 copy_in-requires c =

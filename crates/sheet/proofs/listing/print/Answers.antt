@@ -24,16 +24,16 @@ all-marks : (count : ℕ) (marks : List ℕ) → count ≤ 1024 → length marks
 all-marks count marks h e = omega (arith, front count marks h e)
 
 pub slice_bounds-put_sheet-end : goal.slice_bounds-put_sheet-end
-slice_bounds-put_sheet-end c = sym (front _ _ c.requires.numbers.few c.mark.auto.1.1.1.1.1.0)
+slice_bounds-put_sheet-end c = sym (front _ _ c.requires.numbers.few c.mark.auto.marks)
 
 pub slice_bounds-put_sheet-end-2 : goal.slice_bounds-put_sheet-end-2
-slice_bounds-put_sheet-end-2 c = sym (front _ _ c.requires.numbers.few c.mark-2.auto.1.1.1.1.1.0)
+slice_bounds-put_sheet-end-2 c = sym (front _ _ c.requires.numbers.few c.mark-2.auto.marks)
 
 pub slice_bounds-put_sheet-end-3 : goal.slice_bounds-put_sheet-end-3
-slice_bounds-put_sheet-end-3 c = sym (front _ _ c.requires.numbers.few c.mark-3.auto.1.1.1.1.1.0)
+slice_bounds-put_sheet-end-3 c = sym (front _ _ c.requires.numbers.few c.mark-3.auto.marks)
 
 pub slice_bounds-put_sheet-end-4 : goal.slice_bounds-put_sheet-end-4
-slice_bounds-put_sheet-end-4 c = sym (front _ _ c.requires.numbers.few c.mark-4.auto.1.1.1.1.1.0)
+slice_bounds-put_sheet-end-4 c = sym (front _ _ c.requires.numbers.few c.mark-4.auto.marks)
 
 pub put_sheet-bytes-requires : goal.put_sheet-bytes-requires
 put_sheet-bytes-requires c =
@@ -41,10 +41,10 @@ put_sheet-bytes-requires c =
     let f = P.numbers.few in
     record {
       some_rows = some_principals P.state.principals _ _ _ P.tables.principals;
-      reads_long = all-marks _ _ f c.mark.auto.1.1.1.1.1.0;
-      writes_long = all-marks _ _ f c.mark-2.auto.1.1.1.1.1.0;
-      appends_long = all-marks _ _ f c.mark-3.auto.1.1.1.1.1.0;
-      delegates_long = all-marks _ _ f c.mark-4.auto.1.1.1.1.1.0;
+      reads_long = all-marks _ _ f c.mark.auto.marks;
+      writes_long = all-marks _ _ f c.mark-2.auto.marks;
+      appends_long = all-marks _ _ f c.mark-3.auto.marks;
+      delegates_long = all-marks _ _ f c.mark-4.auto.marks;
       fits = omega (arith, f, P.size);
     }
 
@@ -52,7 +52,7 @@ pub zero_rest-requires : goal.zero_rest-requires
 zero_rest-requires c =
     let Lent : Store → Name → Type 0 = λ s x. let a = c.args in SheetTables s x a.names.now a.slots.now a.count a.n a.number a.assertions.now in
     let everyone : List ℕ → List ℕ = λ l. take c.args.count l in
-    let marked : (s : Store) (x : Name) → Lent s x → Marked s x (everyone c.mark.new.1.1.1.1.1.0) (everyone c.mark-2.new.1.1.1.1.1.0) (everyone c.mark-3.new.1.1.1.1.1.0) (everyone c.mark-4.new.1.1.1.1.1.0) = λ s x h. record {
+    let marked : (s : Store) (x : Name) → Lent s x → Marked s x (everyone c.mark.new.marks) (everyone c.mark-2.new.marks) (everyone c.mark-3.new.marks) (everyone c.mark-4.new.marks) = λ s x h. record {
   reads_are = c.mark.ensures s read x h.is_valid h.standing (asks_all h read _ refl);
   writes_are = c.mark-2.ensures s write x h.is_valid h.standing (asks_all h write _ refl);
   appends_are = c.mark-3.ensures s append x h.is_valid h.standing (asks_all h append _ refl);
@@ -66,7 +66,7 @@ pub returns : goal.returns
 returns c s x h =
     let Lent : Store → Name → Type 0 = λ s x. let a = c.args in SheetTables s x a.names.now a.slots.now a.count a.n a.number a.assertions.now in
     let everyone : List ℕ → List ℕ = λ l. take c.args.count l in
-    let marked : (s : Store) (x : Name) → Lent s x → Marked s x (everyone c.mark.new.1.1.1.1.1.0) (everyone c.mark-2.new.1.1.1.1.1.0) (everyone c.mark-3.new.1.1.1.1.1.0) (everyone c.mark-4.new.1.1.1.1.1.0) = λ s x h. record {
+    let marked : (s : Store) (x : Name) → Lent s x → Marked s x (everyone c.mark.new.marks) (everyone c.mark-2.new.marks) (everyone c.mark-3.new.marks) (everyone c.mark-4.new.marks) = λ s x h. record {
   reads_are = c.mark.ensures s read x h.is_valid h.standing (asks_all h read _ refl);
   writes_are = c.mark-2.ensures s write x h.is_valid h.standing (asks_all h write _ refl);
   appends_are = c.mark-3.ensures s append x h.is_valid h.standing (asks_all h append _ refl);

@@ -30,7 +30,7 @@ pub returns-in_default : goal.returns-in_default
 returns-in_default c =
     let text : List ℕ = c.args.state.now in
     let form : Form = form_meant c.args.form in
-    let slots-p : List ℕ = c.principals-roster.new.1.1.1.0 in
+    let slots-p : List ℕ = c.principals-roster.new.slots in
     bad_principals form text.args.«open» c.args.from
     (subst (λ k. PrincipalsMeant form text.args.from slots-p k) c.in_default.is c.principals-roster.ensures)
 
@@ -38,7 +38,7 @@ pub delegator_at-line-requires : goal.delegator_at-line-requires
 delegator_at-line-requires c =
     let text : List ℕ = c.args.state.now in
     let form : Form = form_meant c.args.form in
-    let slots-p : List ℕ = c.principals-roster.new.1.1.1.0 in
+    let slots-p : List ℕ = c.principals-roster.new.slots in
     let roster : Principals form text.args.from slots-p.in-Good.principals_to c.in-Good.n c.in-Good.w = subst (λ k. PrincipalsMeant form text.args.from slots-p k) c.in-Good.is c.principals-roster.ensures in
     let prows : List Row = map (row_in form) roster.records.rows in
     let P = roster in
@@ -48,7 +48,7 @@ pub returns-in_default-line : goal.returns-in_default-line
 returns-in_default-line c =
     let text : List ℕ = c.args.state.now in
     let form : Form = form_meant c.args.form in
-    let slots-p : List ℕ = c.principals-roster.new.1.1.1.0 in
+    let slots-p : List ℕ = c.principals-roster.new.slots in
     let roster : Principals form text.args.from slots-p.in-Good.principals_to c.in-Good.n c.in-Good.w = subst (λ k. PrincipalsMeant form text.args.from slots-p k) c.in-Good.is c.principals-roster.ensures in
     let prows : List Row = map (row_in form) roster.records.rows in
     bad_delegator form text.args.«open» c.args.from _ _ _ _ roster
@@ -59,7 +59,7 @@ pub variables-values-requires : goal.variables-values-requires
 variables-values-requires c =
     let text : List ℕ = c.args.state.now in
     let form : Form = form_meant c.args.form in
-    let slots-p : List ℕ = c.principals-roster.new.1.1.1.0 in
+    let slots-p : List ℕ = c.principals-roster.new.slots in
     let roster : Principals form text.args.from slots-p.in-Good.principals_to c.in-Good.n c.in-Good.w = subst (λ k. PrincipalsMeant form text.args.from slots-p k) c.in-Good.is c.principals-roster.ensures in
     let prows : List Row = map (row_in form) roster.records.rows in
     let delegating : Delegating (row_names prows) text.in-Good.principals_to c.in-At.delegator c.in-At.vars_from = subst (λ k. DelegatorMeant (row_names prows) text.in-Good.principals_to k) c.in-At.is
@@ -71,12 +71,12 @@ pub returns-in_default-values : goal.returns-in_default-values
 returns-in_default-values c =
     let text : List ℕ = c.args.state.now in
     let form : Form = form_meant c.args.form in
-    let slots-p : List ℕ = c.principals-roster.new.1.1.1.0 in
+    let slots-p : List ℕ = c.principals-roster.new.slots in
     let roster : Principals form text.args.from slots-p.in-Good.principals_to c.in-Good.n c.in-Good.w = subst (λ k. PrincipalsMeant form text.args.from slots-p k) c.in-Good.is c.principals-roster.ensures in
     let prows : List Row = map (row_in form) roster.records.rows in
     let delegating : Delegating (row_names prows) text.in-Good.principals_to c.in-At.delegator c.in-At.vars_from = subst (λ k. DelegatorMeant (row_names prows) text.in-Good.principals_to k) c.in-At.is
     (c.delegator_at-line.ensures prows (rows_of_principals form text.args.«open» c.args.from _ _ _ _ roster)) in
-    let slots_v : List ℕ = c.variables-values.new.1.1.1.0 in
+    let slots_v : List ℕ = c.variables-values.new.slots in
     bad_variables form text.args.«open» c.args.from _ _ _ _ roster _ _ delegating
     (subst (λ k. VariablesMeant text.in-At.vars_from c.in-Good.w slots_v k) c.in_default-values.is c.variables-values.ensures)
 
@@ -84,12 +84,12 @@ pub assertions-listed-requires : goal.assertions-listed-requires
 assertions-listed-requires c =
     let text : List ℕ = c.args.state.now in
     let form : Form = form_meant c.args.form in
-    let slots-p : List ℕ = c.principals-roster.new.1.1.1.0 in
+    let slots-p : List ℕ = c.principals-roster.new.slots in
     let roster : Principals form text.args.from slots-p.in-Good.principals_to c.in-Good.n c.in-Good.w = subst (λ k. PrincipalsMeant form text.args.from slots-p k) c.in-Good.is c.principals-roster.ensures in
     let prows : List Row = map (row_in form) roster.records.rows in
     let delegating : Delegating (row_names prows) text.in-Good.principals_to c.in-At.delegator c.in-At.vars_from = subst (λ k. DelegatorMeant (row_names prows) text.in-Good.principals_to k) c.in-At.is
     (c.delegator_at-line.ensures prows (rows_of_principals form text.args.«open» c.args.from _ _ _ _ roster)) in
-    let slots_v : List ℕ = c.variables-values.new.1.1.1.0 in
+    let slots_v : List ℕ = c.variables-values.new.slots in
     let values : Values text.in-At.vars_from c.in-Good.w slots_v.in-Good-values.vars_to c.in-Good-values.m c.in-Good-values.v = subst (λ k. VariablesMeant text.in-At.vars_from c.in-Good.w slots_v k) c.in-Good-values.is c.variables-values.ensures in
     let vrows : List Row = map variable_row values.records.rows in
     let P = roster in
@@ -98,8 +98,8 @@ assertions-listed-requires c =
     let v = values_rows form text.args.«open» c.args.from _ _ _ _ P _ _ delegating _ _ _ _ W in
     let lp = slots_long prows _ _ _ p in
     let lv = slots_long vrows _ _ _ v in
-    let kp : length slots-p ≡ length c.args.principals.now = c.principals-roster.auto.1.1.1.0 in
-    let kv : length slots_v ≡ 4096 = c.variables-values.auto.1.1.1.0 ∙ c.requires.variables_size in (
+    let kp : length slots-p ≡ length c.args.principals.now = c.principals-roster.auto.slots in
+    let kv : length slots_v ≡ 4096 = c.variables-values.auto.slots ∙ c.requires.variables_size in (
       record {
         small = omega (arith, c.requires.size);
         principals_order = P.records.reads.low;
@@ -120,15 +120,15 @@ pub returns-in_default-listed : goal.returns-in_default-listed
 returns-in_default-listed c =
     let text : List ℕ = c.args.state.now in
     let form : Form = form_meant c.args.form in
-    let slots-p : List ℕ = c.principals-roster.new.1.1.1.0 in
+    let slots-p : List ℕ = c.principals-roster.new.slots in
     let roster : Principals form text.args.from slots-p.in-Good.principals_to c.in-Good.n c.in-Good.w = subst (λ k. PrincipalsMeant form text.args.from slots-p k) c.in-Good.is c.principals-roster.ensures in
     let prows : List Row = map (row_in form) roster.records.rows in
     let delegating : Delegating (row_names prows) text.in-Good.principals_to c.in-At.delegator c.in-At.vars_from = subst (λ k. DelegatorMeant (row_names prows) text.in-Good.principals_to k) c.in-At.is
     (c.delegator_at-line.ensures prows (rows_of_principals form text.args.«open» c.args.from _ _ _ _ roster)) in
-    let slots_v : List ℕ = c.variables-values.new.1.1.1.0 in
+    let slots_v : List ℕ = c.variables-values.new.slots in
     let values : Values text.in-At.vars_from c.in-Good.w slots_v.in-Good-values.vars_to c.in-Good-values.m c.in-Good-values.v = subst (λ k. VariablesMeant text.in-At.vars_from c.in-Good.w slots_v k) c.in-Good-values.is c.variables-values.ensures in
     let vrows : List Row = map variable_row values.records.rows in
-    let packed : List ℕ = c.assertions-listed.new.1.1.1.1.1.1.0 in
+    let packed : List ℕ = c.assertions-listed.new.assertions in
     bad_assertions form text.args.«open» c.args.from _ _ _ _ roster _ _ delegating _ _ _ _ values
     (subst (λ k. AssertionsMeant (row_names prows) (row_names vrows) text.in-Good-values.vars_to c.in-Good-values.v packed k) c.in_default-listed.is
     (c.assertions-listed.ensures prows vrows
@@ -139,15 +139,15 @@ pub zeros_from-requires : goal.zeros_from-requires
 zeros_from-requires c =
     let text : List ℕ = c.args.state.now in
     let form : Form = form_meant c.args.form in
-    let slots-p : List ℕ = c.principals-roster.new.1.1.1.0 in
+    let slots-p : List ℕ = c.principals-roster.new.slots in
     let roster : Principals form text.args.from slots-p.in-Good.principals_to c.in-Good.n c.in-Good.w = subst (λ k. PrincipalsMeant form text.args.from slots-p k) c.in-Good.is c.principals-roster.ensures in
     let prows : List Row = map (row_in form) roster.records.rows in
     let delegating : Delegating (row_names prows) text.in-Good.principals_to c.in-At.delegator c.in-At.vars_from = subst (λ k. DelegatorMeant (row_names prows) text.in-Good.principals_to k) c.in-At.is
     (c.delegator_at-line.ensures prows (rows_of_principals form text.args.«open» c.args.from _ _ _ _ roster)) in
-    let slots_v : List ℕ = c.variables-values.new.1.1.1.0 in
+    let slots_v : List ℕ = c.variables-values.new.slots in
     let values : Values text.in-At.vars_from c.in-Good.w slots_v.in-Good-values.vars_to c.in-Good-values.m c.in-Good-values.v = subst (λ k. VariablesMeant text.in-At.vars_from c.in-Good.w slots_v k) c.in-Good-values.is c.variables-values.ensures in
     let vrows : List Row = map variable_row values.records.rows in
-    let packed : List ℕ = c.assertions-listed.new.1.1.1.1.1.1.0 in
+    let packed : List ℕ = c.assertions-listed.new.assertions in
     let granted : Granted (row_names prows) (row_names vrows) text.in-Good-values.vars_to c.in-Good-values.v packed.in-Good-listed.end c.in-Good-listed.asserted c.in-Good-listed.weight = subst (λ k. AssertionsMeant (row_names prows) (row_names vrows) text.in-Good-values.vars_to c.in-Good-values.v packed k) c.in-Good-listed.is
     (c.assertions-listed.ensures prows vrows
     (rows_of_principals form text.args.«open» c.args.from _ _ _ _ roster)
@@ -155,21 +155,21 @@ zeros_from-requires c =
     (granted.records.reads.high, omega (arith, c.requires.size))
 
 pub shape_of-principals-then-not-zeros_from : goal.shape_of-principals-then-not-zeros_from
-shape_of-principals-then-not-zeros_from c = c.principals-roster.auto.1.1.1.0
+shape_of-principals-then-not-zeros_from c = c.principals-roster.auto.slots
 
 pub returns-then-not-zeros_from : goal.returns-then-not-zeros_from
 returns-then-not-zeros_from c =
     let text : List ℕ = c.args.state.now in
     let form : Form = form_meant c.args.form in
-    let slots-p : List ℕ = c.principals-roster.new.1.1.1.0 in
+    let slots-p : List ℕ = c.principals-roster.new.slots in
     let roster : Principals form text.args.from slots-p.in-Good.principals_to c.in-Good.n c.in-Good.w = subst (λ k. PrincipalsMeant form text.args.from slots-p k) c.in-Good.is c.principals-roster.ensures in
     let prows : List Row = map (row_in form) roster.records.rows in
     let delegating : Delegating (row_names prows) text.in-Good.principals_to c.in-At.delegator c.in-At.vars_from = subst (λ k. DelegatorMeant (row_names prows) text.in-Good.principals_to k) c.in-At.is
     (c.delegator_at-line.ensures prows (rows_of_principals form text.args.«open» c.args.from _ _ _ _ roster)) in
-    let slots_v : List ℕ = c.variables-values.new.1.1.1.0 in
+    let slots_v : List ℕ = c.variables-values.new.slots in
     let values : Values text.in-At.vars_from c.in-Good.w slots_v.in-Good-values.vars_to c.in-Good-values.m c.in-Good-values.v = subst (λ k. VariablesMeant text.in-At.vars_from c.in-Good.w slots_v k) c.in-Good-values.is c.variables-values.ensures in
     let vrows : List Row = map variable_row values.records.rows in
-    let packed : List ℕ = c.assertions-listed.new.1.1.1.1.1.1.0 in
+    let packed : List ℕ = c.assertions-listed.new.assertions in
     let granted : Granted (row_names prows) (row_names vrows) text.in-Good-values.vars_to c.in-Good-values.v packed.in-Good-listed.end c.in-Good-listed.asserted c.in-Good-listed.weight = subst (λ k. AssertionsMeant (row_names prows) (row_names vrows) text.in-Good-values.vars_to c.in-Good-values.v packed k) c.in-Good-listed.is
     (c.assertions-listed.ensures prows vrows
     (rows_of_principals form text.args.«open» c.args.from _ _ _ _ roster)
@@ -178,21 +178,21 @@ returns-then-not-zeros_from c =
     (eqb-false (total (drop c.in-Good-listed.end text)) 0 (sym c.zeros_from.ensures ∙ not-true c.zeros_from.result c.if-not-zeros_from.true-raw))
 
 pub shape_of-principals : goal.shape_of-principals
-shape_of-principals c = c.principals-roster.auto.1.1.1.0
+shape_of-principals c = c.principals-roster.auto.slots
 
 pub returns : goal.returns
 returns c =
     let text : List ℕ = c.args.state.now in
     let form : Form = form_meant c.args.form in
-    let slots-p : List ℕ = c.principals-roster.new.1.1.1.0 in
+    let slots-p : List ℕ = c.principals-roster.new.slots in
     let roster : Principals form text.args.from slots-p.in-Good.principals_to c.in-Good.n c.in-Good.w = subst (λ k. PrincipalsMeant form text.args.from slots-p k) c.in-Good.is c.principals-roster.ensures in
     let prows : List Row = map (row_in form) roster.records.rows in
     let delegating : Delegating (row_names prows) text.in-Good.principals_to c.in-At.delegator c.in-At.vars_from = subst (λ k. DelegatorMeant (row_names prows) text.in-Good.principals_to k) c.in-At.is
     (c.delegator_at-line.ensures prows (rows_of_principals form text.args.«open» c.args.from _ _ _ _ roster)) in
-    let slots_v : List ℕ = c.variables-values.new.1.1.1.0 in
+    let slots_v : List ℕ = c.variables-values.new.slots in
     let values : Values text.in-At.vars_from c.in-Good.w slots_v.in-Good-values.vars_to c.in-Good-values.m c.in-Good-values.v = subst (λ k. VariablesMeant text.in-At.vars_from c.in-Good.w slots_v k) c.in-Good-values.is c.variables-values.ensures in
     let vrows : List Row = map variable_row values.records.rows in
-    let packed : List ℕ = c.assertions-listed.new.1.1.1.1.1.1.0 in
+    let packed : List ℕ = c.assertions-listed.new.assertions in
     let granted : Granted (row_names prows) (row_names vrows) text.in-Good-values.vars_to c.in-Good-values.v packed.in-Good-listed.end c.in-Good-listed.asserted c.in-Good-listed.weight = subst (λ k. AssertionsMeant (row_names prows) (row_names vrows) text.in-Good-values.vars_to c.in-Good-values.v packed k) c.in-Good-listed.is
     (c.assertions-listed.ensures prows vrows
     (rows_of_principals form text.args.«open» c.args.from _ _ _ _ roster)
