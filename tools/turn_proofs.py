@@ -210,6 +210,9 @@ class Function:
                 segs = [*self.args[tuple(segs[:n])], *segs[n:]]
                 break
         first = plain(segs[0])
+        if first == "pre":
+            segs = ["requires", *segs[1:]]
+            first = "requires"
         if first not in self.fields and first.endswith("_lem") and first[:-4] in self.fields:
             first = first[:-4]
         rest = segs[1:]
@@ -241,7 +244,7 @@ def is_turned_whole(segs, fn):
     left = [s for s in segs if s != "before"]
     if not left:
         return True
-    if left[0] == "requires":
+    if left[0] in ("requires", "pre"):
         return len(fn.own["requires"]) > 1
     if left[0] in ("args", "ranges"):
         return False

@@ -61,14 +61,14 @@ pub overflow_add-m : goal.overflow_add-m
 overflow_add-m c =
     let Vars : List Row → Type 0 = λ rows. let r = c.args.roll in Rows rows (part c.args.text.now r.vars_from r.vars_to) r.vars c.args.vars.now in
     let mx : (rows : List Row) → Vars rows → Member (row_names rows) 9 c.args.text.now (c.args.at + 2) c.in-At.x c.in-At.m = λ rows H. subst (λ k. KnownMeant (row_names rows) 9 c.args.text.now (c.args.at + 2) k) c.in-At.is (c.known_at-variable.ensures rows H) in
-    let fx : (c.args.at + 2 ≤ c.in-At.m) × (c.in-At.m < length c.args.text.now) = let f = (mx c.pre.0.vars_some.rows c.pre.0.vars_some.held).field in (f.low, f.high) in
+    let fx : (c.args.at + 2 ≤ c.in-At.m) × (c.in-At.m < length c.args.text.now) = let f = (mx c.requires.0.vars_some.rows c.requires.0.vars_some.held).field in (f.low, f.high) in
     let f = fx in omega (arith, f.1)
 
 pub known_at-giver-requires : goal.known_at-giver-requires
 known_at-giver-requires c =
     let Vars : List Row → Type 0 = λ rows. let r = c.args.roll in Rows rows (part c.args.text.now r.vars_from r.vars_to) r.vars c.args.vars.now in
     let mx : (rows : List Row) → Vars rows → Member (row_names rows) 9 c.args.text.now (c.args.at + 2) c.in-At.x c.in-At.m = λ rows H. subst (λ k. KnownMeant (row_names rows) 9 c.args.text.now (c.args.at + 2) k) c.in-At.is (c.known_at-variable.ensures rows H) in
-    let fx : (c.args.at + 2 ≤ c.in-At.m) × (c.in-At.m < length c.args.text.now) = let f = (mx c.pre.0.vars_some.rows c.pre.0.vars_some.held).field in (f.low, f.high) in
+    let fx : (c.args.at + 2 ≤ c.in-At.m) × (c.in-At.m < length c.args.text.now) = let f = (mx c.requires.0.vars_some.rows c.requires.0.vars_some.held).field in (f.low, f.high) in
     let f = fx in
     let r = c.requires.0 in
     record { start = omega (arith, f.1); outside = refl; order = r.principals_order; within = r.principals_within; some = r.principals_some }
@@ -89,7 +89,7 @@ pub overflow_add-n : goal.overflow_add-n
 overflow_add-n c =
     let Principals : List Row → Type 0 = λ rows. let r = c.args.roll in Rows rows (part c.args.text.now r.principals_from r.principals_to) r.principals c.args.principals.now in
     let mq : (rows : List Row) → Principals rows → Member (row_names rows) 9 c.args.text.now (c.in-At.m + 1) c.in-At-giver.q c.in-At-giver.n = λ rows H. subst (λ k. KnownMeant (row_names rows) 9 c.args.text.now (c.in-At.m + 1) k) c.in-At-giver.is (c.known_at-giver.ensures rows H) in
-    let fq : (c.in-At.m + 1 ≤ c.in-At-giver.n) × (c.in-At-giver.n < length c.args.text.now) = let f = (mq c.pre.0.principals_some.rows c.pre.0.principals_some.held).field in (f.low, f.high) in
+    let fq : (c.in-At.m + 1 ≤ c.in-At-giver.n) × (c.in-At-giver.n < length c.args.text.now) = let f = (mq c.requires.0.principals_some.rows c.requires.0.principals_some.held).field in (f.low, f.high) in
     let f = fq in omega (arith, f.1)
 
 pub returns-then-right-eq4 : goal.returns-then-right-eq4
@@ -109,7 +109,7 @@ pub overflow_add-n-2 : goal.overflow_add-n-2
 overflow_add-n-2 c =
     let Principals : List Row → Type 0 = λ rows. let r = c.args.roll in Rows rows (part c.args.text.now r.principals_from r.principals_to) r.principals c.args.principals.now in
     let mq : (rows : List Row) → Principals rows → Member (row_names rows) 9 c.args.text.now (c.in-At.m + 1) c.in-At-giver.q c.in-At-giver.n = λ rows H. subst (λ k. KnownMeant (row_names rows) 9 c.args.text.now (c.in-At.m + 1) k) c.in-At-giver.is (c.known_at-giver.ensures rows H) in
-    let fq : (c.in-At.m + 1 ≤ c.in-At-giver.n) × (c.in-At-giver.n < length c.args.text.now) = let f = (mq c.pre.0.principals_some.rows c.pre.0.principals_some.held).field in (f.low, f.high) in
+    let fq : (c.in-At.m + 1 ≤ c.in-At-giver.n) × (c.in-At-giver.n < length c.args.text.now) = let f = (mq c.requires.0.principals_some.rows c.requires.0.principals_some.held).field in (f.low, f.high) in
     let f = fq in omega (arith, f.1)
 
 pub returns-then-byte_at-ne9-2 : goal.returns-then-byte_at-ne9-2
@@ -154,28 +154,28 @@ pub overflow_add-a : goal.overflow_add-a
 overflow_add-a c =
     let Vars : List Row → Type 0 = λ rows. let r = c.args.roll in Rows rows (part c.args.text.now r.vars_from r.vars_to) r.vars c.args.vars.now in
     let mx : (rows : List Row) → Vars rows → Member (row_names rows) 9 c.args.text.now (c.args.at + 2) c.in-At.x c.in-At.m = λ rows H. subst (λ k. KnownMeant (row_names rows) 9 c.args.text.now (c.args.at + 2) k) c.in-At.is (c.known_at-variable.ensures rows H) in
-    let fx : (c.args.at + 2 ≤ c.in-At.m) × (c.in-At.m < length c.args.text.now) = let f = (mx c.pre.0.vars_some.rows c.pre.0.vars_some.held).field in (f.low, f.high) in
+    let fx : (c.args.at + 2 ≤ c.in-At.m) × (c.in-At.m < length c.args.text.now) = let f = (mx c.requires.0.vars_some.rows c.requires.0.vars_some.held).field in (f.low, f.high) in
     let f = fx in omega (arith, f.1, c.requires.0.small)
 
 pub overflow_add-b : goal.overflow_add-b
 overflow_add-b c =
     let Principals : List Row → Type 0 = λ rows. let r = c.args.roll in Rows rows (part c.args.text.now r.principals_from r.principals_to) r.principals c.args.principals.now in
     let mp : (rows : List Row) → Principals rows → Member (row_names rows) 10 c.args.text.now (c.in-At-giver.n + 3) c.in-At-taker.p c.in-At-taker.e = λ rows H. subst (λ k. KnownMeant (row_names rows) 10 c.args.text.now (c.in-At-giver.n + 3) k) c.in-At-taker.is (c.known_at-taker.ensures rows H) in
-    let fp : (c.in-At-giver.n + 3 ≤ c.in-At-taker.e) × (c.in-At-taker.e < length c.args.text.now) = let f = (mp c.pre.0.principals_some.rows c.pre.0.principals_some.held).field in (f.low, f.high) in
+    let fp : (c.in-At-giver.n + 3 ≤ c.in-At-taker.e) × (c.in-At-taker.e < length c.args.text.now) = let f = (mp c.requires.0.principals_some.rows c.requires.0.principals_some.held).field in (f.low, f.high) in
     let f = fp in omega (arith, f.0, f.1, c.requires.0.small)
 
 pub overflow_add-after : goal.overflow_add-after
 overflow_add-after c =
     let Vars : List Row → Type 0 = λ rows. let r = c.args.roll in Rows rows (part c.args.text.now r.vars_from r.vars_to) r.vars c.args.vars.now in
     let mx : (rows : List Row) → Vars rows → Member (row_names rows) 9 c.args.text.now (c.args.at + 2) c.in-At.x c.in-At.m = λ rows H. subst (λ k. KnownMeant (row_names rows) 9 c.args.text.now (c.args.at + 2) k) c.in-At.is (c.known_at-variable.ensures rows H) in
-    let fx : (c.args.at + 2 ≤ c.in-At.m) × (c.in-At.m < length c.args.text.now) = let f = (mx c.pre.0.vars_some.rows c.pre.0.vars_some.held).field in (f.low, f.high) in
+    let fx : (c.args.at + 2 ≤ c.in-At.m) × (c.in-At.m < length c.args.text.now) = let f = (mx c.requires.0.vars_some.rows c.requires.0.vars_some.held).field in (f.low, f.high) in
     let f = fx in omega (arith, f.0, f.1)
 
 pub overflow_sub-after : goal.overflow_sub-after
 overflow_sub-after c =
     let Vars : List Row → Type 0 = λ rows. let r = c.args.roll in Rows rows (part c.args.text.now r.vars_from r.vars_to) r.vars c.args.vars.now in
     let mx : (rows : List Row) → Vars rows → Member (row_names rows) 9 c.args.text.now (c.args.at + 2) c.in-At.x c.in-At.m = λ rows H. subst (λ k. KnownMeant (row_names rows) 9 c.args.text.now (c.args.at + 2) k) c.in-At.is (c.known_at-variable.ensures rows H) in
-    let fx : (c.args.at + 2 ≤ c.in-At.m) × (c.in-At.m < length c.args.text.now) = let f = (mx c.pre.0.vars_some.rows c.pre.0.vars_some.held).field in (f.low, f.high) in
+    let fx : (c.args.at + 2 ≤ c.in-At.m) × (c.in-At.m < length c.args.text.now) = let f = (mx c.requires.0.vars_some.rows c.requires.0.vars_some.held).field in (f.low, f.high) in
     let f = fx in omega (arith, f.0)
 
 pub overflow_add-after-2 : goal.overflow_add-after-2
@@ -196,7 +196,7 @@ pub slice_bounds-name_weight-count : goal.slice_bounds-name_weight-count
 slice_bounds-name_weight-count c =
     let Principals : List Row → Type 0 = λ rows. let r = c.args.roll in Rows rows (part c.args.text.now r.principals_from r.principals_to) r.principals c.args.principals.now in
     let mq : (rows : List Row) → Principals rows → Member (row_names rows) 9 c.args.text.now (c.in-At.m + 1) c.in-At-giver.q c.in-At-giver.n = λ rows H. subst (λ k. KnownMeant (row_names rows) 9 c.args.text.now (c.in-At.m + 1) k) c.in-At-giver.is (c.known_at-giver.ensures rows H) in
-    let fq : (c.in-At.m + 1 ≤ c.in-At-giver.n) × (c.in-At-giver.n < length c.args.text.now) = let f = (mq c.pre.0.principals_some.rows c.pre.0.principals_some.held).field in (f.low, f.high) in
+    let fq : (c.in-At.m + 1 ≤ c.in-At-giver.n) × (c.in-At-giver.n < length c.args.text.now) = let f = (mq c.requires.0.principals_some.rows c.requires.0.principals_some.held).field in (f.low, f.high) in
     let f = fq in omega (arith, f.0)
 
 pub overflow_add-after-4 : goal.overflow_add-after-4
@@ -214,7 +214,7 @@ pub slice_bounds-name_weight-count-2 : goal.slice_bounds-name_weight-count-2
 slice_bounds-name_weight-count-2 c =
     let Principals : List Row → Type 0 = λ rows. let r = c.args.roll in Rows rows (part c.args.text.now r.principals_from r.principals_to) r.principals c.args.principals.now in
     let mp : (rows : List Row) → Principals rows → Member (row_names rows) 10 c.args.text.now (c.in-At-giver.n + 3) c.in-At-taker.p c.in-At-taker.e = λ rows H. subst (λ k. KnownMeant (row_names rows) 10 c.args.text.now (c.in-At-giver.n + 3) k) c.in-At-taker.is (c.known_at-taker.ensures rows H) in
-    let fp : (c.in-At-giver.n + 3 ≤ c.in-At-taker.e) × (c.in-At-taker.e < length c.args.text.now) = let f = (mp c.pre.0.principals_some.rows c.pre.0.principals_some.held).field in (f.low, f.high) in
+    let fp : (c.in-At-giver.n + 3 ≤ c.in-At-taker.e) × (c.in-At-taker.e < length c.args.text.now) = let f = (mp c.requires.0.principals_some.rows c.requires.0.principals_some.held).field in (f.low, f.high) in
     let f = fp in omega (arith, f.0)
 
 pub overflow_add-after-5 : goal.overflow_add-after-5
@@ -266,7 +266,7 @@ pub overflow_add-result : goal.overflow_add-result
 overflow_add-result c =
     let Principals : List Row → Type 0 = λ rows. let r = c.args.roll in Rows rows (part c.args.text.now r.principals_from r.principals_to) r.principals c.args.principals.now in
     let mp : (rows : List Row) → Principals rows → Member (row_names rows) 10 c.args.text.now (c.in-At-giver.n + 3) c.in-At-taker.p c.in-At-taker.e = λ rows H. subst (λ k. KnownMeant (row_names rows) 10 c.args.text.now (c.in-At-giver.n + 3) k) c.in-At-taker.is (c.known_at-taker.ensures rows H) in
-    let fp : (c.in-At-giver.n + 3 ≤ c.in-At-taker.e) × (c.in-At-taker.e < length c.args.text.now) = let f = (mp c.pre.0.principals_some.rows c.pre.0.principals_some.held).field in (f.low, f.high) in
+    let fp : (c.in-At-giver.n + 3 ≤ c.in-At-taker.e) × (c.in-At-taker.e < length c.args.text.now) = let f = (mp c.requires.0.principals_some.rows c.requires.0.principals_some.held).field in (f.low, f.high) in
     let f = fp in omega (arith, f.1, c.requires.0.small)
 
 pub returns : goal.returns

@@ -53,10 +53,10 @@ among_first-requires c =
     let xn : (rows : List Row) → Vars rows → (x : Text) → T (member x (row_names rows)) → T (is_name x) = λ rows H. let r = c.args.roll in member_name rows c.args.text.now r.vars_from r.vars_to r.vars c.args.vars.now H in
     let fp : (rows : List Row) → Principals rows → length (row_names rows) ≤ 4096 = λ rows H. let r = c.args.roll in let k = names_count rows c.args.text.now r.principals_from r.principals_to r.principals c.args.principals.now H in omega (arith, k, c.requires.0.principals_few) in
     let fx : (rows : List Row) → Vars rows → length (row_names rows) ≤ 4096 = λ rows H. let r = c.args.roll in let k = names_count rows c.args.text.now r.vars_from r.vars_to r.vars c.args.vars.now H in omega (arith, k, c.requires.0.vars_few) in
-    let whole : length c.loop-roll.assertions ≡ 2048 = c.loop-roll.invariant.0 ∙ c.pre.3 in
+    let whole : length c.loop-roll.assertions ≡ 2048 = c.loop-roll.invariant.0 ∙ c.requires.3 in
     let few : c.loop-roll.n ≤ length c.loop-roll.assertions = let l = c.loop-roll in
-    let P = c.pre.0.principals_some in
-    let X = c.pre.0.vars_some in
+    let P = c.requires.0.principals_some in
+    let X = c.requires.0.vars_some in
     let k = asserting_low (row_names P.rows) (row_names X.rows) (pn P.rows P.held) (xn X.rows X.held) (fp P.rows P.held) (fx X.rows X.held)
     c.args.text.now c.args.at c.args.w l.assertions l.i l.n l.now (l.invariant.3 P.rows X.rows P.held X.held) in
     let z = whole in
@@ -85,7 +85,7 @@ returns-then-among_first c =
 
 pub offset_bounds-assertions-n : goal.offset_bounds-assertions-n
 offset_bounds-assertions-n c =
-    let whole : length c.loop-roll.assertions ≡ 2048 = c.loop-roll.invariant.0 ∙ c.pre.3 in
+    let whole : length c.loop-roll.assertions ≡ 2048 = c.loop-roll.invariant.0 ∙ c.requires.3 in
     let Principals : List Row → Type 0 = λ rows. let r = c.args.roll in Rows rows (part c.args.text.now r.principals_from r.principals_to) r.principals c.args.principals.now in
     let pn : (rows : List Row) → Principals rows → (x : Text) → T (member x (row_names rows)) → T (is_name x) = λ rows H. let r = c.args.roll in member_name rows c.args.text.now r.principals_from r.principals_to r.principals c.args.principals.now H in
     let Vars : List Row → Type 0 = λ rows. let r = c.args.roll in Rows rows (part c.args.text.now r.vars_from r.vars_to) r.vars c.args.vars.now in
@@ -93,8 +93,8 @@ offset_bounds-assertions-n c =
     let fp : (rows : List Row) → Principals rows → length (row_names rows) ≤ 4096 = λ rows H. let r = c.args.roll in let k = names_count rows c.args.text.now r.principals_from r.principals_to r.principals c.args.principals.now H in omega (arith, k, c.requires.0.principals_few) in
     let fx : (rows : List Row) → Vars rows → length (row_names rows) ≤ 4096 = λ rows H. let r = c.args.roll in let k = names_count rows c.args.text.now r.vars_from r.vars_to r.vars c.args.vars.now H in omega (arith, k, c.requires.0.vars_few) in
     let few : c.loop-roll.n ≤ length c.loop-roll.assertions = let l = c.loop-roll in
-    let P = c.pre.0.principals_some in
-    let X = c.pre.0.vars_some in
+    let P = c.requires.0.principals_some in
+    let X = c.requires.0.vars_some in
     let k = asserting_low (row_names P.rows) (row_names X.rows) (pn P.rows P.held) (xn X.rows X.held) (fp P.rows P.held) (fx X.rows X.held)
     c.args.text.now c.args.at c.args.w l.assertions l.i l.n l.now (l.invariant.3 P.rows X.rows P.held X.held) in
     let z = whole in
@@ -110,7 +110,7 @@ bounds-assertions-n c =
     let fp : (rows : List Row) → Principals rows → length (row_names rows) ≤ 4096 = λ rows H. let r = c.args.roll in let k = names_count rows c.args.text.now r.principals_from r.principals_to r.principals c.args.principals.now H in omega (arith, k, c.requires.0.principals_few) in
     let fx : (rows : List Row) → Vars rows → length (row_names rows) ≤ 4096 = λ rows H. let r = c.args.roll in let k = names_count rows c.args.text.now r.vars_from r.vars_to r.vars c.args.vars.now H in omega (arith, k, c.requires.0.vars_few) in
     let is-a : get_or c.args.text.now c.loop-roll.i 0 ≡ 65 = sym c.byte_at.ensures ∙ c.loop-roll-test.true in
-    let whole : length c.loop-roll.assertions ≡ 2048 = c.loop-roll.invariant.0 ∙ c.pre.3 in
+    let whole : length c.loop-roll.assertions ≡ 2048 = c.loop-roll.invariant.0 ∙ c.requires.3 in
     let granting : (prows vrows : List Row) → Principals prows → Vars vrows → Granting (row_names prows) (row_names vrows) c.args.text.now c.loop-roll.i c.loop-roll.now c.in-At.number c.in-At.e c.in-At.after = λ prows vrows G W. subst (λ k. AssertionMeant (row_names prows) (row_names vrows) c.args.text.now c.loop-roll.i c.loop-roll.now k) c.in-At.is (c.assertion_at-assertion.ensures prows vrows G W) in
     let own : (c.loop-roll.i < c.in-At.e) × (c.in-At.e ≤ length c.args.text.now) × (c.in-At.after ≤ 8192) × (c.loop-roll.n < length c.loop-roll.assertions) = let l = c.loop-roll in
     let a = c.args in
@@ -130,7 +130,7 @@ bounds-assertions-n c =
 
 pub overflow_add-n : goal.overflow_add-n
 overflow_add-n c =
-    let whole : length c.loop-roll.assertions ≡ 2048 = c.loop-roll.invariant.0 ∙ c.pre.3 in
+    let whole : length c.loop-roll.assertions ≡ 2048 = c.loop-roll.invariant.0 ∙ c.requires.3 in
     let Principals : List Row → Type 0 = λ rows. let r = c.args.roll in Rows rows (part c.args.text.now r.principals_from r.principals_to) r.principals c.args.principals.now in
     let pn : (rows : List Row) → Principals rows → (x : Text) → T (member x (row_names rows)) → T (is_name x) = λ rows H. let r = c.args.roll in member_name rows c.args.text.now r.principals_from r.principals_to r.principals c.args.principals.now H in
     let Vars : List Row → Type 0 = λ rows. let r = c.args.roll in Rows rows (part c.args.text.now r.vars_from r.vars_to) r.vars c.args.vars.now in
@@ -138,8 +138,8 @@ overflow_add-n c =
     let fp : (rows : List Row) → Principals rows → length (row_names rows) ≤ 4096 = λ rows H. let r = c.args.roll in let k = names_count rows c.args.text.now r.principals_from r.principals_to r.principals c.args.principals.now H in omega (arith, k, c.requires.0.principals_few) in
     let fx : (rows : List Row) → Vars rows → length (row_names rows) ≤ 4096 = λ rows H. let r = c.args.roll in let k = names_count rows c.args.text.now r.vars_from r.vars_to r.vars c.args.vars.now H in omega (arith, k, c.requires.0.vars_few) in
     let few : c.loop-roll.n ≤ length c.loop-roll.assertions = let l = c.loop-roll in
-    let P = c.pre.0.principals_some in
-    let X = c.pre.0.vars_some in
+    let P = c.requires.0.principals_some in
+    let X = c.requires.0.vars_some in
     let k = asserting_low (row_names P.rows) (row_names X.rows) (pn P.rows P.held) (xn X.rows X.held) (fp P.rows P.held) (fx X.rows X.held)
     c.args.text.now c.args.at c.args.w l.assertions l.i l.n l.now (l.invariant.3 P.rows X.rows P.held X.held) in
     let z = whole in
@@ -155,7 +155,7 @@ loop-roll-smaller c =
     let fp : (rows : List Row) → Principals rows → length (row_names rows) ≤ 4096 = λ rows H. let r = c.args.roll in let k = names_count rows c.args.text.now r.principals_from r.principals_to r.principals c.args.principals.now H in omega (arith, k, c.requires.0.principals_few) in
     let fx : (rows : List Row) → Vars rows → length (row_names rows) ≤ 4096 = λ rows H. let r = c.args.roll in let k = names_count rows c.args.text.now r.vars_from r.vars_to r.vars c.args.vars.now H in omega (arith, k, c.requires.0.vars_few) in
     let is-a : get_or c.args.text.now c.loop-roll.i 0 ≡ 65 = sym c.byte_at.ensures ∙ c.loop-roll-test.true in
-    let whole : length c.loop-roll.assertions ≡ 2048 = c.loop-roll.invariant.0 ∙ c.pre.3 in
+    let whole : length c.loop-roll.assertions ≡ 2048 = c.loop-roll.invariant.0 ∙ c.requires.3 in
     let granting : (prows vrows : List Row) → Principals prows → Vars vrows → Granting (row_names prows) (row_names vrows) c.args.text.now c.loop-roll.i c.loop-roll.now c.in-At.number c.in-At.e c.in-At.after = λ prows vrows G W. subst (λ k. AssertionMeant (row_names prows) (row_names vrows) c.args.text.now c.loop-roll.i c.loop-roll.now k) c.in-At.is (c.assertion_at-assertion.ensures prows vrows G W) in
     let own : (c.loop-roll.i < c.in-At.e) × (c.in-At.e ≤ length c.args.text.now) × (c.in-At.after ≤ 8192) × (c.loop-roll.n < length c.loop-roll.assertions) = let l = c.loop-roll in
     let a = c.args in
@@ -182,7 +182,7 @@ loop-roll-preserved c =
     let fp : (rows : List Row) → Principals rows → length (row_names rows) ≤ 4096 = λ rows H. let r = c.args.roll in let k = names_count rows c.args.text.now r.principals_from r.principals_to r.principals c.args.principals.now H in omega (arith, k, c.requires.0.principals_few) in
     let fx : (rows : List Row) → Vars rows → length (row_names rows) ≤ 4096 = λ rows H. let r = c.args.roll in let k = names_count rows c.args.text.now r.vars_from r.vars_to r.vars c.args.vars.now H in omega (arith, k, c.requires.0.vars_few) in
     let is-a : get_or c.args.text.now c.loop-roll.i 0 ≡ 65 = sym c.byte_at.ensures ∙ c.loop-roll-test.true in
-    let whole : length c.loop-roll.assertions ≡ 2048 = c.loop-roll.invariant.0 ∙ c.pre.3 in
+    let whole : length c.loop-roll.assertions ≡ 2048 = c.loop-roll.invariant.0 ∙ c.requires.3 in
     let granting : (prows vrows : List Row) → Principals prows → Vars vrows → Granting (row_names prows) (row_names vrows) c.args.text.now c.loop-roll.i c.loop-roll.now c.in-At.number c.in-At.e c.in-At.after = λ prows vrows G W. subst (λ k. AssertionMeant (row_names prows) (row_names vrows) c.args.text.now c.loop-roll.i c.loop-roll.now k) c.in-At.is (c.assertion_at-assertion.ensures prows vrows G W) in
     let own : (c.loop-roll.i < c.in-At.e) × (c.in-At.e ≤ length c.args.text.now) × (c.in-At.after ≤ 8192) × (c.loop-roll.n < length c.loop-roll.assertions) = let l = c.loop-roll in
     let a = c.args in
@@ -220,10 +220,10 @@ returns c =
     let xn : (rows : List Row) → Vars rows → (x : Text) → T (member x (row_names rows)) → T (is_name x) = λ rows H. let r = c.args.roll in member_name rows c.args.text.now r.vars_from r.vars_to r.vars c.args.vars.now H in
     let fp : (rows : List Row) → Principals rows → length (row_names rows) ≤ 4096 = λ rows H. let r = c.args.roll in let k = names_count rows c.args.text.now r.principals_from r.principals_to r.principals c.args.principals.now H in omega (arith, k, c.requires.0.principals_few) in
     let fx : (rows : List Row) → Vars rows → length (row_names rows) ≤ 4096 = λ rows H. let r = c.args.roll in let k = names_count rows c.args.text.now r.vars_from r.vars_to r.vars c.args.vars.now H in omega (arith, k, c.requires.0.vars_few) in
-    let whole : length c.loop-roll.assertions ≡ 2048 = c.loop-roll.invariant.0 ∙ c.pre.3 in
+    let whole : length c.loop-roll.assertions ≡ 2048 = c.loop-roll.invariant.0 ∙ c.requires.3 in
     let few : c.loop-roll.n ≤ length c.loop-roll.assertions = let l = c.loop-roll in
-    let P = c.pre.0.principals_some in
-    let X = c.pre.0.vars_some in
+    let P = c.requires.0.principals_some in
+    let X = c.requires.0.vars_some in
     let k = asserting_low (row_names P.rows) (row_names X.rows) (pn P.rows P.held) (xn X.rows X.held) (fp P.rows P.held) (fx X.rows X.held)
     c.args.text.now c.args.at c.args.w l.assertions l.i l.n l.now (l.invariant.3 P.rows X.rows P.held X.held) in
     let z = whole in

@@ -17,7 +17,7 @@ loop-i-preserved c =
     let counted : c.if-list-i.hits ≤ c.loop-i.i + 1 = ⊎_elim (λ w. omega arith) (λ w. omega arith) c.if-list-i.branch in
     let told : ltb 0 c.if-list-i.hits ≡ stands_in (take (c.loop-i.i + 1) c.args.list.now) c.args.a = let a = c.args in
     let l = c.loop-i in
-    let h : l.i < length a.list.now = omega (arith, c.loop-i-test.true, c.pre) in
+    let h : l.i < length a.list.now = omega (arith, c.loop-i-test.true, c.requires) in
     ⊎_elim
     (λ w. ap (ltb 0) w.1 ∙ stands_hit a.list.now a.a l.i l.hits h w.0.taken)
     (λ w. ap (ltb 0) w.1 ∙ stands_miss a.list.now a.a l.i l.hits h w.0.left l.invariant.2)

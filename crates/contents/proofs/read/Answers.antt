@@ -15,7 +15,7 @@ use Rattle.contents.proofs.read.Goals as goal
 pub overflow_add-from : goal.overflow_add-from
 overflow_add-from c =
     let local-row : let a = c.args in FoundRow a.locals.now a.name.now c.in-At.start c.in-At.end = let a = c.args in
-    let p = c.pre.1 in
+    let p = c.requires.1 in
     found_row p.rows a.locals.now a.lcount a.lslots.now p.held a.name.now c.in-At.number c.in-At.start c.in-At.end
     (sym c.in-At.is ∙ c.find-l.ensures p.rows p.held) in
     let r = local-row in omega (arith, r.order, r.within)
@@ -23,7 +23,7 @@ overflow_add-from c =
 pub overflow_add-from-in-At : goal.overflow_add-from-in-At
 overflow_add-from-in-At c =
     let local-row : let a = c.args in FoundRow a.locals.now a.name.now c.in-At.start c.in-At.end = let a = c.args in
-    let p = c.pre.1 in
+    let p = c.requires.1 in
     found_row p.rows a.locals.now a.lcount a.lslots.now p.held a.name.now c.in-At.number c.in-At.start c.in-At.end
     (sym c.in-At.is ∙ c.find-l.ensures p.rows p.held) in
     let r = local-row in omega (arith, r.order, r.within)
@@ -31,7 +31,7 @@ overflow_add-from-in-At c =
 pub slice_bounds-result-count : goal.slice_bounds-result-count
 slice_bounds-result-count c =
     let local-row : let a = c.args in FoundRow a.locals.now a.name.now c.in-At.start c.in-At.end = let a = c.args in
-    let p = c.pre.1 in
+    let p = c.requires.1 in
     found_row p.rows a.locals.now a.lcount a.lslots.now p.held a.name.now c.in-At.number c.in-At.start c.in-At.end
     (sym c.in-At.is ∙ c.find-l.ensures p.rows p.held) in
     let r = local-row in omega (arith, r.order, r.within)
@@ -39,7 +39,7 @@ slice_bounds-result-count c =
 pub overflow_add-from-in-At-s : goal.overflow_add-from-in-At-s
 overflow_add-from-in-At-s c =
     let shared-row : let a = c.args in FoundRow a.shared.now a.name.now c.in-At-s.start c.in-At-s.end = let a = c.args in
-    let p = c.pre.0 in
+    let p = c.requires.0 in
     found_row p.rows a.shared.now a.count a.slots.now p.held a.name.now c.in-At-s.number c.in-At-s.start c.in-At-s.end
     (sym c.in-At-s.is ∙ c.find-s.ensures p.rows p.held) in
     let r = shared-row in omega (arith, r.order, r.within)
@@ -47,7 +47,7 @@ overflow_add-from-in-At-s c =
 pub overflow_add-from-in-At-s-2 : goal.overflow_add-from-in-At-s-2
 overflow_add-from-in-At-s-2 c =
     let shared-row : let a = c.args in FoundRow a.shared.now a.name.now c.in-At-s.start c.in-At-s.end = let a = c.args in
-    let p = c.pre.0 in
+    let p = c.requires.0 in
     found_row p.rows a.shared.now a.count a.slots.now p.held a.name.now c.in-At-s.number c.in-At-s.start c.in-At-s.end
     (sym c.in-At-s.is ∙ c.find-s.ensures p.rows p.held) in
     let r = shared-row in omega (arith, r.order, r.within)
@@ -55,7 +55,7 @@ overflow_add-from-in-At-s-2 c =
 pub slice_bounds-result-count-in-At-s : goal.slice_bounds-result-count-in-At-s
 slice_bounds-result-count-in-At-s c =
     let shared-row : let a = c.args in FoundRow a.shared.now a.name.now c.in-At-s.start c.in-At-s.end = let a = c.args in
-    let p = c.pre.0 in
+    let p = c.requires.0 in
     found_row p.rows a.shared.now a.count a.slots.now p.held a.name.now c.in-At-s.number c.in-At-s.start c.in-At-s.end
     (sym c.in-At-s.is ∙ c.find-s.ensures p.rows p.held) in
     let r = shared-row in omega (arith, r.order, r.within)

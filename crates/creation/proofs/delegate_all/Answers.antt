@@ -23,7 +23,7 @@ pub enter_all-requires : goal.enter_all-requires
 enter_all-requires c =
     let gathered : (s : Session) (from to : Name) → let a = c.args in Gives s a.l (slices a.principals.now a.principal_slots.now a.vars.now a.variable_slots.now a.locals.now a.local_slots.now a.assertions.now) a.q a.p from to → Delegates s a.l (slices a.principals.now a.principal_slots.now a.vars.now a.variable_slots.now a.locals.now a.local_slots.now a.assertions.now) c.collect-n.new.targets c.collect-n.result a.q a.right a.p (delegable s.store from) from (get_or rights a.right delegate) to = λ s from to G. let a = c.args in
     let z : length c.collect-n.new.targets ≡ length a.targets.now = c.collect-n.auto.targets in
-    delegates s a.l _ a.q a.p from to G a.right c.collect-n.result c.collect-n.new.targets c.pre.1.0 c.collect-n.ensures.few (omega (arith, z, c.pre.1.1))
+    delegates s a.l _ a.q a.p from to G a.right c.collect-n.result c.collect-n.new.targets c.requires.right_bound.0 c.collect-n.ensures.few (omega (arith, z, c.requires.right_bound.1))
     (c.collect-n.ensures.are s.store from (counted s a.l _ a.q a.p from to G) G.giver) in
     record { session = c.requires.some_gives.session; variables_named = delegable c.requires.some_gives.session.store c.requires.some_gives.from; from = c.requires.some_gives.from; of_right = get_or rights c.args.right delegate; to = c.requires.some_gives.to; delegates = gathered c.requires.some_gives.session c.requires.some_gives.from c.requires.some_gives.to c.requires.some_gives.gives }
 
@@ -31,6 +31,6 @@ pub returns : goal.returns
 returns c s from to G =
     let gathered : (s : Session) (from to : Name) → let a = c.args in Gives s a.l (slices a.principals.now a.principal_slots.now a.vars.now a.variable_slots.now a.locals.now a.local_slots.now a.assertions.now) a.q a.p from to → Delegates s a.l (slices a.principals.now a.principal_slots.now a.vars.now a.variable_slots.now a.locals.now a.local_slots.now a.assertions.now) c.collect-n.new.targets c.collect-n.result a.q a.right a.p (delegable s.store from) from (get_or rights a.right delegate) to = λ s from to G. let a = c.args in
     let z : length c.collect-n.new.targets ≡ length a.targets.now = c.collect-n.auto.targets in
-    delegates s a.l _ a.q a.p from to G a.right c.collect-n.result c.collect-n.new.targets c.pre.1.0 c.collect-n.ensures.few (omega (arith, z, c.pre.1.1))
+    delegates s a.l _ a.q a.p from to G a.right c.collect-n.result c.collect-n.new.targets c.requires.right_bound.0 c.collect-n.ensures.few (omega (arith, z, c.requires.right_bound.1))
     (c.collect-n.ensures.are s.store from (counted s a.l _ a.q a.p from to G) G.giver) in
     c.enter_all.ensures s (delegable s.store from) from (get_or rights c.args.right delegate) to (gathered s from to G)

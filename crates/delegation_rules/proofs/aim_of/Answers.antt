@@ -11,7 +11,7 @@ use Rattle.delegation_rules.proofs.aim_of.Goals as goal
 
 pub slice_bounds-number_of-count : goal.slice_bounds-number_of-count
 slice_bounds-number_of-count c =
-    let held : Within c.args.text.now c.in-Only.x = subst (λ (t : Target). TargetWithin c.args.text.now t) c.in-Only.is c.pre.2 in
+    let held : Within c.args.text.now c.in-Only.x = subst (λ (t : Target). TargetWithin c.args.text.now t) c.in-Only.is c.requires.2 in
     (held (c)).0
 
 pub returns-in-All : goal.returns-in-All

@@ -40,7 +40,7 @@ loop-k-preserved c =
     let told : (s : Store) (name : Name) → let a = c.args in Counted s a.assertions.now a.asserted a.principals a.vars → Numbered s name a.q → take c.if-may.n c.if-may.targets ≡ gathered s name (c.loop-k.k + 1) = λ s name C N. let a = c.args in
     let l = c.loop-k in
     let h : l.k < a.vars = c.loop-k-test.true in
-    let m : l.n < length l.targets = omega (arith, l.invariant.0, l.invariant.1, c.pre.3, c.pre.4) in
+    let m : l.n < length l.targets = omega (arith, l.invariant.0, l.invariant.1, c.requires.3, c.requires.4) in
     let x = c.may.ensures s delegate (get_or (variables s) l.k []) name C.is_valid C.assertions_held (asks s name a.assertions.now a.asserted a.principals a.vars a.q C N l.k h) in
     ⊎_elim
     (λ w. (λ i. take (w.2 i) (w.1 i)) ∙ gathered_more s name a.assertions.now a.asserted a.principals a.vars a.q C N l.targets l.n l.k h m (l.invariant.3 s name C N) (sym x ∙ w.0.taken))

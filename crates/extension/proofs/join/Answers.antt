@@ -35,14 +35,14 @@ find-found-requires c =
 
 pub slice_bounds-join_shared-count : goal.slice_bounds-join_shared-count
 slice_bounds-join_shared-count c =
-    let its_own : Adds c.requires.t.1.value c.args.value.now c.elements_of-more.result.from c.elements_of-more.result.weight = c.elements_of-more.ensures c.pre.1.1.value c.pre.1.1.is_value in
+    let its_own : Adds c.requires.t.1.value c.args.value.now c.elements_of-more.result.from c.elements_of-more.result.weight = c.elements_of-more.ensures c.requires.t.1.value c.requires.t.1.is_value in
     omega (arith, its_own.within)
 
 pub join_shared-requires : goal.join_shared-requires
 join_shared-requires c =
     let looked-up : let a = c.args in (s : Session) → Running s a.l (slices a.principals.now a.principal_slots.now a.vars.now a.variable_slots.now a.locals.now a.local_slots.now a.assertions.now) → c.find-found.result ≡ place (map variable_row s.locals) a.name.now = λ s R. let a = c.args in
     c.find-found.ensures (map variable_row s.locals) (variables_rows s.locals (take a.l.locals_len a.locals.now) a.l.locals a.local_slots.now R.local_variables) in
-    let its_own : Adds c.requires.t.1.value c.args.value.now c.elements_of-more.result.from c.elements_of-more.result.weight = c.elements_of-more.ensures c.pre.1.1.value c.pre.1.1.is_value in
+    let its_own : Adds c.requires.t.1.value c.args.value.now c.elements_of-more.result.from c.elements_of-more.result.weight = c.elements_of-more.ensures c.requires.t.1.value c.requires.t.1.is_value in
     let a = c.args in
     let A = its_own in
     let n = not_there c.requires.some_list.session.locals (take a.l.locals_len a.locals.now) a.l.locals a.local_slots.now c.requires.some_list.running.local_variables a.name.now c.find-found.result (looked-up c.requires.some_list.session c.requires.some_list.running)
@@ -69,14 +69,14 @@ returns-in_default c s v es R i W =
 
 pub slice_bounds-extend-count : goal.slice_bounds-extend-count
 slice_bounds-extend-count c =
-    let its_own : Adds c.requires.t.1.value c.args.value.now c.elements_of-more.result.from c.elements_of-more.result.weight = c.elements_of-more.ensures c.pre.1.1.value c.pre.1.1.is_value in
+    let its_own : Adds c.requires.t.1.value c.args.value.now c.elements_of-more.result.from c.elements_of-more.result.weight = c.elements_of-more.ensures c.requires.t.1.value c.requires.t.1.is_value in
     omega (arith, its_own.within)
 
 pub extend-put-requires : goal.extend-put-requires
 extend-put-requires c =
     let looked-up : let a = c.args in (s : Session) → Running s a.l (slices a.principals.now a.principal_slots.now a.vars.now a.variable_slots.now a.locals.now a.local_slots.now a.assertions.now) → c.find-found.result ≡ place (map variable_row s.locals) a.name.now = λ s R. let a = c.args in
     c.find-found.ensures (map variable_row s.locals) (variables_rows s.locals (take a.l.locals_len a.locals.now) a.l.locals a.local_slots.now R.local_variables) in
-    let its_own : Adds c.requires.t.1.value c.args.value.now c.elements_of-more.result.from c.elements_of-more.result.weight = c.elements_of-more.ensures c.pre.1.1.value c.pre.1.1.is_value in
+    let its_own : Adds c.requires.t.1.value c.args.value.now c.elements_of-more.result.from c.elements_of-more.result.weight = c.elements_of-more.ensures c.requires.t.1.value c.requires.t.1.is_value in
     let a = c.args in
     let A = its_own in
     let b = slices a.principals.now a.principal_slots.now a.vars.now a.variable_slots.now a.locals.now a.local_slots.now a.assertions.now in

@@ -43,10 +43,9 @@ answer-r-requires c =
     let Turns : Session → Expr → Type 0 = λ s x. let a = c.args in
     Turning s x a.text.now (texts a.shared.now a.slots.now a.count a.scope.now a.local_slots.now) a.len a.number a.y a.e a.assertions.now a.n a.principals a.sender a.known in
     let with-y : (s : Session) (x : Expr) (a : Element) → Turns s x → Holds (single a) c.args.element.now → let b = c.args in Asked (with_element s y_of a) x b.text.now (texts b.shared.now b.slots.now b.count c.add_variable-end.new.buf c.add_variable-end.new.slots) c.add_variable-end.result (b.number + 1) b.e = λ s x a I h. with_last I a c.add_variable-end.new.buf c.add_variable-end.result c.add_variable-end.new.slots
-    (c.add_variable-end.ensures.held s.locals (single a) I.asked.held.locals_held c.pre.0.y_named h.is_text_lem)
-    (omega (arith, c.add_variable-end.ensures.outside.within, c.add_variable-end.auto.buf)) c.pre.0.y_named h.is_valid in
-    let ends : c.add_variable-end.result ≤ 57605 = let E = c.pre.1.1.0 in
-    omega (arith, c.add_variable-end.ensures.size, c.pre.0.locals_short, (name_length y_of.pre.0.y_named).1, text_bound (single E.element) _ E.held, E.light) in
+    (c.add_variable-end.ensures.held s.locals (single a) I.asked.held.locals_held c.requires.some_turning.y_named h.is_text_lem)
+    (omega (arith, c.add_variable-end.ensures.outside.within, c.add_variable-end.auto.buf)) c.requires.some_turning.y_named h.is_valid in
+    let ends : c.add_variable-end.result ≤ 57605 = omega (arith, c.add_variable-end.ensures.size, c.requires.some_turning.locals_short, (name_length y_of.requires.some_turning.y_named).1, text_bound (single c.requires.some_element.0.element) _ c.requires.some_element.0.held, c.requires.some_element.0.light) in
     record {
       some_asked = record {
         session = with_element c.requires.some_turning.session y_of.requires.some_element.0.element;
@@ -66,8 +65,8 @@ settled-requires c =
     let Turns : Session → Expr → Type 0 = λ s x. let a = c.args in
     Turning s x a.text.now (texts a.shared.now a.slots.now a.count a.scope.now a.local_slots.now) a.len a.number a.y a.e a.assertions.now a.n a.principals a.sender a.known in
     let with-y : (s : Session) (x : Expr) (a : Element) → Turns s x → Holds (single a) c.args.element.now → let b = c.args in Asked (with_element s y_of a) x b.text.now (texts b.shared.now b.slots.now b.count c.add_variable-end.new.buf c.add_variable-end.new.slots) c.add_variable-end.result (b.number + 1) b.e = λ s x a I h. with_last I a c.add_variable-end.new.buf c.add_variable-end.result c.add_variable-end.new.slots
-    (c.add_variable-end.ensures.held s.locals (single a) I.asked.held.locals_held c.pre.0.y_named h.is_text_lem)
-    (omega (arith, c.add_variable-end.ensures.outside.within, c.add_variable-end.auto.buf)) c.pre.0.y_named h.is_valid in
+    (c.add_variable-end.ensures.held s.locals (single a) I.asked.held.locals_held c.requires.some_turning.y_named h.is_text_lem)
+    (omega (arith, c.add_variable-end.ensures.outside.within, c.add_variable-end.auto.buf)) c.requires.some_turning.y_named h.is_valid in
     let answered : (s : Session) (x : Expr) (a : Element) → Turns s x → Holds (single a) c.args.element.now → let b = c.args in let t = with_element s y_of a in Tells c.answer-r.result t (names t x) (Expressions.value t x) c.answer-r.new.out × Asked t x b.text.now (texts b.shared.now b.slots.now b.count c.answer-r.new.scope c.answer-r.new.local_slots) c.add_variable-end.result (b.number + 1) b.e = λ s x a I h. c.answer-r.ensures (with_element s y_of a) x (with-y s x a I h) (sends_with I a) (knows_with I a) in
     let t = with_element c.requires.some_turning.session y_of.requires.some_element.0.element in (
       record {
@@ -86,8 +85,8 @@ returns c s x a I h =
     let Turns : Session → Expr → Type 0 = λ s x. let a = c.args in
     Turning s x a.text.now (texts a.shared.now a.slots.now a.count a.scope.now a.local_slots.now) a.len a.number a.y a.e a.assertions.now a.n a.principals a.sender a.known in
     let with-y : (s : Session) (x : Expr) (a : Element) → Turns s x → Holds (single a) c.args.element.now → let b = c.args in Asked (with_element s y_of a) x b.text.now (texts b.shared.now b.slots.now b.count c.add_variable-end.new.buf c.add_variable-end.new.slots) c.add_variable-end.result (b.number + 1) b.e = λ s x a I h. with_last I a c.add_variable-end.new.buf c.add_variable-end.result c.add_variable-end.new.slots
-    (c.add_variable-end.ensures.held s.locals (single a) I.asked.held.locals_held c.pre.0.y_named h.is_text_lem)
-    (omega (arith, c.add_variable-end.ensures.outside.within, c.add_variable-end.auto.buf)) c.pre.0.y_named h.is_valid in
+    (c.add_variable-end.ensures.held s.locals (single a) I.asked.held.locals_held c.requires.some_turning.y_named h.is_text_lem)
+    (omega (arith, c.add_variable-end.ensures.outside.within, c.add_variable-end.auto.buf)) c.requires.some_turning.y_named h.is_valid in
     let answered : (s : Session) (x : Expr) (a : Element) → Turns s x → Holds (single a) c.args.element.now → let b = c.args in let t = with_element s y_of a in Tells c.answer-r.result t (names t x) (Expressions.value t x) c.answer-r.new.out × Asked t x b.text.now (texts b.shared.now b.slots.now b.count c.answer-r.new.scope c.answer-r.new.local_slots) c.add_variable-end.result (b.number + 1) b.e = λ s x a I h. c.answer-r.ensures (with_element s y_of a) x (with-y s x a I h) (sends_with I a) (knows_with I a) in
     let t = with_element s y_of a in
     let A = answered s x a I h in (

@@ -25,7 +25,7 @@ make_all-requires c =
     Turning s x a.text.now (texts a.shared.now a.slots.now a.count a.locals.now a.local_slots.now) a.len a.number a.y a.e a.assertions.now a.n a.principals a.sender a.known in
     let aside : (s : Session) (x : Expr) → Turns s x → let a = c.args in Turning s x a.text.now (texts a.shared.now a.slots.now a.count c.copy.new.dst a.local_slots.now) a.len a.number a.y a.e a.assertions.now a.n a.principals a.sender a.known = λ s x I. let a = c.args in
     elsewhere I c.copy.new.dst a.local_slots.now (copied_front _ a.locals.now a.len I.asked.in_scope c.copy.new.dst c.copy.ensures)
-    (omega (arith, c.copy.auto.dst, length-replicate {A = ℕ} 57605 0, c.pre.0.locals_short)) refl in
+    (omega (arith, c.copy.auto.dst, length-replicate {A = ℕ} 57605 0, c.requires.some_turning.locals_short)) refl in
     record {
       some_turning = some_elsewhere c.requires.some_turning c.copy.new.dst c.args.local_slots.now (aside c.requires.some_turning.session c.requires.some_turning.expression c.requires.some_turning.turning) c.requires.some_turning.slots_room;
       room = term_room c.args.e c.requires.without_let _ _ c.args.number (c.copy.auto.dst ∙ length-replicate {A = ℕ} 57605 0);
@@ -38,5 +38,5 @@ returns c s x es I h =
     Turning s x a.text.now (texts a.shared.now a.slots.now a.count a.locals.now a.local_slots.now) a.len a.number a.y a.e a.assertions.now a.n a.principals a.sender a.known in
     let aside : (s : Session) (x : Expr) → Turns s x → let a = c.args in Turning s x a.text.now (texts a.shared.now a.slots.now a.count c.copy.new.dst a.local_slots.now) a.len a.number a.y a.e a.assertions.now a.n a.principals a.sender a.known = λ s x I. let a = c.args in
     elsewhere I c.copy.new.dst a.local_slots.now (copied_front _ a.locals.now a.len I.asked.in_scope c.copy.new.dst c.copy.ensures)
-    (omega (arith, c.copy.auto.dst, length-replicate {A = ℕ} 57605 0, c.pre.0.locals_short)) refl in
+    (omega (arith, c.copy.auto.dst, length-replicate {A = ℕ} 57605 0, c.requires.some_turning.locals_short)) refl in
     let r = c.make_all.ensures s x es (aside s x I) h in (r.0, brought_back I c.make_all.new.scope c.make_all.new.local_slots r.1)

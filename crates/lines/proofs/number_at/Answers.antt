@@ -29,36 +29,36 @@ returns-then-text-e-ne10 c =
 
 pub returns-then-e-at : goal.returns-then-e-at
 returns-then-e-at c =
-    let field : Field (all is_digit) 10 c.args.text.now c.args.at c.digits_end-e.result = is_field is_digit 10 refl c.args.text.now c.args.at c.digits_end-e.result c.pre c.digits_end-e.ensures (omega arith) c.if-text-e-ne10.false in
+    let field : Field (all is_digit) 10 c.args.text.now c.args.at c.digits_end-e.result = is_field is_digit 10 refl c.args.text.now c.args.at c.digits_end-e.result c.requires c.digits_end-e.ensures (omega arith) c.if-text-e-ne10.false in
     λ n r h d.
     not_decimal c.args.text.now c.args.at c.digits_end-e.result field n r h d (λ s. omega (arith, s.1, c.if-e-at.true))
 
 pub returns-then-e-at-gt10 : goal.returns-then-e-at-gt10
 returns-then-e-at-gt10 c =
-    let field : Field (all is_digit) 10 c.args.text.now c.args.at c.digits_end-e.result = is_field is_digit 10 refl c.args.text.now c.args.at c.digits_end-e.result c.pre c.digits_end-e.ensures (omega arith) c.if-text-e-ne10.false in
+    let field : Field (all is_digit) 10 c.args.text.now c.args.at c.digits_end-e.result = is_field is_digit 10 refl c.args.text.now c.args.at c.digits_end-e.result c.requires c.digits_end-e.ensures (omega arith) c.if-text-e-ne10.false in
     λ n r h d.
     not_decimal c.args.text.now c.args.at c.digits_end-e.result field n r h d (λ s. omega (arith, s.2, c.if-e-at-gt10.true))
 
 pub returns-then-e-at-gt1 : goal.returns-then-e-at-gt1
 returns-then-e-at-gt1 c =
-    let field : Field (all is_digit) 10 c.args.text.now c.args.at c.digits_end-e.result = is_field is_digit 10 refl c.args.text.now c.args.at c.digits_end-e.result c.pre c.digits_end-e.ensures (omega arith) c.if-text-e-ne10.false in
+    let field : Field (all is_digit) 10 c.args.text.now c.args.at c.digits_end-e.result = is_field is_digit 10 refl c.args.text.now c.args.at c.digits_end-e.result c.requires c.digits_end-e.ensures (omega arith) c.if-text-e-ne10.false in
     λ n r h d.
     not_decimal c.args.text.now c.args.at c.digits_end-e.result field n r h d (λ s. let o = s.3 c.if-text-at-eq48.true in omega (arith, o, c.if-e-at-gt1.true))
 
 pub value_of-n-requires : goal.value_of-n-requires
 value_of-n-requires c =
-    let field : Field (all is_digit) 10 c.args.text.now c.args.at c.digits_end-e.result = is_field is_digit 10 refl c.args.text.now c.args.at c.digits_end-e.result c.pre c.digits_end-e.ensures (omega arith) c.if-text-e-ne10.false in
+    let field : Field (all is_digit) 10 c.args.text.now c.args.at c.digits_end-e.result = is_field is_digit 10 refl c.args.text.now c.args.at c.digits_end-e.result c.requires c.digits_end-e.ensures (omega arith) c.if-text-e-ne10.false in
     field.is_fine
 
 pub returns-then-n-gt4294967295 : goal.returns-then-n-gt4294967295
 returns-then-n-gt4294967295 c =
-    let field : Field (all is_digit) 10 c.args.text.now c.args.at c.digits_end-e.result = is_field is_digit 10 refl c.args.text.now c.args.at c.digits_end-e.result c.pre c.digits_end-e.ensures (omega arith) c.if-text-e-ne10.false in
+    let field : Field (all is_digit) 10 c.args.text.now c.args.at c.digits_end-e.result = is_field is_digit 10 refl c.args.text.now c.args.at c.digits_end-e.result c.requires c.digits_end-e.ensures (omega arith) c.if-text-e-ne10.false in
     λ n r h d.
     not_decimal c.args.text.now c.args.at c.digits_end-e.result field n r h d (λ s. worth_much c.value_of-n.ensures n h s.0 c.if-n-gt4294967295.true)
 
 pub returns : goal.returns
 returns c =
-    let field : Field (all is_digit) 10 c.args.text.now c.args.at c.digits_end-e.result = is_field is_digit 10 refl c.args.text.now c.args.at c.digits_end-e.result c.pre c.digits_end-e.ensures (omega arith) c.if-text-e-ne10.false in
+    let field : Field (all is_digit) 10 c.args.text.now c.args.at c.digits_end-e.result = is_field is_digit 10 refl c.args.text.now c.args.at c.digits_end-e.result c.requires c.digits_end-e.ensures (omega arith) c.if-text-e-ne10.false in
     let spelled : Spelled (part c.args.text.now c.args.at c.digits_end-e.result) = one_decimal c.args.text.now c.args.at c.digits_end-e.result field.if-e-at.false c.if-e-at-gt10.false
     (⊎_elim (λ w e. omega arith) (λ w e. absurd (w.left e)) c.if-text-at-eq48.branch) in
     is_decimal c.args.text.now c.args.at c.digits_end-e.result field spelled.value_of-n.result c.value_of-n.ensures c.if-n-gt4294967295.false

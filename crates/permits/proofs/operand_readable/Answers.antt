@@ -14,12 +14,12 @@ use Rattle.permits.proofs.operand_readable.Goals as goal
 
 pub slice_bounds-allowed-count : goal.slice_bounds-allowed-count
 slice_bounds-allowed-count c =
-    let within-name : Within c.args.text.now c.in-Name.x = subst (OperandWithin c.args.text.now) c.in-Name.is c.pre.1 in
+    let within-name : Within c.args.text.now c.in-Name.x = subst (OperandWithin c.args.text.now) c.in-Name.is c.requires.1 in
     let w = within-name in omega (arith, w.0, w.1)
 
 pub slice_bounds-allowed-count-in-Field : goal.slice_bounds-allowed-count-in-Field
 slice_bounds-allowed-count-in-Field c =
-    let within-dot : Within c.args.text.now c.in-Field.x = (subst (OperandWithin c.args.text.now) c.in-Field.is c.pre.1).0 in
+    let within-dot : Within c.args.text.now c.in-Field.x = (subst (OperandWithin c.args.text.now) c.in-Field.is c.requires.1).0 in
     let w = within-dot in omega (arith, w.0, w.1)
 
 pub returns-in-Name : goal.returns-in-Name

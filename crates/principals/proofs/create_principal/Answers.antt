@@ -36,7 +36,7 @@ pub add-added-requires : goal.add-added-requires
 add-added-requires c =
     let number_is : (s : Session) → let a = c.args in Running s a.l (slices a.principals.now a.principal_slots.now a.vars.now a.variable_slots.now a.locals.now a.local_slots.now a.assertions.now) → c.number_of-n.result ≡ position (principals_of s.store) (part a.text.now a.p) = λ s R. row_number s c.args.l _ R _ c.number_of-n.result c.number_of-n.ensures in
     let is_new : (s : Session) → let a = c.args in Running s a.l (slices a.principals.now a.principal_slots.now a.vars.now a.variable_slots.now a.locals.now a.local_slots.now a.assertions.now) → New s a.l (slices a.principals.now a.principal_slots.now a.vars.now a.variable_slots.now a.locals.now a.local_slots.now a.assertions.now) a.principals.now a.principal_slots.now (part a.text.now a.p) (part a.text.now a.password) = λ s R. let a = c.args in
-    create_new s a.l _ R (part a.text.now a.p) (part a.text.now a.password) c.number_of-n.result (number_is s R) c.if-sender-ne0.false c.if-n-count.false c.pre.1.0.2 in
+    create_new s a.l _ R (part a.text.now a.p) (part a.text.now a.password) c.number_of-n.result (number_is s R) c.if-sender-ne0.false c.if-n-count.false c.requires.within.2 in
     let a = c.args in
     (
       record { session = c.requires.some_running.session; buffers = _; new = is_new c.requires.some_running.session c.requires.some_running.running },
@@ -48,7 +48,7 @@ pub returns-in_default : goal.returns-in_default
 returns-in_default c s R =
     let number_is : (s : Session) → let a = c.args in Running s a.l (slices a.principals.now a.principal_slots.now a.vars.now a.variable_slots.now a.locals.now a.local_slots.now a.assertions.now) → c.number_of-n.result ≡ position (principals_of s.store) (part a.text.now a.p) = λ s R. row_number s c.args.l _ R _ c.number_of-n.result c.number_of-n.ensures in
     let is_new : (s : Session) → let a = c.args in Running s a.l (slices a.principals.now a.principal_slots.now a.vars.now a.variable_slots.now a.locals.now a.local_slots.now a.assertions.now) → New s a.l (slices a.principals.now a.principal_slots.now a.vars.now a.variable_slots.now a.locals.now a.local_slots.now a.assertions.now) a.principals.now a.principal_slots.now (part a.text.now a.p) (part a.text.now a.password) = λ s R. let a = c.args in
-    create_new s a.l _ R (part a.text.now a.p) (part a.text.now a.password) c.number_of-n.result (number_is s R) c.if-sender-ne0.false c.if-n-count.false c.pre.1.0.2 in
+    create_new s a.l _ R (part a.text.now a.p) (part a.text.now a.password) c.number_of-n.result (number_is s R) c.if-sender-ne0.false c.if-n-count.false c.requires.within.2 in
     let added-ends : (s : Session) → let a = c.args in Running s a.l (slices a.principals.now a.principal_slots.now a.vars.now a.variable_slots.now a.locals.now a.local_slots.now a.assertions.now) → (r : Entered) → c.add-added.result ≡ r → Ends r (with_store s (with_principal s.store (part a.text.now a.p) (part a.text.now a.password))) (slices c.add-added.new.principals c.add-added.new.principal_slots a.vars.now a.variable_slots.now a.locals.now a.local_slots.now a.assertions.now) = λ s R r e. let a = c.args in
     subst (λ (r : Entered). Ends r (with_store s (with_principal s.store (part a.text.now a.p) (part a.text.now a.password)))
     (slices c.add-added.new.principals c.add-added.new.principal_slots a.vars.now a.variable_slots.now a.locals.now a.local_slots.now a.assertions.now)) e
@@ -61,7 +61,7 @@ pub delegate_rights-given-requires : goal.delegate_rights-given-requires
 delegate_rights-given-requires c =
     let number_is : (s : Session) → let a = c.args in Running s a.l (slices a.principals.now a.principal_slots.now a.vars.now a.variable_slots.now a.locals.now a.local_slots.now a.assertions.now) → c.number_of-n.result ≡ position (principals_of s.store) (part a.text.now a.p) = λ s R. row_number s c.args.l _ R _ c.number_of-n.result c.number_of-n.ensures in
     let is_new : (s : Session) → let a = c.args in Running s a.l (slices a.principals.now a.principal_slots.now a.vars.now a.variable_slots.now a.locals.now a.local_slots.now a.assertions.now) → New s a.l (slices a.principals.now a.principal_slots.now a.vars.now a.variable_slots.now a.locals.now a.local_slots.now a.assertions.now) a.principals.now a.principal_slots.now (part a.text.now a.p) (part a.text.now a.password) = λ s R. let a = c.args in
-    create_new s a.l _ R (part a.text.now a.p) (part a.text.now a.password) c.number_of-n.result (number_is s R) c.if-sender-ne0.false c.if-n-count.false c.pre.1.0.2 in
+    create_new s a.l _ R (part a.text.now a.p) (part a.text.now a.password) c.number_of-n.result (number_is s R) c.if-sender-ne0.false c.if-n-count.false c.requires.within.2 in
     let added-ends : (s : Session) → let a = c.args in Running s a.l (slices a.principals.now a.principal_slots.now a.vars.now a.variable_slots.now a.locals.now a.local_slots.now a.assertions.now) → (r : Entered) → c.add-added.result ≡ r → Ends r (with_store s (with_principal s.store (part a.text.now a.p) (part a.text.now a.password))) (slices c.add-added.new.principals c.add-added.new.principal_slots a.vars.now a.variable_slots.now a.locals.now a.local_slots.now a.assertions.now) = λ s R r e. let a = c.args in
     subst (λ (r : Entered). Ends r (with_store s (with_principal s.store (part a.text.now a.p) (part a.text.now a.password)))
     (slices c.add-added.new.principals c.add-added.new.principal_slots a.vars.now a.variable_slots.now a.locals.now a.local_slots.now a.assertions.now)) e
@@ -84,7 +84,7 @@ pub returns-in-Full : goal.returns-in-Full
 returns-in-Full c s R =
     let number_is : (s : Session) → let a = c.args in Running s a.l (slices a.principals.now a.principal_slots.now a.vars.now a.variable_slots.now a.locals.now a.local_slots.now a.assertions.now) → c.number_of-n.result ≡ position (principals_of s.store) (part a.text.now a.p) = λ s R. row_number s c.args.l _ R _ c.number_of-n.result c.number_of-n.ensures in
     let is_new : (s : Session) → let a = c.args in Running s a.l (slices a.principals.now a.principal_slots.now a.vars.now a.variable_slots.now a.locals.now a.local_slots.now a.assertions.now) → New s a.l (slices a.principals.now a.principal_slots.now a.vars.now a.variable_slots.now a.locals.now a.local_slots.now a.assertions.now) a.principals.now a.principal_slots.now (part a.text.now a.p) (part a.text.now a.password) = λ s R. let a = c.args in
-    create_new s a.l _ R (part a.text.now a.p) (part a.text.now a.password) c.number_of-n.result (number_is s R) c.if-sender-ne0.false c.if-n-count.false c.pre.1.0.2 in
+    create_new s a.l _ R (part a.text.now a.p) (part a.text.now a.password) c.number_of-n.result (number_is s R) c.if-sender-ne0.false c.if-n-count.false c.requires.within.2 in
     let added-ends : (s : Session) → let a = c.args in Running s a.l (slices a.principals.now a.principal_slots.now a.vars.now a.variable_slots.now a.locals.now a.local_slots.now a.assertions.now) → (r : Entered) → c.add-added.result ≡ r → Ends r (with_store s (with_principal s.store (part a.text.now a.p) (part a.text.now a.password))) (slices c.add-added.new.principals c.add-added.new.principal_slots a.vars.now a.variable_slots.now a.locals.now a.local_slots.now a.assertions.now) = λ s R r e. let a = c.args in
     subst (λ (r : Entered). Ends r (with_store s (with_principal s.store (part a.text.now a.p) (part a.text.now a.password)))
     (slices c.add-added.new.principals c.add-added.new.principal_slots a.vars.now a.variable_slots.now a.locals.now a.local_slots.now a.assertions.now)) e
@@ -104,7 +104,7 @@ pub returns-in-Done-given : goal.returns-in-Done-given
 returns-in-Done-given c s R =
     let number_is : (s : Session) → let a = c.args in Running s a.l (slices a.principals.now a.principal_slots.now a.vars.now a.variable_slots.now a.locals.now a.local_slots.now a.assertions.now) → c.number_of-n.result ≡ position (principals_of s.store) (part a.text.now a.p) = λ s R. row_number s c.args.l _ R _ c.number_of-n.result c.number_of-n.ensures in
     let is_new : (s : Session) → let a = c.args in Running s a.l (slices a.principals.now a.principal_slots.now a.vars.now a.variable_slots.now a.locals.now a.local_slots.now a.assertions.now) → New s a.l (slices a.principals.now a.principal_slots.now a.vars.now a.variable_slots.now a.locals.now a.local_slots.now a.assertions.now) a.principals.now a.principal_slots.now (part a.text.now a.p) (part a.text.now a.password) = λ s R. let a = c.args in
-    create_new s a.l _ R (part a.text.now a.p) (part a.text.now a.password) c.number_of-n.result (number_is s R) c.if-sender-ne0.false c.if-n-count.false c.pre.1.0.2 in
+    create_new s a.l _ R (part a.text.now a.p) (part a.text.now a.password) c.number_of-n.result (number_is s R) c.if-sender-ne0.false c.if-n-count.false c.requires.within.2 in
     let added-ends : (s : Session) → let a = c.args in Running s a.l (slices a.principals.now a.principal_slots.now a.vars.now a.variable_slots.now a.locals.now a.local_slots.now a.assertions.now) → (r : Entered) → c.add-added.result ≡ r → Ends r (with_store s (with_principal s.store (part a.text.now a.p) (part a.text.now a.password))) (slices c.add-added.new.principals c.add-added.new.principal_slots a.vars.now a.variable_slots.now a.locals.now a.local_slots.now a.assertions.now) = λ s R r e. let a = c.args in
     subst (λ (r : Entered). Ends r (with_store s (with_principal s.store (part a.text.now a.p) (part a.text.now a.password)))
     (slices c.add-added.new.principals c.add-added.new.principal_slots a.vars.now a.variable_slots.now a.locals.now a.local_slots.now a.assertions.now)) e

@@ -33,7 +33,7 @@ pub password_of-password-requires : goal.password_of-password-requires
 password_of-password-requires c =
     let here : (ks : List Principal) → let a = c.args in Principals ks a.text.now a.count a.slots.now → At c.in-At.number c.in-At.start c.in-At.end ≡ place (map principal_row ks) a.name.now = λ ks K. let a = c.args in
     sym c.in-At.is ∙ c.find-place.ensures (map principal_row ks) (principals_rows ks a.text.now a.count a.slots.now K) in
-    let below : c.in-At.number < c.args.count = let p = c.pre.0 in
+    let below : c.in-At.number < c.args.count = let p = c.requires.0 in
     let F = principal_found p.principals c.args.name.now c.in-At.number c.in-At.start c.in-At.end (here p.principals p.held) in
     omega (arith, F.below, p.held.counted) in
     let a = c.args in
@@ -50,7 +50,7 @@ pub write-requires : goal.write-requires
 write-requires c =
     let here : (ks : List Principal) → let a = c.args in Principals ks a.text.now a.count a.slots.now → At c.in-At.number c.in-At.start c.in-At.end ≡ place (map principal_row ks) a.name.now = λ ks K. let a = c.args in
     sym c.in-At.is ∙ c.find-place.ensures (map principal_row ks) (principals_rows ks a.text.now a.count a.slots.now K) in
-    let below : c.in-At.number < c.args.count = let p = c.pre.0 in
+    let below : c.in-At.number < c.args.count = let p = c.requires.0 in
     let F = principal_found p.principals c.args.name.now c.in-At.number c.in-At.start c.in-At.end (here p.principals p.held) in
     omega (arith, F.below, p.held.counted) in
     let kept : (ks : List Principal) → let a = c.args in Principals ks a.text.now a.count a.slots.now → PasswordAt ks a.text.now c.in-At.number (Kept c.in-Kept.start c.in-Kept.end) = λ ks K. let a = c.args in
@@ -64,7 +64,7 @@ pub unkept-requires : goal.unkept-requires
 unkept-requires c =
     let here : (ks : List Principal) → let a = c.args in Principals ks a.text.now a.count a.slots.now → At c.in-At.number c.in-At.start c.in-At.end ≡ place (map principal_row ks) a.name.now = λ ks K. let a = c.args in
     sym c.in-At.is ∙ c.find-place.ensures (map principal_row ks) (principals_rows ks a.text.now a.count a.slots.now K) in
-    let below : c.in-At.number < c.args.count = let p = c.pre.0 in
+    let below : c.in-At.number < c.args.count = let p = c.requires.0 in
     let F = principal_found p.principals c.args.name.now c.in-At.number c.in-At.start c.in-At.end (here p.principals p.held) in
     omega (arith, F.below, p.held.counted) in
     omega (arith, below, c.requires.1)

@@ -32,7 +32,7 @@ value_of-span-requires c =
     let here : (vs : List Variable) → let a = c.args in Variables vs a.text.now a.count a.slots.now → At c.in-At.number c.in-At.start c.in-At.end ≡ place (map variable_row vs) a.name.now = λ vs W. let a = c.args in
     sym c.in-At.is ∙ c.find-place.ensures (map variable_row vs) (variables_rows vs a.text.now a.count a.slots.now W) in
     let below : c.in-At.number < c.args.count = let a = c.args in
-    let p = c.pre.0 in
+    let p = c.requires.0 in
     let F = variable_found p.rows a.text.now a.count a.slots.now p.held a.name.now c.in-At.number c.in-At.start c.in-At.end (here p.rows p.held) in
     omega (arith, F.below, p.held.counted) in
     let a = c.args in
@@ -47,7 +47,7 @@ write-requires c =
     let here : (vs : List Variable) → let a = c.args in Variables vs a.text.now a.count a.slots.now → At c.in-At.number c.in-At.start c.in-At.end ≡ place (map variable_row vs) a.name.now = λ vs W. let a = c.args in
     sym c.in-At.is ∙ c.find-place.ensures (map variable_row vs) (variables_rows vs a.text.now a.count a.slots.now W) in
     let below : c.in-At.number < c.args.count = let a = c.args in
-    let p = c.pre.0 in
+    let p = c.requires.0 in
     let F = variable_found p.rows a.text.now a.count a.slots.now p.held a.name.now c.in-At.number c.in-At.start c.in-At.end (here p.rows p.held) in
     omega (arith, F.below, p.held.counted) in
     let p = c.requires in

@@ -62,17 +62,6 @@ sign_at-sign-requires c =
     let p3 = known (OperandPlaced t c.in-At-equals.b) c.operand_at-value.ensures.placed c.in-Found.is in
     p3.2
 
-pub returns-in_default-sign : goal.returns-in_default-sign
-returns-in_default-sign c =
-    let a = c.args in
-    let t = a.text.now in
-    let ts = lex (drop a.at t) in
-    let ws = lex (drop c.in-Found.e t) in
-    let e1 = told (found_meant t) c.name_at-label.ensures.meant c.in-At.is in
-    let e2 = told (next_meant t) c.expect-equals.ensures.meant c.in-At-equals.is in
-    let e3 = told (operand_read_meant t) c.operand_at-value.ensures.meant c.in-Found.is in
-    let e4 = told (found_meant t) c.sign_at-sign.ensures.meant c.in_default-sign.is in let both = (sym (record_step ts ∙ rw (e1, e2, e3, sign_none (bytes "}") ws e4, sign_none (bytes ",") ws e4)), tt) in record { meant = both.0; placed = both.1 }
-
 pub is_sign-requires : goal.is_sign-requires
 is_sign-requires c =
     let t = c.args.text.now in
@@ -104,31 +93,3 @@ is_sign-requires-2 c =
     let p4 = known (FoundPlaced t c.in-Found.e) c.sign_at-sign.ensures.placed c.in-At-sign.is in
     omega arith
 
-pub returns-then-is_sign-2 : goal.returns-then-is_sign-2
-returns-then-is_sign-2 c =
-    let a = c.args in
-    let t = a.text.now in
-    let ts = lex (drop a.at t) in
-    let ws = lex (drop c.in-Found.e t) in
-    let e1 = told (found_meant t) c.name_at-label.ensures.meant c.in-At.is in
-    let e2 = told (next_meant t) c.expect-equals.ensures.meant c.in-At-equals.is in
-    let e3 = told (operand_read_meant t) c.operand_at-value.ensures.meant c.in-Found.is in
-    let e4 = told (found_meant t) c.sign_at-sign.ensures.meant c.in-At-sign.is in let both = let brace = sign_same (bytes "}") ws e4 (sym c.is_sign-2.ensures ∙ c.if-is_sign-2.true) in
-    let p1 = known (FoundPlaced t a.at) c.name_at-label.ensures.placed c.in-At.is in
-    let p2 = known (NextPlaced t c.in-At.a) c.expect-equals.ensures.placed c.in-At-equals.is in
-    let p3 = known (OperandPlaced t c.in-At-equals.b) c.operand_at-value.ensures.placed c.in-Found.is in
-    let p4 = known (FoundPlaced t c.in-Found.e) c.sign_at-sign.ensures.placed c.in-At-sign.is in
-    (sym (record_step ts ∙ rw (e1, e2, e3, brace)), (omega arith, p3.0, omega arith, omega arith)) in record { meant = both.0; placed = both.1 }
-
-pub returns : goal.returns
-returns c =
-    let a = c.args in
-    let t = a.text.now in
-    let ts = lex (drop a.at t) in
-    let ws = lex (drop c.in-Found.e t) in
-    let e1 = told (found_meant t) c.name_at-label.ensures.meant c.in-At.is in
-    let e2 = told (next_meant t) c.expect-equals.ensures.meant c.in-At-equals.is in
-    let e3 = told (operand_read_meant t) c.operand_at-value.ensures.meant c.in-Found.is in
-    let e4 = told (found_meant t) c.sign_at-sign.ensures.meant c.in-At-sign.is in
-    let comma = sign_other (bytes ",") ws e4 (sym c.is_sign.ensures ∙ c.if-is_sign.false) in let both = let brace = sign_other (bytes "}") ws e4 (sym c.is_sign-2.ensures ∙ c.if-is_sign-2.false) in
-    (sym (record_step ts ∙ rw (e1, e2, e3, brace, comma)), tt) in record { meant = both.0; placed = both.1 }

@@ -14,7 +14,7 @@ use Rattle.edits.proofs.add.add_variable.Goals as goal
 pub returns : goal.returns
 returns c =
     let written : let a = c.args in c.copy.new.dst ≡ over a.buf.now a.len (86 ∷ 9 ∷ (a.name.now ++ (9 ∷ a.value.now))) = let a = c.args in
-    let p = c.pre in
+    let p = c.requires in
     let x = a.name.now in
     c.copy.ensures
     ∙ written_on a.buf.now c.head-body.new.buf (86 ∷ 9 ∷ (x ++ (9 ∷ []))) a.value.now a.len c.head-body.result (omega arith) c.head-body.ensures.left (omega (arith, c.head-body.ensures.size, head_length 86 x))

@@ -31,7 +31,7 @@ rewrite-n-requires c =
     let placed : (ks : List Principal) → let a = c.args in Principals ks (take a.len a.buf.now) a.count a.slots.now → Placed (map principal_row ks) a.number c.nth-place.result = λ ks K. let a = c.args in c.nth-place.ensures (map principal_row ks) (principals_rows ks (take a.len a.buf.now) a.count a.slots.now K) in
     let fits : c.args.len ≤ length c.args.buf.now = omega (arith, c.requires.1) in
     let safe : (c.nth-place.result.start < c.nth-place.result.mid) × (c.nth-place.result.mid ≤ c.args.len) = let a = c.args in
-    let S = c.pre.2 in
+    let S = c.requires.2 in
     let t = take a.len a.buf.now in
     let l = lies (map principal_row S.principals) t a.count a.slots.now (principals_rows S.principals t a.count a.slots.now S.held) a.number S.below c.nth-place.result (placed S.principals S.held) in
     let n = length-take-le a.len a.buf.now fits in
@@ -54,7 +54,7 @@ bounds-buf-start c =
     let placed : (ks : List Principal) → let a = c.args in Principals ks (take a.len a.buf.now) a.count a.slots.now → Placed (map principal_row ks) a.number c.nth-place.result = λ ks K. let a = c.args in c.nth-place.ensures (map principal_row ks) (principals_rows ks (take a.len a.buf.now) a.count a.slots.now K) in
     let fits : c.args.len ≤ length c.args.buf.now = omega (arith, c.requires.1) in
     let safe : (c.nth-place.result.start < c.nth-place.result.mid) × (c.nth-place.result.mid ≤ c.args.len) = let a = c.args in
-    let S = c.pre.2 in
+    let S = c.requires.2 in
     let t = take a.len a.buf.now in
     let l = lies (map principal_row S.principals) t a.count a.slots.now (principals_rows S.principals t a.count a.slots.now S.held) a.number S.below c.nth-place.result (placed S.principals S.held) in
     let n = length-take-le a.len a.buf.now fits in
@@ -66,7 +66,7 @@ returns c =
     let placed : (ks : List Principal) → let a = c.args in Principals ks (take a.len a.buf.now) a.count a.slots.now → Placed (map principal_row ks) a.number c.nth-place.result = λ ks K. let a = c.args in c.nth-place.ensures (map principal_row ks) (principals_rows ks (take a.len a.buf.now) a.count a.slots.now K) in
     let fits : c.args.len ≤ length c.args.buf.now = omega (arith, c.requires.1) in
     let safe : (c.nth-place.result.start < c.nth-place.result.mid) × (c.nth-place.result.mid ≤ c.args.len) = let a = c.args in
-    let S = c.pre.2 in
+    let S = c.requires.2 in
     let t = take a.len a.buf.now in
     let l = lies (map principal_row S.principals) t a.count a.slots.now (principals_rows S.principals t a.count a.slots.now S.held) a.number S.below c.nth-place.result (placed S.principals S.held) in
     let n = length-take-le a.len a.buf.now fits in

@@ -13,7 +13,7 @@ use Rattle.engine.proofs.command.tell.Goals as goal
 
 pub returning-end-requires : goal.returning-end-requires
 returning-end-requires c =
-    let here : let S = c.pre.0 in Hands S.step S.session c.args.l S.buffers c.args.value.now c.in-Value.n = let S = c.pre.0 in
+    let here : let S = c.requires.0 in Hands S.step S.session c.args.l S.buffers c.args.value.now c.in-Value.n = let S = c.requires.0 in
     known (λ (a : Acted). Acts a S.step S.session c.args.l S.buffers c.args.value.now) S.acts c.in-Value.is in
     let W = here.returned in
     json_room W.value _ c.args.output.now _ (from_start W.value c.args.value.now c.in-Value.n W.held) W.light c.requires.1

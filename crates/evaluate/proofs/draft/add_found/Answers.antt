@@ -13,7 +13,7 @@ use Rattle.evaluate.proofs.draft.add_found.Goals as goal
 
 pub slice_bounds-add-count : goal.slice_bounds-add-count
 slice_bounds-add-count c =
-    let within : Within c.args.value.now c.in-At.s = subst (λ (f : Found). Placed c.args.value.now f) c.in-At.is c.pre.1.0 in
+    let within : Within c.args.value.now c.in-At.s = subst (λ (f : Found). Placed c.args.value.now f) c.in-At.is c.requires.placed.0 in
     let w = within in omega (arith, w.0, w.1)
 
 pub add-requires : goal.add-requires

@@ -12,7 +12,7 @@ use Rattle.evaluate.proofs.operand.put_found.Goals as goal
 
 pub slice_bounds-put_text-count : goal.slice_bounds-put_text-count
 slice_bounds-put_text-count c =
-    let within : Within c.args.value.now c.in-At.s = subst (λ (f : Found). Placed c.args.value.now f) c.in-At.is c.pre.0 in
+    let within : Within c.args.value.now c.in-At.s = subst (λ (f : Found). Placed c.args.value.now f) c.in-At.is c.requires.0 in
     let w = within in omega (arith, w.0, w.1)
 
 pub put_text-requires : goal.put_text-requires

@@ -20,7 +20,7 @@ use Rattle.evaluate.proofs.operand.put_operand.Goals as goal
 
 pub slice_bounds-read-count : goal.slice_bounds-read-count
 slice_bounds-read-count c =
-    let within-name : Within c.args.text.now c.in-Name.x = subst (OperandWithin c.args.text.now) c.in-Name.is c.pre.1.0.0 in
+    let within-name : Within c.args.text.now c.in-Name.x = subst (OperandWithin c.args.text.now) c.in-Name.is c.requires.operand_within.0 in
     let w = within-name in omega (arith, w.0, w.1)
 
 pub read-value-requires : goal.read-value-requires
@@ -33,7 +33,7 @@ put_value-requires c =
 
 pub slice_bounds-read-count-in-Field : goal.slice_bounds-read-count-in-Field
 slice_bounds-read-count-in-Field c =
-    let within-dot : Within c.args.text.now c.in-Field.x × Within c.args.text.now c.in-Field.y = subst (OperandWithin c.args.text.now) c.in-Field.is c.pre.1.0.0 in
+    let within-dot : Within c.args.text.now c.in-Field.x × Within c.args.text.now c.in-Field.y = subst (OperandWithin c.args.text.now) c.in-Field.is c.requires.operand_within.0 in
     let w = within-dot.0 in omega (arith, w.0, w.1)
 
 pub read-value-requires-in-Field : goal.read-value-requires-in-Field
@@ -41,7 +41,7 @@ read-value-requires-in-Field c = (some_variables _ _ _ _ c.requires.some_scope.s
 
 pub slice_bounds-field_of-count : goal.slice_bounds-field_of-count
 slice_bounds-field_of-count c =
-    let within-dot : Within c.args.text.now c.in-Field.x × Within c.args.text.now c.in-Field.y = subst (OperandWithin c.args.text.now) c.in-Field.is c.pre.1.0.0 in
+    let within-dot : Within c.args.text.now c.in-Field.x × Within c.args.text.now c.in-Field.y = subst (OperandWithin c.args.text.now) c.in-Field.is c.requires.operand_within.0 in
     let w = within-dot.1 in omega (arith, w.0, w.1)
 
 pub field_of-found-requires : goal.field_of-found-requires
@@ -59,7 +59,7 @@ put_found-requires c =
 
 pub slice_bounds-put_text-count : goal.slice_bounds-put_text-count
 slice_bounds-put_text-count c =
-    let within-quoted : Within c.args.text.now c.in-Quoted.q = subst (OperandWithin c.args.text.now) c.in-Quoted.is c.pre.1.0.0 in
+    let within-quoted : Within c.args.text.now c.in-Quoted.q = subst (OperandWithin c.args.text.now) c.in-Quoted.is c.requires.operand_within.0 in
     let w = within-quoted in omega (arith, w.0, w.1)
 
 pub put_text-requires : goal.put_text-requires

@@ -25,19 +25,19 @@ until-end-requires c =
 
 pub slice_bounds-put_quoted-count : goal.slice_bounds-put_quoted-count
 slice_bounds-put_quoted-count c =
-    let string : StringAt c.args.text.now c.args.at c.requires.element c.requires.rest = string_at c.args.text.now c.args.at c.pre.element c.pre.rest c.pre.stands c.if-text-at-eq83.true in
-    let ended : c.until-end.result + 1 ≤ length c.args.text.now = string_within c.args.text.now c.args.at c.pre.element c.pre.rest string.until-end.result c.until-end.ensures.ends in
+    let string : StringAt c.args.text.now c.args.at c.requires.element c.requires.rest = string_at c.args.text.now c.args.at c.requires.element c.requires.rest c.requires.stands c.if-text-at-eq83.true in
+    let ended : c.until-end.result + 1 ≤ length c.args.text.now = string_within c.args.text.now c.args.at c.requires.element c.requires.rest string.until-end.result c.until-end.ensures.ends in
     omega (arith, ended, c.until-end.ensures.within)
 
 pub put_quoted-p-requires : goal.put_quoted-p-requires
 put_quoted-p-requires c =
-    let string : StringAt c.args.text.now c.args.at c.requires.element c.requires.rest = string_at c.args.text.now c.args.at c.pre.element c.pre.rest c.pre.stands c.if-text-at-eq83.true in
+    let string : StringAt c.args.text.now c.args.at c.requires.element c.requires.rest = string_at c.args.text.now c.args.at c.requires.element c.requires.rest c.requires.stands c.if-text-at-eq83.true in
     string_room c.args.text.now c.args.at c.requires.element c.requires.rest string.until-end.result c.until-end.ensures.ends c.args.o _ c.requires.room
 
 pub overflow_add-result : goal.overflow_add-result
 overflow_add-result c =
-    let string : StringAt c.args.text.now c.args.at c.requires.element c.requires.rest = string_at c.args.text.now c.args.at c.pre.element c.pre.rest c.pre.stands c.if-text-at-eq83.true in
-    let ended : c.until-end.result + 1 ≤ length c.args.text.now = string_within c.args.text.now c.args.at c.pre.element c.pre.rest string.until-end.result c.until-end.ensures.ends in
+    let string : StringAt c.args.text.now c.args.at c.requires.element c.requires.rest = string_at c.args.text.now c.args.at c.requires.element c.requires.rest c.requires.stands c.if-text-at-eq83.true in
+    let ended : c.until-end.result + 1 ≤ length c.args.text.now = string_within c.args.text.now c.args.at c.requires.element c.requires.rest string.until-end.result c.until-end.ensures.ends in
     omega (arith, ended, c.until-end.ensures.within)
 
 pub returns-then-text-at-eq83 : goal.returns-then-text-at-eq83
@@ -50,7 +50,7 @@ overflow_add-at c =
 
 pub fields_json-m-requires : goal.fields_json-m-requires
 fields_json-m-requires c =
-    let lines : RecordAt c.args.text.now c.args.at c.requires.element c.requires.rest = record_at_lem c.args.text.now c.args.at c.pre.element c.pre.rest c.pre.stands c.if-text-at-eq83.false in
+    let lines : RecordAt c.args.text.now c.args.at c.requires.element c.requires.rest = record_at_lem c.args.text.now c.args.at c.requires.element c.requires.rest c.requires.stands c.if-text-at-eq83.false in
     let R = lines in
     record {
       fields = _;
@@ -61,7 +61,7 @@ fields_json-m-requires c =
 
 pub put_byte-p-requires : goal.put_byte-p-requires
 put_byte-p-requires c =
-    let lines : RecordAt c.args.text.now c.args.at c.requires.element c.requires.rest = record_at_lem c.args.text.now c.args.at c.pre.element c.pre.rest c.pre.stands c.if-text-at-eq83.false in
+    let lines : RecordAt c.args.text.now c.args.at c.requires.element c.requires.rest = record_at_lem c.args.text.now c.args.at c.requires.element c.requires.rest c.requires.stands c.if-text-at-eq83.false in
     let R = lines in
     let M = c.fields_json-m.ensures _ c.requires.rest R.stand in
     omega (arith, M.written.ends, written_length M.written, record_room c.args.text.now c.args.at c.requires.element c.requires.rest R c.args.o _ c.requires.room)

@@ -19,14 +19,14 @@ pub put_byte-a-requires : goal.put_byte-a-requires
 put_byte-a-requires c =
     let Next : (es : List Element) → Type 0 = λ es. NextElement c.args.text.now es c.args.out.now c.args.o c.loop-i.i c.loop-i.p c.loop-i c.loop-i.out in
     let next : (es : List Element) → Elements c.args.text.now c.args.at es → Next es = λ es E. next_one c.args.text.now es c.args.out.now c.args.o c.loop-i.i c.loop-i.p c.loop-i c.loop-i.out (c.loop-i.invariant.2 es E) c.loop-i-test.true in
-    let known : Next c.requires.elements = next c.pre.elements c.pre.stand in
+    let known : Next c.requires.elements = next c.requires.elements c.requires.stand in
     omega (arith, one_room _ _ _ _ _ _ _ _ known.requires.room)
 
 pub element_json-m-requires : goal.element_json-m-requires
 element_json-m-requires c =
     let Next : (es : List Element) → Type 0 = λ es. NextElement c.args.text.now es c.args.out.now c.args.o c.loop-i.i c.loop-i.p c.loop-i c.loop-i.out in
     let next : (es : List Element) → Elements c.args.text.now c.args.at es → Next es = λ es E. next_one c.args.text.now es c.args.out.now c.args.o c.loop-i.i c.loop-i.p c.loop-i c.loop-i.out (c.loop-i.invariant.2 es E) c.loop-i-test.true in
-    let known : Next c.requires.elements = next c.pre.elements c.pre.stand in
+    let known : Next c.requires.elements = next c.requires.elements c.requires.stand in
     let N = known in
     record {
       element = N.element;
@@ -39,7 +39,7 @@ pub loop-i-smaller : goal.loop-i-smaller
 loop-i-smaller c =
     let Next : (es : List Element) → Type 0 = λ es. NextElement c.args.text.now es c.args.out.now c.args.o c.loop-i.i c.loop-i.p c.loop-i c.loop-i.out in
     let next : (es : List Element) → Elements c.args.text.now c.args.at es → Next es = λ es E. next_one c.args.text.now es c.args.out.now c.args.o c.loop-i.i c.loop-i.p c.loop-i c.loop-i.out (c.loop-i.invariant.2 es E) c.loop-i-test.true in
-    let known : Next c.requires.elements = next c.pre.elements c.pre.stand in
+    let known : Next c.requires.elements = next c.requires.elements c.requires.stand in
     let moves : (c.loop-i.i < c.element_json-m.result.read) × (c.element_json-m.result.read ≤ length c.args.text.now) = let N = known in
     one_within _ _ _ _ _ _ _ _ N c.element_json-m.result.read (c.element_json-m.ensures N.element _ (one_at _ _ _ _ _ _ _ _ N)).read_to in
     omega (arith, moves)
@@ -48,7 +48,7 @@ pub loop-i-preserved : goal.loop-i-preserved
 loop-i-preserved c =
     let Next : (es : List Element) → Type 0 = λ es. NextElement c.args.text.now es c.args.out.now c.args.o c.loop-i.i c.loop-i.p c.loop-i c.loop-i.out in
     let next : (es : List Element) → Elements c.args.text.now c.args.at es → Next es = λ es E. next_one c.args.text.now es c.args.out.now c.args.o c.loop-i.i c.loop-i.p c.loop-i c.loop-i.out (c.loop-i.invariant.2 es E) c.loop-i-test.true in
-    let known : Next c.requires.elements = next c.pre.elements c.pre.stand in
+    let known : Next c.requires.elements = next c.requires.elements c.requires.stand in
     let moves : (c.loop-i.i < c.element_json-m.result.read) × (c.element_json-m.result.read ≤ length c.args.text.now) = let N = known in
     one_within _ _ _ _ _ _ _ _ N c.element_json-m.result.read (c.element_json-m.ensures N.element _ (one_at _ _ _ _ _ _ _ _ N)).read_to in
     (

@@ -26,7 +26,7 @@ put_byte-a-requires c =
     let Next : (fs : List Field) (rest : Text) → Type 0 = λ fs rest. NextField c.args.text.now c.args.at fs rest c.args.out.now c.args.o c.loop-i.i c.loop-i.p c.loop-i.sep c.loop-i.out in
     let next : (fs : List Field) (rest : Text) → FieldsAt c.args.text.now c.args.at fs rest → Next fs rest = λ fs rest F. next_field c.args.text.now c.args.at fs rest c.args.out.now c.args.o c.loop-i.i c.loop-i.p c.loop-i.sep
     c.loop-i.out (c.loop-i.invariant.2 fs rest F) c.loop-i-test.true c.if-text-i-ne70.false in
-    let known : Next c.requires.fields c.requires.rest = next c.pre.fields c.pre.rest c.pre.stand in
+    let known : Next c.requires.fields c.requires.rest = next c.requires.fields c.requires.rest c.requires.stand in
     omega (arith, next_room _ _ _ _ _ _ _ _ _ _ known.requires.room)
 
 pub field_json-m-requires : goal.field_json-m-requires
@@ -34,7 +34,7 @@ field_json-m-requires c =
     let Next : (fs : List Field) (rest : Text) → Type 0 = λ fs rest. NextField c.args.text.now c.args.at fs rest c.args.out.now c.args.o c.loop-i.i c.loop-i.p c.loop-i.sep c.loop-i.out in
     let next : (fs : List Field) (rest : Text) → FieldsAt c.args.text.now c.args.at fs rest → Next fs rest = λ fs rest F. next_field c.args.text.now c.args.at fs rest c.args.out.now c.args.o c.loop-i.i c.loop-i.p c.loop-i.sep
     c.loop-i.out (c.loop-i.invariant.2 fs rest F) c.loop-i-test.true c.if-text-i-ne70.false in
-    let known : Next c.requires.fields c.requires.rest = next c.pre.fields c.pre.rest c.pre.stand in
+    let known : Next c.requires.fields c.requires.rest = next c.requires.fields c.requires.rest c.requires.stand in
     let N = known in
     record {
       field = N.field;
@@ -48,7 +48,7 @@ loop-i-smaller c =
     let Next : (fs : List Field) (rest : Text) → Type 0 = λ fs rest. NextField c.args.text.now c.args.at fs rest c.args.out.now c.args.o c.loop-i.i c.loop-i.p c.loop-i.sep c.loop-i.out in
     let next : (fs : List Field) (rest : Text) → FieldsAt c.args.text.now c.args.at fs rest → Next fs rest = λ fs rest F. next_field c.args.text.now c.args.at fs rest c.args.out.now c.args.o c.loop-i.i c.loop-i.p c.loop-i.sep
     c.loop-i.out (c.loop-i.invariant.2 fs rest F) c.loop-i-test.true c.if-text-i-ne70.false in
-    let known : Next c.requires.fields c.requires.rest = next c.pre.fields c.pre.rest c.pre.stand in
+    let known : Next c.requires.fields c.requires.rest = next c.requires.fields c.requires.rest c.requires.stand in
     let moves : (c.loop-i.i < c.field_json-m.result.read) × (c.field_json-m.result.read ≤ length c.args.text.now) = let N = known in
     next_within _ _ _ _ _ _ _ _ _ _ N c.field_json-m.result.read (c.field_json-m.ensures N.field _ (next_at _ _ _ _ _ _ _ _ _ _ N)).read_to in
     omega (arith, moves)
@@ -58,7 +58,7 @@ loop-i-preserved c =
     let Next : (fs : List Field) (rest : Text) → Type 0 = λ fs rest. NextField c.args.text.now c.args.at fs rest c.args.out.now c.args.o c.loop-i.i c.loop-i.p c.loop-i.sep c.loop-i.out in
     let next : (fs : List Field) (rest : Text) → FieldsAt c.args.text.now c.args.at fs rest → Next fs rest = λ fs rest F. next_field c.args.text.now c.args.at fs rest c.args.out.now c.args.o c.loop-i.i c.loop-i.p c.loop-i.sep
     c.loop-i.out (c.loop-i.invariant.2 fs rest F) c.loop-i-test.true c.if-text-i-ne70.false in
-    let known : Next c.requires.fields c.requires.rest = next c.pre.fields c.pre.rest c.pre.stand in
+    let known : Next c.requires.fields c.requires.rest = next c.requires.fields c.requires.rest c.requires.stand in
     let moves : (c.loop-i.i < c.field_json-m.result.read) × (c.field_json-m.result.read ≤ length c.args.text.now) = let N = known in
     next_within _ _ _ _ _ _ _ _ _ _ N c.field_json-m.result.read (c.field_json-m.ensures N.field _ (next_at _ _ _ _ _ _ _ _ _ _ N)).read_to in
     (

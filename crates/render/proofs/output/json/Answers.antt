@@ -16,7 +16,7 @@ bounds-value-0 c = omega (arith, some_bytes c.requires.value c.args.value.now c.
 
 pub element_json-m-requires : goal.element_json-m-requires
 element_json-m-requires c =
-    let one : SingleAt c.requires.value c.args.value.now = single_at c.pre.value c.args.value.now c.pre.held c.if-value-ne76.true in
+    let one : SingleAt c.requires.value c.args.value.now = single_at c.requires.value c.args.value.now c.requires.held c.if-value-ne76.true in
     let S = one in
     record { element = S.element; rest = []; stands = S.stands; room = omega (arith, c.requires.room, ap (λ v. length (value_json v)) S.is_value) }
 
@@ -27,7 +27,7 @@ returns-then-value-ne76 c v h =
 
 pub copy_in-requires : goal.copy_in-requires
 copy_in-requires c =
-    let several : ListAt c.requires.value c.args.value.now = list_at c.pre.value c.args.value.now c.pre.held c.if-value-ne76.false in
+    let several : ListAt c.requires.value c.args.value.now = list_at c.requires.value c.args.value.now c.requires.held c.if-value-ne76.false in
     omega (arith, c.requires.room, ap length (list_none c.requires.value c.args.value.now several.if-value-eq2.true))
 
 pub returns-then-value-eq2 : goal.returns-then-value-eq2
@@ -35,13 +35,13 @@ returns-then-value-eq2 c v h = rewritten (list_none v c.args.value.now (list_at 
 
 pub elements_json-p-requires : goal.elements_json-p-requires
 elements_json-p-requires c =
-    let several : ListAt c.requires.value c.args.value.now = list_at c.pre.value c.args.value.now c.pre.held c.if-value-ne76.false in
+    let several : ListAt c.requires.value c.args.value.now = list_at c.requires.value c.args.value.now c.requires.held c.if-value-ne76.false in
     let L = several in
     record { elements = L.elements; stand = L.stand; room = omega (arith, c.requires.room, list_room c.requires.value c.args.value.now L c.if-value-eq2.false) }
 
 pub put_byte-requires : goal.put_byte-requires
 put_byte-requires c =
-    let several : ListAt c.requires.value c.args.value.now = list_at c.pre.value c.args.value.now c.pre.held c.if-value-ne76.false in
+    let several : ListAt c.requires.value c.args.value.now = list_at c.requires.value c.args.value.now c.requires.held c.if-value-ne76.false in
     let L = several in
     let W = c.elements_json-p.ensures L.elements L.stand in
     omega (arith, c.requires.room, list_room c.requires.value c.args.value.now L c.if-value-eq2.false, W.ends, written_length W)

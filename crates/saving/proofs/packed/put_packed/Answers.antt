@@ -13,7 +13,7 @@ use Rattle.saving.proofs.packed.put_packed.Goals as goal
 pub name_of-x-requires : goal.name_of-x-requires
 name_of-x-requires c =
     let parted : Apart c.requires.store c.requires.assertion c.unpack-a.result = let a = c.args in
-    let P = c.pre in
+    let P = c.requires in
     apart P.store a.l a.principals.now a.principal_slots.now a.vars.now a.variable_slots.now P.names P.assertion a.number P.assertions _ c.unpack-a.ensures in
     let a = c.args in
     let P = c.requires in
@@ -25,7 +25,7 @@ name_of-x-requires c =
 pub name_of-q-requires : goal.name_of-q-requires
 name_of-q-requires c =
     let parted : Apart c.requires.store c.requires.assertion c.unpack-a.result = let a = c.args in
-    let P = c.pre in
+    let P = c.requires in
     apart P.store a.l a.principals.now a.principal_slots.now a.vars.now a.variable_slots.now P.names P.assertion a.number P.assertions _ c.unpack-a.ensures in
     let a = c.args in
     let P = c.requires in
@@ -37,7 +37,7 @@ name_of-q-requires c =
 pub name_of-p-requires : goal.name_of-p-requires
 name_of-p-requires c =
     let parted : Apart c.requires.store c.requires.assertion c.unpack-a.result = let a = c.args in
-    let P = c.pre in
+    let P = c.requires in
     apart P.store a.l a.principals.now a.principal_slots.now a.vars.now a.variable_slots.now P.names P.assertion a.number P.assertions _ c.unpack-a.ensures in
     let a = c.args in
     let P = c.requires in
@@ -49,7 +49,7 @@ name_of-p-requires c =
 pub put_assertion-requires : goal.put_assertion-requires
 put_assertion-requires c =
     let parted : Apart c.requires.store c.requires.assertion c.unpack-a.result = let a = c.args in
-    let P = c.pre in
+    let P = c.requires in
     apart P.store a.l a.principals.now a.principal_slots.now a.vars.now a.variable_slots.now P.names P.assertion a.number P.assertions _ c.unpack-a.ensures in
     let spelt : (s : Store) (a : Assertion) → let g = c.args in Named s g.l g.principals.now g.principal_slots.now g.vars.now g.variable_slots.now → Assertions s a g.number → (c.name_of-x.result.now ≡ a.variable) × (c.name_of-q.result.now ≡ a.from) × (c.name_of-p.result.now ≡ a.to) = λ s a N C. let g = c.args in
     let A = apart s g.l g.principals.now g.principal_slots.now g.vars.now g.variable_slots.now N a g.number C c.unpack-a.result c.unpack-a.ensures in (

@@ -37,7 +37,7 @@ nth-at-requires c = (c.requires, omega (arith, c.scan-k.ensures.high, c.if-k-cou
 pub overflow_add-from : goal.overflow_add-from
 overflow_add-from c =
     let within : let a = c.args in (c.nth-at.result.start + 2 ≤ c.nth-at.result.mid) × (c.nth-at.result.mid ≤ length a.text.now) = let a = c.args in
-    let p = c.pre in
+    let p = c.requires in
     let h : c.scan-k.result < a.count = omega (arith, c.scan-k.ensures.high, c.if-k-count.false) in
     let P = c.nth-at.ensures p.rows p.held in
     (omega (arith, P.starts, P.name_ends), omega (arith, P.name_ends, start_before p.rows a.text.now a.count a.slots.now p.held c.scan-k.result h, start_in p.rows a.text.now a.count a.slots.now p.held (suc c.scan-k.result))) in
@@ -46,7 +46,7 @@ overflow_add-from c =
 pub is_named-requires : goal.is_named-requires
 is_named-requires c =
     let within : let a = c.args in (c.nth-at.result.start + 2 ≤ c.nth-at.result.mid) × (c.nth-at.result.mid ≤ length a.text.now) = let a = c.args in
-    let p = c.pre in
+    let p = c.requires in
     let h : c.scan-k.result < a.count = omega (arith, c.scan-k.ensures.high, c.if-k-count.false) in
     let P = c.nth-at.ensures p.rows p.held in
     (omega (arith, P.starts, P.name_ends), omega (arith, P.name_ends, start_before p.rows a.text.now a.count a.slots.now p.held c.scan-k.result h, start_in p.rows a.text.now a.count a.slots.now p.held (suc c.scan-k.result))) in

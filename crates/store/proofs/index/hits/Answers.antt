@@ -7,6 +7,7 @@ use borrow.Author.Rules.{rules}
 use Rattle.store.specs.Scans.{HitMeant}
 use Rattle.store.proofs.Scanning.{hit_now, hit_on}
 use Rattle.store.proofs.index.hits.Goals as goal
+use Rattle.store.proofs.index.hits.Goals.{then-slots-i, else-slots-i}
 
 pub loop-i-init : goal.loop-i-init
 loop-i-init c = (omega arith, omega arith, λ j H. omega (arith, H.low, H.high))
@@ -17,10 +18,9 @@ loop-i-preserved c =
     let a = c.args in (
       omega arith,
       omega arith,
-      ⊎_elim
-          (λ w. subst (λ (b : Bool). HitMeant a.slots.now a.from (l.i + 1) a.p b) (sym w.1) (hit_now a.slots.now a.from a.p l.i l.invariant.0 w.0.taken))
-          (λ w. subst (λ (b : Bool). HitMeant a.slots.now a.from (l.i + 1) a.p b) (sym w.1) (hit_on a.slots.now a.from a.p l.hit l.i l.invariant.2 w.0.left))
-          c.if-slots-i.branch,
+      elim c.if-slots-i.branch [ then-slots-i w ↦ subst (λ (b : Bool). HitMeant a.slots.now a.from (l.i + 1) a.p b) (sym w.hit-is) (hit_now a.slots.now a.from a.p l.i l.invariant.0 w.if-slots-i.true)
+    | else-slots-i w ↦ subst (λ (b : Bool). HitMeant a.slots.now a.from (l.i + 1) a.p b) (sym w.hit-is) (hit_on a.slots.now a.from a.p l.hit l.i l.invariant.2 w.if-slots-i.false)
+    ],
     )
 
 pub returns : goal.returns
