@@ -1,6 +1,6 @@
 -- The assertions gathered for a variable and a right, from their numbers.
 use mathlib.Core.Path.{◌≡◌, refl, sym, ap, ◌∙◌}
-use mathlib.Core.List.{List, [], ◌∷◌, ◌++◌, map, map_append, append_assoc, append-nil}
+use mathlib.Core.List.{List, [], ◌∷◌, ◌++◌, map, map-append, append_assoc, append-nil}
 use mathlib.Core.Bool.{Bool, true, false, cond}
 use Prim.Native.Nat.{ℕ, suc, ◌+◌, ◌/◌, ◌%◌, ◌^◌, ◌≤◌, ◌<◌}
 use native.Mathlib.Decide.{ℕ_discrete}
@@ -46,7 +46,7 @@ module _ (v w n : ℕ) (w_Fits : w < 2 ^ 16) where
   kept f x is k l room e =
       ap (λ (j : ℕ). map f (take j (set l k x))) (add-one k)
       ∙ ap (map f) (take-suc-set l k x room)
-      ∙ map_append f (take k l) (x ∷ [])
+      ∙ map-append f (take k l) (x ∷ [])
       ∙ ap (λ (d : Delegation). map f (take k l) ++ (d ∷ [])) is
       ∙ ap (λ (t : List Delegation). map f (take k l) ++ t) (sym (one_kept e))
 
