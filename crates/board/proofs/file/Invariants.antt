@@ -1,5 +1,5 @@
 use Prim.Native.Nat.{◌-◌, ◌≤◌}
-use lib.ListN.{length, take}
+use lib.ListN.{take}
 use Rattle.board.specs.Board.{Filed}
 use Rattle.board.proofs.file.Given as goal
 
