@@ -1,4 +1,3 @@
 pub mod Beginning
 pub mod Leaving
-pub mod Again
-pub mod Laid
+pub mod Turns

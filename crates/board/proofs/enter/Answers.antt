@@ -2,7 +2,6 @@
 use mathlib.Core.Path.{refl}
 use native.Mathlib.Omega.{arith}
 use Rattle.board.proofs.Filing.{enter_none, enter_some, length_two}
-use borrow.Author.Rules.{rules}
 use Rattle.board.proofs.enter.Goals as goal
 
 pub returns-then-count-q : goal.returns-then-count-q

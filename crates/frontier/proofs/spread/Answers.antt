@@ -1,6 +1,5 @@
 -- `frontier::spread` meets its contract.
 use Rattle.frontier.proofs.Boards.{spread_shut, spread_opens}
-use borrow.Author.Rules.{rules}
 use Rattle.frontier.proofs.spread.Goals as goal
 
 pub returns-then-board-d : goal.returns-then-board-d

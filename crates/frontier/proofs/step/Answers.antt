@@ -1,7 +1,6 @@
 -- `frontier::step` meets its contract.
 use native.Mathlib.Omega.{arith}
 use Rattle.frontier.proofs.Boards.{step_none, step_hits, step_other, step_pushes}
-use borrow.Author.Rules.{rules}
 use Rattle.frontier.proofs.step.Goals as goal
 
 pub returns-then-reached-eq0 : goal.returns-then-reached-eq0

@@ -8,7 +8,6 @@ use lib.Seq.{length-take-le}
 use Rattle.assertion.specs.Packed.{fields}
 use Rattle.chains.specs.Chain.{asked}
 use Rattle.chains.specs.Rounds.{start}
-use borrow.Author.Rules.{rules}
 use Rattle.marking.proofs.lengths.Goals as goal
 
 pub slice_bounds-rounds-end : goal.slice_bounds-rounds-end

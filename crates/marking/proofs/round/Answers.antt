@@ -1,15 +1,11 @@
 -- `marking::round` meets its contract. The loop's invariant: i assertions have had their turn, and n principals were reached by them.
 -- Assumes nothing.
-use borrow.Author.Rules.{rules}
 use mathlib.Core.Path.{◌≡◌, refl, sym, ap, ◌∙◌}
-use mathlib.Core.List.{map}
-use Prim.Native.Nat.{◌+◌, ◌-◌, ◌≤◌}
+use Prim.Native.Nat.{◌+◌}
 use native.Mathlib.Omega.{arith}
-use lib.ListN.{length, drop}
 use Rattle.assertion.specs.Packed.{Assertion}
 use Rattle.search_steps.specs.Steps.{handed_by, marked, left}
 use Rattle.search_steps.proofs.Marking.{left_le, total}
-use Rattle.chains.specs.Rounds.{one_round}
 use Rattle.chains.proofs.Passing.{pass_on, pass_over}
 use Rattle.marking.proofs.round.Goals as goal
 
@@ -24,8 +20,7 @@ overflow_add-n c =
 pub loop-i-preserved : goal.loop-i-preserved
 loop-i-preserved c =
     let l = c.loop-i in
-    let s = c.args in
-    (
+    let s = c.args in (
       omega arith,
       c.mark-n.auto.dist ∙ l.invariant.1,
       total l.n c.mark-n.result (left l.dist) _ _ l.invariant.2 c.mark-n.ensures.counts,

@@ -1,12 +1,10 @@
 -- `marking::rounds` meets its contract. The loop's invariant: after d rounds, of which the last did not reach anyone, the marks are the
 -- shortest chains of up to d steps. The measure is how many are not reached. Assumes nothing.
-use borrow.Author.Rules.{rules}
-use mathlib.Core.Path.{◌≡◌, refl, sym, ◌∙◌, subst}
+use mathlib.Core.Path.{refl, sym, ◌∙◌, subst}
 use mathlib.Core.List.{map}
-use Prim.Native.Nat.{◌≤◌, ◌<◌}
 use native.Mathlib.Omega.{arith}
 use lib.ListN.{length}
-use Rattle.search_steps.specs.Steps.{handed_by, left}
+use Rattle.search_steps.specs.Steps.{handed_by}
 use Rattle.marking.proofs.Reaching.{Spreading, spreading_first, spreading_next, spread_ends, spread_anyone, less}
 use Rattle.marking.proofs.rounds.Goals as goal
 

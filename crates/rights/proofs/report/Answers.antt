@@ -1,6 +1,5 @@
 -- `rights::report` meets its contract. Assumes nothing.
 use mathlib.Core.Path.{ap, ◌∙◌}
-use borrow.Author.Rules.{rules}
 use borrow.Author.Tests.{eq-eqb, ne_eqb}
 use Rattle.search_steps.specs.Steps.{unreached}
 use Rattle.chains.specs.declared.Answer.TheVariants.{Yes}

@@ -1,6 +1,5 @@
 -- `rights::run` meets its contract. Assumes nothing.
 use lib.ListN.{get_or}
-use borrow.Author.Rules.{rules}
 use Rattle.rights.proofs.Beginning.{reported}
 use Rattle.rights.proofs.run.Goals as goal
 

@@ -5,7 +5,6 @@ use Prim.Native.Nat.{ℕ}
 use native.Mathlib.Omega.{arith}
 use lib.ListN.{length, take}
 use lib.Seq.{length-take-le}
-use borrow.Author.Rules.{rules}
 use Rattle.assertion.specs.Packed.{fields}
 use Rattle.board.specs.Board.{board_size}
 use Rattle.chains.specs.Chain.{asked}

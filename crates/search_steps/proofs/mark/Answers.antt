@@ -1,5 +1,4 @@
 use Rattle.search_steps.proofs.Marking.{no_q, no_p, not_d, reached, reaches}
-use borrow.Author.Rules.{rules}
 use Rattle.search_steps.proofs.mark.Goals as goal
 
 pub returns-then-dist-q : goal.returns-then-dist-q

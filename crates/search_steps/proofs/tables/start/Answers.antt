@@ -1,10 +1,8 @@
 -- `search_steps::tables::start` meets its contract. The loop's invariant: the first i are not reached. Then admin is.
 -- Assumes nothing.
-use borrow.Author.Rules.{rules}
 use mathlib.Core.Path.{◌≡◌, refl, ◌∙◌}
-use Prim.Native.Nat.{◌-◌, ◌≤◌}
 use native.Mathlib.Omega.{arith}
-use lib.ListN.{length, take, replicate, length-set}
+use lib.ListN.{length, replicate, length-set}
 use Rattle.search_steps.specs.Steps.{unreached}
 use Rattle.search_steps.proofs.Filling.{cleared_next, cleared_all}
 use Rattle.search_steps.proofs.tables.start.Goals as goal
