@@ -1,9 +1,11 @@
 // The program of document 01, "Desk sessions": it makes a server with the password `desk`, reads programs from standard input, each ended by its
-// `***` line, and prints their lines. It stops after EXITING or at the end of the input, where an unfinished program is dropped.
+// `***` line, and prints their lines. It stops after EXITING or at the end of the input, where an unfinished program is dropped. Where the input can
+// be set back, the bytes after the session's end are left to whoever reads on.
 #![tactic(auto)]
 
 use answers::{Answer, Kind};
-use libc::{SEEK_CUR, STDIN_FILENO, STDOUT_FILENO};
+use std::io;
+use std::io::{BufRead, Lock, StdinLock, Stdout, Write};
 use stream::Reading;
 
 // The reading after some of the input was taken, and whether to go on.
@@ -21,142 +23,133 @@ fn goes_on_after(kind: Kind) -> bool {
     }
 }
 
-// Prints the first bytes of the output. The answer is whether they went out.
-fn print(output: &[u8], bytes: usize) -> bool {
+// Prints the first bytes of the output. The answer is whether it has so many.
+fn print(out: &mut Stdout, output: &[u8], bytes: usize) -> io::Result<bool> {
     if output.len() < bytes {
-        return false;
+        return Ok(false);
     }
-    io::write_all(STDOUT_FILENO, &output[0..bytes])
+    out.write_all(&output[0..bytes])?;
+    Ok(true)
 }
 
 // Runs the program that was read and prints its lines. The answer is whether to go on. All buffers are of the right size and the server is open, so
 // the program has an end.
 fn serve(
+    out: &mut Stdout,
     state: &mut [u8],
     work: &mut [u8],
     output: &mut [u8],
     program: &[u8],
     reading: Reading,
-) -> bool {
+) -> io::Result<bool> {
     let len = stream::kept(reading, program);
     let answer = run::program(state, work, output, &program[0..len]);
     match answer {
-        Answer::Wrong(_) => false,
+        Answer::Wrong(_) => Ok(false),
         Answer::Ended(f) => {
             let kind = f.kind;
-            print(output, f.bytes) && goes_on_after(kind)
+            let printed = print(out, output, f.bytes)?;
+            Ok(printed && goes_on_after(kind))
         }
-        Answer::Yes(_) => false,
-        Answer::No => false,
-        Answer::Ready => false,
-        Answer::Listed { lines: _, bytes: _ } => false,
+        Answer::Yes(_) => Ok(false),
+        Answer::No => Ok(false),
+        Answer::Ready => Ok(false),
+        Answer::Listed { lines: _, bytes: _ } => Ok(false),
     }
 }
 
 // Takes one byte. Where it ends a program, that is run.
 fn take_byte(
+    out: &mut Stdout,
     state: &mut [u8],
     work: &mut [u8],
     output: &mut [u8],
     program: &mut [u8],
     reading: Reading,
     b: u8,
-) -> Taken {
+) -> io::Result<Taken> {
     if b == b'\n' && stream::is_last(reading) {
-        let goes_on = serve(state, work, output, program, reading);
-        return Taken {
+        let goes_on = serve(out, state, work, output, program, reading)?;
+        return Ok(Taken {
             reading: stream::fresh(),
             goes_on,
-        };
+        });
     }
-    Taken {
+    Ok(Taken {
         reading: stream::with_byte(program, reading, b),
         goes_on: true,
-    }
+    })
 }
 
-// Where a session ends within what was read, the bytes after its end are left to whoever reads on: the input is set back to them, where it can be.
-fn leave(rest: usize) {
-    if rest <= 65536 {
-        libc::lseek(STDIN_FILENO, 0 - rest as i64, SEEK_CUR);
+// Takes the next byte of the input, if there is one. What was read beyond it stays with the lock, which sets the input back to it when it is let go.
+fn next_byte(input: &mut StdinLock<'_>) -> io::Result<Option<u8>> {
+    let chunk = input.fill_buf()?;
+    if chunk.is_empty() {
+        return Ok(None);
     }
+    let b = chunk[0];
+    input.consume(1);
+    Ok(Some(b))
 }
 
-// Takes the bytes of a chunk one after the other.
-fn take_chunk(
-    state: &mut [u8],
-    work: &mut [u8],
-    output: &mut [u8],
-    program: &mut [u8],
-    start: Reading,
-    chunk: &[u8],
-) -> Taken {
-    let mut taken = Taken {
-        reading: start,
-        goes_on: true,
-    };
-    let mut i: usize = 0;
-    while i < chunk.len() {
-        let b = chunk[i];
-        i += 1;
-        taken = take_byte(state, work, output, program, taken.reading, b);
-        if !taken.goes_on {
-            leave(chunk.len() - i);
-            return taken;
-        }
-    }
-    taken
-}
-
-// Reads once, and takes what came. Where the input is over, a last line without its newline ends a program as well, and any other rest is dropped.
+// Takes the next byte. Where the input is over, a last line without its newline ends a program as well, and any other rest is dropped.
 fn step(
+    input: &mut StdinLock<'_>,
+    out: &mut Stdout,
     state: &mut [u8],
     work: &mut [u8],
     output: &mut [u8],
     program: &mut [u8],
     reading: Reading,
-    chunk: &mut [u8],
-) -> Taken {
-    let got = libc::read(STDIN_FILENO, chunk);
-    let n = io::count(got, chunk);
-    if n == 0 {
-        if stream::is_last(reading) {
-            serve(state, work, output, program, reading);
+) -> io::Result<Taken> {
+    match next_byte(input)? {
+        Some(b) => take_byte(out, state, work, output, program, reading, b),
+        None => {
+            if stream::is_last(reading) {
+                serve(out, state, work, output, program, reading)?;
+            }
+            Ok(Taken {
+                reading,
+                goes_on: false,
+            })
         }
-        return Taken {
-            reading,
-            goes_on: false,
-        };
     }
-    take_chunk(state, work, output, program, reading, &chunk[0..n])
 }
 
-// A proved loop has to end, and nothing says that the input does. So the loop counts its turns down, from a number that no run uses up.
+// A proved loop has to end, and nothing says that the input does. So the loop counts its turns, up to a number that no run reaches.
 fn session(
+    input: &mut StdinLock<'_>,
+    out: &mut Stdout,
     state: &mut [u8],
     work: &mut [u8],
     output: &mut [u8],
     program: &mut [u8],
-    chunk: &mut [u8],
-) {
+) -> io::Result<()> {
     let mut reading = stream::fresh();
-    let mut turns = u64::MAX;
-    while turns > 0 {
-        turns -= 1;
-        let taken = step(state, work, output, program, reading, chunk);
+    for _ in 0..u64::MAX {
+        let taken = step(input, out, state, work, output, program, reading)?;
         if !taken.goes_on {
-            return;
+            break;
         }
         reading = taken.reading;
     }
+    Ok(())
 }
 
-fn main() {
-    let mut state = io::large_buffer();
-    let mut work = io::large_buffer();
-    let mut output = io::large_buffer();
+fn main(rt: HostRuntime) -> io::Result<()> {
+    let mut state = [0u8; 65536];
+    let mut work = [0u8; 65536];
+    let mut output = [0u8; 65536];
     let mut program = [0u8; 16385];
-    let mut chunk = io::large_buffer();
     make::server(&mut state, b"desk");
-    session(&mut state, &mut work, &mut output, &mut program, &mut chunk);
+    let mut input = rt.stdin().lock();
+    let mut out = rt.stdout();
+    session(
+        &mut input,
+        &mut out,
+        &mut state,
+        &mut work,
+        &mut output,
+        &mut program,
+    )
 }

@@ -24,9 +24,9 @@ pub extern "C" fn kivzurg_run(
     output: &mut [u8],
     program: &[u8],
 ) -> u64
-    ensures { (result ≡ wire (run_call (record { state = state.entry.now; work = work.old; output = output.old }) program.now).answer)
-        × (record { state = state.exit.now; work = work.new; output = output.new }
-        ≡ (run_call (record { state = state.entry.now; work = work.old; output = output.old }) program.now).lent) }
+    ensures { (result ≡ wire (run_call (record { state = state.old; work = work.old; output = output.old }) program.now).answer)
+        × (record { state = state.new; work = work.new; output = output.new }
+        ≡ (run_call (record { state = state.old; work = work.old; output = output.old }) program.now).lent) }
 {
     let a = run::program(state, work, output, program);
     wire::wire(a)
@@ -45,8 +45,8 @@ pub extern "C" fn kivzurg_ask(state: &[u8], name: &[u8], variable: &[u8], right:
 // Brings a state whose text is in the former lines over into the state's buffer.
 #[unsafe(no_mangle)]
 pub extern "C" fn kivzurg_bring(former: &[u8], state: &mut [u8]) -> u64
-    ensures { (result ≡ wire (bring_call (record { former = former.entry.now; state = state.old })).answer)
-        × (record { former = former.exit.now; state = state.new } ≡ (bring_call (record { former = former.entry.now; state = state.old })).lent) }
+    ensures { (result ≡ wire (bring_call (record { former = former.now; state = state.old })).answer)
+        × (record { former = former.now; state = state.new } ≡ (bring_call (record { former = former.now; state = state.old })).lent) }
 {
     let a = bring::state(former, state);
     wire::wire(a)
@@ -55,8 +55,8 @@ pub extern "C" fn kivzurg_bring(former: &[u8], state: &mut [u8]) -> u64
 // Prints the sheet of a shared variable into the output: who may do what to it.
 #[unsafe(no_mangle)]
 pub extern "C" fn kivzurg_sheet(state: &[u8], output: &mut [u8], variable: &[u8]) -> u64
-    ensures { (result ≡ wire (sheet_call (record { state = state.entry.now; output = output.old }) variable.now).answer)
-        × (record { state = state.exit.now; output = output.new } ≡ (sheet_call (record { state = state.entry.now; output = output.old }) variable.now).lent) }
+    ensures { (result ≡ wire (sheet_call (record { state = state.now; output = output.old }) variable.now).answer)
+        × (record { state = state.now; output = output.new } ≡ (sheet_call (record { state = state.now; output = output.old }) variable.now).lent) }
 {
     let a = sheet::variable(state, output, variable);
     wire::wire(a)

@@ -1,6 +1,5 @@
 -- `stream::more_stars` meets its contract. Assumes nothing.
 use mathlib.Core.Path.{sym, subst}
-use borrow.Author.Rules.{rules}
 use Rattle.stream.specs.Stream.{Stars, last_line}
 use Rattle.stream.proofs.Streaming.{at_newline, elsewhere, stars_none, stars_other, star_more, star_many}
 use Rattle.stream.proofs.more_stars.Goals as goal

@@ -1,7 +1,6 @@
 -- `stream::with_byte` meets its contract. Assumes nothing.
 use native.Mathlib.Omega.{arith}
 use lib.ListN.{length-append, length-set}
-use borrow.Author.Rules.{rules}
 use Rattle.stream.proofs.Streaming.{kept_more, kept_full}
 use Rattle.stream.proofs.with_byte.Goals as goal
 
