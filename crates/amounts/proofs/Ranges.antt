@@ -8,14 +8,14 @@ use native.Mathlib.Omega.{arith}
 use borrow.Author.Tests.{ltb-true, ltb-false, le-leb, lt-leb}
 use lib.IntN.{ℤ, pos, negsuc}
 use lib.Signed.{lt_z}
-use Rattle.language.specs.Text.{if◌then◌else◌}
+use Rattle.language.specs.Text.{when◌then◌else◌}
 use Rattle.language.specs.Prices.{in_range, ranged, greatest}
 
 outside : (a : ℤ) → in_range a ≡ false → ranged a ≡ none
-outside a e = ap (λ (b : Bool). if b then some a else none) e
+outside a e = ap (λ (b : Bool). when b then some a else none) e
 
 inside : (a : ℤ) → in_range a ≡ true → ranged a ≡ some a
-inside a e = ap (λ (b : Bool). if b then some a else none) e
+inside a e = ap (λ (b : Bool). when b then some a else none) e
 
 pub too_great : (a : ℤ) → lt_z (pos 999999999) a ≡ true → ranged a ≡ none
 too_great (pos n) e = outside (pos n) (lt-leb n greatest (ltb-true greatest n e))

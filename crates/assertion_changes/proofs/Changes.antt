@@ -7,7 +7,7 @@ use Prim.Native.Nat.{ℕ, ◌+◌, ◌-◌, ◌≤◌, ◌<◌, ◌^◌}
 use native.Mathlib.Omega.{arith}
 use lib.Dec.{T}
 use lib.ListN.{length, take}
-use Rattle.language.specs.Text.{if◌then◌else◌, all, member, present}
+use Rattle.language.specs.Text.{when◌then◌else◌, all, member, present}
 use Rattle.language.specs.State.{Assertion, Store, named, value_in, stands, enter, withdraw}
 use Rattle.language.specs.Weight.{limit, assertion_weight}
 use Rattle.language.specs.Valid.{valid_assertion}
@@ -126,7 +126,7 @@ module _ (s : Session) (l : Layout) (b : Slices) (assertions : List ℕ) (a : As
 
   entered_weight : stands_in (take l.asserted assertions) number ≡ false → l.weight + weight ≡ session_weight (entered s (a ∷ []))
   entered_weight e =
-      let k : (if stands s.store.assertions a then 0 else assertion_weight a) ≡ weight = ap (λ (c : Bool). if c then 0 else assertion_weight a) (sym stands_is ∙ e) ∙ sym A.weighs in
+      let k : (when stands s.store.assertions a then 0 else assertion_weight a) ≡ weight = ap (λ (c : Bool). when c then 0 else assertion_weight a) (sym stands_is ∙ e) ∙ sym A.weighs in
       omega (arith, A.running.weighed, enter_weight s.store.assertions a, k)
 
   pub entered_stood : stands_in (take l.asserted assertions) number ≡ true → Running (entered s (a ∷ [])) l (restood b assertions)

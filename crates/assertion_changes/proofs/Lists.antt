@@ -8,7 +8,7 @@ use native.Mathlib.Numerals.{add-one}
 use native.Mathlib.Omega.{arith}
 use lib.ListN.{length, get_or, take, drop, take-append-drop}
 use lib.Seq.{take-suc}
-use Rattle.language.specs.Text.{if◌then◌else◌, sum}
+use Rattle.language.specs.Text.{when◌then◌else◌, sum}
 use Rattle.language.specs.Syntax.{Name, Right}
 use Rattle.language.specs.State.{Assertion, same_assertion, stands, enter, withdraw}
 use Rattle.language.specs.Weight.{assertion_weight}
@@ -38,7 +38,7 @@ pub withdraw_absent : (l : List Assertion) (a : Assertion) → stands l a ≡ fa
 withdraw_absent [] a e = refl
 withdraw_absent (b ∷ l) a e = go (same_assertion a b) e (withdraw_absent l a)
   where
-    go : (c : Bool) → (c || stands l a) ≡ false → (stands l a ≡ false → withdraw l a ≡ l) → (if c then l else b ∷ withdraw l a) ≡ b ∷ l
+    go : (c : Bool) → (c || stands l a) ≡ false → (stands l a ≡ false → withdraw l a ≡ l) → (when c then l else b ∷ withdraw l a) ≡ b ∷ l
     go true e r = absurd (let z : ◌≡◌ {A = ℕ} 0 1 = cc in omega arith)
     go false e r = ap (λ (m : List Assertion). b ∷ m) (r e)
 

@@ -10,7 +10,7 @@ use mathlib.Core.List.{List, [], ◌∷◌, ◌++◌, map}
 use lib.Dec.{T, T_not, eqb, eqb→eq, eqb_refl, leb, leb→le}
 use lib.ListN.{length, take, drop, get_or, set, length-append}
 use lib.Seq.{take-suc-set}
-use Rattle.language.specs.Text.{Text, if◌then◌else◌, all, any, joined, sum, member}
+use Rattle.language.specs.Text.{Text, when◌then◌else◌, all, any, joined, sum, member}
 use Rattle.language.specs.Syntax.{Name}
 use Rattle.language.specs.State.{Assertion, same_assertion, stands}
 use Rattle.language.specs.Weight.{assertion_weight}
@@ -78,9 +78,9 @@ module _ (ps xs : List Name) (few-p : length ps ≤ 4096) (few-x : length xs ≤
 new_last : (l : List Assertion) (a : Assertion) → T (unrepeated l) → (T (stands l a) → ⊥) → T (unrepeated (l ++ a ∷ []))
 new_last l a u n = go (stands l a) refl (enter_unrepeated l a u)
   where
-    go : (b : Bool) → stands l a ≡ b → T (unrepeated (if stands l a then l else l ++ a ∷ [])) → T (unrepeated (l ++ a ∷ []))
+    go : (b : Bool) → stands l a ≡ b → T (unrepeated (when stands l a then l else l ++ a ∷ [])) → T (unrepeated (l ++ a ∷ []))
     go true e h = absurd (n (subst (λ (x : Bool). T x) (sym e) tt))
-    go false e h = subst (λ (x : Bool). T (unrepeated (if x then l else l ++ a ∷ []))) e h
+    go false e h = subst (λ (x : Bool). T (unrepeated (when x then l else l ++ a ∷ []))) e h
 
 twice_spoils : (l ms : List Assertion) (a : Assertion) → T (stands l a) → T (unrepeated (l ++ a ∷ ms)) → ⊥
 twice_spoils [] ms a s u = s

@@ -10,7 +10,7 @@ use lib.ListN.{length, get_or, drop, take}
 use lib.Seq.{drop-drop, take-suc}
 use native.Mathlib.Numerals.{add-one}
 use borrow.Author.Tests.{eqb-true}
-use Rattle.language.specs.Text.{Text, if◌then◌else◌, all, any, member}
+use Rattle.language.specs.Text.{Text, when◌then◌else◌, all, any, member}
 use Rattle.language.specs.Syntax.{Name, Right, read, write, append, delegate}
 use Rattle.language.specs.State.{Assertion}
 use Rattle.language.specs.Weight.{name_weight, assertion_weight}
@@ -42,8 +42,8 @@ pub right_of : (b : ℕ) → (code_of b ≡ 4 → ⊥) → (r : Right) × (byte_
 right_of b n = go (eqb b 114) (eqb b 119) (eqb b 97) (eqb b 100) refl refl refl refl n
   where
     go : (c d e f : Bool) → eqb b 114 ≡ c → eqb b 119 ≡ d → eqb b 97 ≡ e → eqb b 100 ≡ f
-        → (◌≡◌ {A = ℕ} (if c then 0 else if d then 1 else if e then 2 else if f then 3 else 4) 4 → ⊥)
-        → (r : Right) × (byte_of r ≡ b) × (code r ≡ (if c then 0 else if d then 1 else if e then 2 else if f then 3 else 4))
+        → (◌≡◌ {A = ℕ} (when c then 0 else when d then 1 else when e then 2 else when f then 3 else 4) 4 → ⊥)
+        → (r : Right) × (byte_of r ≡ b) × (code r ≡ (when c then 0 else when d then 1 else when e then 2 else when f then 3 else 4))
     go true d e f p q r s n = (read, sym (eqb-true b 114 p), refl)
     go false true e f p q r s n = (write, sym (eqb-true b 119 q), refl)
     go false false true f p q r s n = (append, sym (eqb-true b 97 r), refl)

@@ -1,6 +1,6 @@
 -- The assertions of a state text, by the names of the principals and of the variables; and as numbers.
 use Rattle.std.specs.Prelude.{◌≡◌, Bool, ◌&&◌, not, List, map, ℕ, ◌+◌, ◌≤◌, eqb, length, take}
-use Rattle.language.specs.Text.{Text, if◌then◌else◌, member, joined}
+use Rattle.language.specs.Text.{Text, when◌then◌else◌, member, joined}
 use Rattle.language.specs.Syntax.{Name, Right, read, write, append, delegate}
 use Rattle.language.specs.State.{Assertion}
 use Rattle.language.specs.Weight.{assertion_weight}
@@ -35,7 +35,7 @@ byte_of append = 97
 byte_of delegate = 100
 
 abbrev pub code_of : ℕ → ℕ
-code_of b = if eqb b 114 then 0 else if eqb b 119 then 1 else if eqb b 97 then 2 else if eqb b 100 then 3 else 4
+code_of b = when eqb b 114 then 0 else when eqb b 119 then 1 else when eqb b 97 then 2 else when eqb b 100 then 3 else 4
 
 -- an assertion's line, the number of the assertion, and what is weighed with it
 pub record Granting (ps xs : List Name) (t : Text) (at w k e after : ℕ) : Type 0 where

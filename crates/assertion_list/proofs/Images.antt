@@ -9,7 +9,7 @@ use native.Mathlib.Omega.{arith}
 use borrow.Author.Tests.{eq-eqb, eqb-true}
 use lib.Dec.{T, eqb}
 use lib.ListN.{length, get_or}
-use Rattle.language.specs.Text.{if◌then◌else◌, ◌==◌, all, member}
+use Rattle.language.specs.Text.{when◌then◌else◌, ◌≟◌, all, member}
 use Rattle.language.specs.Syntax.{Name, Right, read, write, append, delegate}
 use Rattle.language.specs.State.{Assertion, same_assertion, stands, enter, withdraw}
 use Rattle.named_rights.specs.Numbers.{code, numbered}
@@ -42,18 +42,18 @@ module _ (f : Assertion → ℕ) (a : Assertion) where
   pub enter_image : (l : List Assertion) → Apart l → map f (enter l a) ≡ enter_number (map f l) (f a)
   enter_image l h = go (stands l a) (stands_in (map f l) (f a)) (stands_image l h)
     where
-      go : (b c : Bool) → b ≡ c → map f (if b then l else l ++ (a ∷ [])) ≡ (if c then map f l else map f l ++ (f a ∷ []))
-      go true c e = ap (λ (b : Bool). if b then map f l else map f l ++ (f a ∷ [])) e
-      go false c e = map_last l ∙ ap (λ (b : Bool). if b then map f l else map f l ++ (f a ∷ [])) e
+      go : (b c : Bool) → b ≡ c → map f (when b then l else l ++ (a ∷ [])) ≡ (when c then map f l else map f l ++ (f a ∷ []))
+      go true c e = ap (λ (b : Bool). when b then map f l else map f l ++ (f a ∷ [])) e
+      go false c e = map_last l ∙ ap (λ (b : Bool). when b then map f l else map f l ++ (f a ∷ [])) e
 
   pub withdraw_image : (l : List Assertion) → Apart l → map f (withdraw l a) ≡ withdraw_number (map f l) (f a)
   withdraw_image [] h = refl
   withdraw_image (b ∷ l) h = go (same_assertion a b) (eqb (f a) (f b)) h.0 (withdraw_image l h.1)
     where
       go : (c d : Bool) → c ≡ d → map f (withdraw l a) ≡ withdraw_number (map f l) (f a)
-          → map f (if c then l else b ∷ withdraw l a) ≡ (if d then map f l else f b ∷ withdraw_number (map f l) (f a))
-      go true d e r = ap (λ (x : Bool). if x then map f l else f b ∷ withdraw_number (map f l) (f a)) e
-      go false d e r = ap (λ (x : List ℕ). f b ∷ x) r ∙ ap (λ (x : Bool). if x then map f l else f b ∷ withdraw_number (map f l) (f a)) e
+          → map f (when c then l else b ∷ withdraw l a) ≡ (when d then map f l else f b ∷ withdraw_number (map f l) (f a))
+      go true d e r = ap (λ (x : Bool). when x then map f l else f b ∷ withdraw_number (map f l) (f a)) e
+      go false d e r = ap (λ (x : List ℕ). f b ∷ x) r ∙ ap (λ (x : Bool). when x then map f l else f b ∷ withdraw_number (map f l) (f a)) e
 
 -- ---- by the places of names
 
@@ -120,10 +120,10 @@ module _ (ps xs : List Name) (ps_few : length ps ≤ 2 ^ 16) (xs_few : length xs
 
 pub position_last : (l m : List Name) (x : Name) → position l x < length l → position (l ++ m) x ≡ position l x
 position_last [] m x h = absurd (not-suc-le-zero h)
-position_last (y ∷ l) m x h = go (y == x) h (position_last l m x)
+position_last (y ∷ l) m x h = go (y ≟ x) h (position_last l m x)
   where
-    go : (b : Bool) → (if b then 0 else suc (position l x)) < suc (length l) → (position l x < length l → position (l ++ m) x ≡ position l x)
-        → (if b then 0 else suc (position (l ++ m) x)) ≡ (if b then 0 else suc (position l x))
+    go : (b : Bool) → (when b then 0 else suc (position l x)) < suc (length l) → (position l x < length l → position (l ++ m) x ≡ position l x)
+        → (when b then 0 else suc (position (l ++ m) x)) ≡ (when b then 0 else suc (position l x))
     go true h f = refl
     go false h f = ap suc (f (le_of_suc-le-suc h))
 

@@ -10,7 +10,7 @@ use native.Mathlib.Decide.{dec_le}
 use native.Mathlib.Omega.{arith}
 use lib.Dec.{T}
 use lib.ListN.{length, take, length-map}
-use Rattle.language.specs.Text.{Text, if◌then◌else◌, ◌==◌, all, sum, present, member}
+use Rattle.language.specs.Text.{Text, when◌then◌else◌, ◌≟◌, all, sum, present, member}
 use Rattle.language.specs.Syntax.{Name, Right, rights}
 use Rattle.language.specs.State.{Value, Variable, admin, named, value_in, put}
 use Rattle.language.specs.Identifiers.{is_name}
@@ -63,7 +63,7 @@ module _ (s : Session) (x : Name) (v : Value) where
   on_new = with_store s (enter_all (with_variables s.store (put x v s.store.variables)) (granted s x))
 
   abbrev chosen : Option Value → Option Value → Session
-  chosen a b = if present a then on_locals else if present b then on_shared else on_new
+  chosen a b = when present a then on_locals else when present b then on_shared else on_new
 
   assign_local : (u : Value) → value_in s.locals x ≡ some u → assign s x v ≡ on_locals
   assign_local u e = ap (λ (o : Option Value). chosen o (value_in s.store.variables x)) e
@@ -184,7 +184,7 @@ module _ (s : Session) (l : Layout) (b : Slices) (R : Running s l b) where
             (let k : limit < session_weight (on_new s x v) = omega (arith, weighs s l b R, assertions_weigh) in k)
 
         grants_valid : T (all (valid_assertion (with_variables s.store (put x v s.store.variables))) (granted s x))
-        grants_valid = go (s.sender == admin)
+        grants_valid = go (s.sender ≟ admin)
           where
             each : (rs : List Right) → T (all (valid_assertion (with_variables s.store (put x v s.store.variables))) (map (granting x s.sender) rs))
             each [] = tt
@@ -193,7 +193,7 @@ module _ (s : Session) (l : Layout) (b : Slices) (R : Running s l b) where
                 (and_three (present (value_in (put x v s.store.variables) x)) (present (named s.store.principals admin)) (present (named s.store.principals s.sender))
                 (put_there x v s.store.variables) (admin_known s.store.principals R.ready.is_good.store_shape.order) R.ready.is_good.sender_known) (each rs)
 
-            go : (c : Bool) → T (all (valid_assertion (with_variables s.store (put x v s.store.variables))) (if c then [] else map (granting x s.sender) rights))
+            go : (c : Bool) → T (all (valid_assertion (with_variables s.store (put x v s.store.variables))) (when c then [] else map (granting x s.sender) rights))
             go true = tt
             go false = each rights
 

@@ -12,7 +12,7 @@ use borrow.Author.Tests.{eq-eqb, ne_eqb}
 use lib.Dec.{T, eqb, eqb-suc-zero}
 use lib.ListN.{length, take, set, get_or, length-map, length-set, get_or-map}
 use lib.Seq.{take-suc-set}
-use Rattle.language.specs.Text.{Text, if◌then◌else◌, ◌==◌, all, sum, member, present}
+use Rattle.language.specs.Text.{Text, when◌then◌else◌, ◌≟◌, all, sum, member, present}
 use Rattle.language.specs.Syntax.{Name, Right, read, write, append, delegate, rights, same}
 use Rattle.language.specs.State.{Value, Principal, Assertion, Store, admin, anyone, named, value_in, same_assertion, stands, enter}
 use Rattle.language.specs.Weight.{name_weight, assertion_weight}
@@ -33,21 +33,21 @@ use Rattle.assignment.specs.Grants.{grant_weight, grant_numbers}
 
 -- ---- the first two principals
 
-same_name : (k a p : Name) → T (k == a) → (k == p) ≡ (p == a)
-same_name k a p h = subst (λ (z : Name). (k == p) ≡ (p == z)) (==→≡ k a h) (same_test (k == p) (p == k) (==_sym k p) (==_sym p k))
+same_name : (k a p : Name) → T (k ≟ a) → (k ≟ p) ≡ (p ≟ a)
+same_name k a p h = subst (λ (z : Name). (k ≟ p) ≡ (p ≟ z)) (==→≡ k a h) (same_test (k ≟ p) (p ≟ k) (==_sym k p) (==_sym p k))
 
 -- admin comes first
-pub first_is : (ks : List Principal) (p : Name) → T (valid_order ks) → eqb (position (principal_names ks) p) 0 ≡ (p == admin)
+pub first_is : (ks : List Principal) (p : Name) → T (valid_order ks) → eqb (position (principal_names ks) p) 0 ≡ (p ≟ admin)
 first_is [] p o = absurd o
 first_is (k ∷ []) p o = absurd o
 first_is (k ∷ l ∷ ks) p o =
-    let (h, r) = both ((k.name == admin) && has_password k && (l.name == anyone)) (all has_password ks) o in
-    go (k.name == p) (same_name k.name admin p (three (k.name == admin) (has_password k) (l.name == anyone) h).0)
+    let (h, r) = both ((k.name ≟ admin) && has_password k && (l.name ≟ anyone)) (all has_password ks) o in
+    go (k.name ≟ p) (same_name k.name admin p (three (k.name ≟ admin) (has_password k) (l.name ≟ anyone) h).0)
   where
     m : ℕ
     m = position (principal_names (l ∷ ks)) p
 
-    go : (b : Bool) → b ≡ (p == admin) → eqb (if b then 0 else suc m) 0 ≡ (p == admin)
+    go : (b : Bool) → b ≡ (p ≟ admin) → eqb (when b then 0 else suc m) 0 ≡ (p ≟ admin)
     go true e = e
     go false e = eqb-suc-zero m ∙ e
 
@@ -64,9 +64,9 @@ pub admin_first : (ks : List Principal) → T (valid_order ks) → position (pri
 admin_first [] o = absurd o
 admin_first (k ∷ []) o = absurd o
 admin_first (k ∷ l ∷ ks) o =
-    let (h, r) = both ((k.name == admin) && has_password k && (l.name == anyone)) (all has_password ks) o in
-    ap (λ (b : Bool). if◌then◌else◌ {A = ℕ} b 0 (suc (position (principal_names (l ∷ ks)) admin)))
-    (true_of (k.name == admin) (three (k.name == admin) (has_password k) (l.name == anyone) h).0)
+    let (h, r) = both ((k.name ≟ admin) && has_password k && (l.name ≟ anyone)) (all has_password ks) o in
+    ap (λ (b : Bool). when◌then◌else◌ {A = ℕ} b 0 (suc (position (principal_names (l ∷ ks)) admin)))
+    (true_of (k.name ≟ admin) (three (k.name ≟ admin) (has_password k) (l.name ≟ anyone) h).0)
 
 -- ---- the assertions
 
@@ -75,12 +75,12 @@ module _ (x p : Name) where
   granting r = record { variable = x; from = admin; right = r; to = p }
 
   abbrev pub grants : List Assertion
-  grants = if p == admin then [] else map granting rights
+  grants = when p ≟ admin then [] else map granting rights
 
   pub grants_weight : sum assertion_weight grants ≡ grant_weight (length x) p
-  grants_weight = go (p == admin)
+  grants_weight = go (p ≟ admin)
     where
-      go : (b : Bool) → sum assertion_weight (if b then [] else map granting rights) ≡ (if b then 0 else 4 * (length x + 2 + name_weight p))
+      go : (b : Bool) → sum assertion_weight (when b then [] else map granting rights) ≡ (when b then 0 else 4 * (length x + 2 + name_weight p))
       go true = refl
       go false = let q : name_weight admin ≡ 1 = refl in omega (arith, q)
 
@@ -96,13 +96,13 @@ module _ (x p : Name) where
   other_right : (l : List Assertion) (r q : Right) → stands l (granting r) ≡ false → same r q ≡ false → stands (l ++ (granting q ∷ [])) (granting r) ≡ false
   other_right l r q e f =
       stands_last l (granting q) (granting r)
-      ∙ (λ i. e i || ((x == x) && (admin == admin) && f i && (p == p))) ∙ third_false (x == x) (admin == admin) (p == p)
+      ∙ (λ i. e i || ((x ≟ x) && (admin ≟ admin) && f i && (p ≟ p))) ∙ third_false (x ≟ x) (admin ≟ admin) (p ≟ p)
 
   entered : (l : List Assertion) (a : Assertion) → stands l a ≡ false → enter l a ≡ l ++ (a ∷ [])
-  entered l a e = ap (λ (b : Bool). if◌then◌else◌ {A = List Assertion} b l (l ++ (a ∷ []))) e
+  entered l a e = ap (λ (b : Bool). when◌then◌else◌ {A = List Assertion} b l (l ++ (a ∷ []))) e
 
   pub grants_entered : (l : List Assertion) → ((r : Right) → stands l (granting r) ≡ false) → entering l grants ≡ l ++ grants
-  grants_entered l f = go (p == admin)
+  grants_entered l f = go (p ≟ admin)
     where
       l₁ : List Assertion
       l₁ = l ++ (granting read ∷ [])
@@ -113,7 +113,7 @@ module _ (x p : Name) where
       l₃ : List Assertion
       l₃ = l₂ ++ (granting append ∷ [])
 
-      go : (b : Bool) → entering l (if b then [] else map granting rights) ≡ l ++ (if b then [] else map granting rights)
+      go : (b : Bool) → entering l (when b then [] else map granting rights) ≡ l ++ (when b then [] else map granting rights)
       go true = sym (append-nil l)
       go false =
           let one = entered l (granting read) (f read) in
@@ -133,7 +133,7 @@ none_stands s x b [] e v h = refl
 none_stands s x b (a ∷ l) e v h =
     let (h₁, h₂) = both (valid_assertion s a) (all (valid_assertion s) l) h in
     let (k, q, p) = three (present (value_in s.variables a.variable)) (present (named s.principals a.from)) (present (named s.principals a.to)) h₁ in
-    λ i. go (b.variable == a.variable) (b.from == a.from) (same b.right a.right) (b.to == a.to)
+    λ i. go (b.variable ≟ a.variable) (b.from ≟ a.from) (same b.right a.right) (b.to ≟ a.to)
     (λ t. subst (λ (o : Option Value). T (present o)) (ap (value_in s.variables) (sym (==→≡ b.variable a.variable t) ∙ v) ∙ e) k) i
     || none_stands s x b l e v h₂ i
   where
@@ -155,11 +155,11 @@ all_known s (a ∷ l) h =
 
 -- the place of a name that comes last
 pub position_end : (l : List Name) (x : Name) → length l ≤ position l x → position (l ++ (x ∷ [])) x ≡ length l
-position_end [] x h = ap (λ (b : Bool). if◌then◌else◌ {A = ℕ} b 0 1) (true_of (x == x) (==_refl x))
-position_end (y ∷ l) x h = go (y == x) h (position_end l x)
+position_end [] x h = ap (λ (b : Bool). when◌then◌else◌ {A = ℕ} b 0 1) (true_of (x ≟ x) (==_refl x))
+position_end (y ∷ l) x h = go (y ≟ x) h (position_end l x)
   where
-    go : (b : Bool) → suc (length l) ≤ (if b then 0 else suc (position l x)) → (length l ≤ position l x → position (l ++ (x ∷ [])) x ≡ length l)
-        → (if b then 0 else suc (position (l ++ (x ∷ [])) x)) ≡ suc (length l)
+    go : (b : Bool) → suc (length l) ≤ (when b then 0 else suc (position l x)) → (length l ≤ position l x → position (l ++ (x ∷ [])) x ≡ length l)
+        → (when b then 0 else suc (position (l ++ (x ∷ [])) x)) ≡ suc (length l)
     go true h f = absurd (omega (arith, h))
     go false h f = ap suc (f (le_of_suc-le-suc h))
 
@@ -195,13 +195,13 @@ module _ (s : Store) (o : T (valid_order s.principals)) (h : T (all (valid_asser
   number r = λ i. pack ((position_end (variables s) x new ∙ sym kn) i) (admin_first s.principals o i) (code r) (sym sn i)
 
   grants_numbers : map (numbered (principals_of s) (variables s ++ (x ∷ []))) (grants x p) ≡ grant_numbers k sender
-  grants_numbers = go (p == admin) (eqb sender 0) (sym (ap (λ (n : ℕ). eqb n 0) sn ∙ first_is s.principals p o))
+  grants_numbers = go (p ≟ admin) (eqb sender 0) (sym (ap (λ (n : ℕ). eqb n 0) sn ∙ first_is s.principals p o))
     where
-      go : (b c : Bool) → b ≡ c → map (numbered (principals_of s) (variables s ++ (x ∷ []))) (if b then [] else map (granting x p) rights)
-          ≡ (if c then [] else pack k 0 0 sender ∷ pack k 0 1 sender ∷ pack k 0 2 sender ∷ pack k 0 3 sender ∷ [])
-      go true c e = ap (λ (d : Bool). if◌then◌else◌ {A = List ℕ} d [] (pack k 0 0 sender ∷ pack k 0 1 sender ∷ pack k 0 2 sender ∷ pack k 0 3 sender ∷ [])) e
+      go : (b c : Bool) → b ≡ c → map (numbered (principals_of s) (variables s ++ (x ∷ []))) (when b then [] else map (granting x p) rights)
+          ≡ (when c then [] else pack k 0 0 sender ∷ pack k 0 1 sender ∷ pack k 0 2 sender ∷ pack k 0 3 sender ∷ [])
+      go true c e = ap (λ (d : Bool). when◌then◌else◌ {A = List ℕ} d [] (pack k 0 0 sender ∷ pack k 0 1 sender ∷ pack k 0 2 sender ∷ pack k 0 3 sender ∷ [])) e
       go false c e = (λ i. number read i ∷ number write i ∷ number append i ∷ number delegate i ∷ [])
-          ∙ ap (λ (d : Bool). if◌then◌else◌ {A = List ℕ} d [] (pack k 0 0 sender ∷ pack k 0 1 sender ∷ pack k 0 2 sender ∷ pack k 0 3 sender ∷ [])) e
+          ∙ ap (λ (d : Bool). when◌then◌else◌ {A = List ℕ} d [] (pack k 0 0 sender ∷ pack k 0 1 sender ∷ pack k 0 2 sender ∷ pack k 0 3 sender ∷ [])) e
 
   -- all assertions, with the new variable last
   pub all_numbers : map (numbered (principals_of s) (variables s ++ (x ∷ []))) (s.assertions ++ grants x p) ≡ map (numbered (principals_of s) (variables s)) s.assertions ++ grant_numbers k sender
@@ -215,20 +215,20 @@ module _ (s : Store) (o : T (valid_order s.principals)) (h : T (all (valid_asser
 module _ (ks : List Principal) (p : Name) (o : T (valid_order ks)) (n sender : ℕ) where
   pub no_grants : sender ≡ position (principal_names ks) p → sender ≡ 0 → 0 ≡ grant_weight n p
   no_grants e z =
-      ap (λ (b : Bool). if◌then◌else◌ {A = ℕ} b 0 (4 * (n + 2 + name_weight p)))
+      ap (λ (b : Bool). when◌then◌else◌ {A = ℕ} b 0 (4 * (n + 2 + name_weight p)))
       (sym (eq-eqb sender 0 z) ∙ ap (λ (m : ℕ). eqb m 0) e ∙ first_is ks p o)
 
   pub some_grants : (w : ℕ) → sender ≡ position (principal_names ks) p → (sender ≡ 0 → ⊥) → w ≡ name_weight p → 4 * (n + 2 + w) ≡ grant_weight n p
   some_grants w e z h =
       ap (λ (m : ℕ). 4 * (n + 2 + m)) h
-      ∙ ap (λ (b : Bool). if◌then◌else◌ {A = ℕ} b 0 (4 * (n + 2 + name_weight p))) (sym (ne_eqb sender 0 z) ∙ ap (λ (m : ℕ). eqb m 0) e ∙ first_is ks p o)
+      ∙ ap (λ (b : Bool). when◌then◌else◌ {A = ℕ} b 0 (4 * (n + 2 + name_weight p))) (sym (ne_eqb sender 0 z) ∙ ap (λ (m : ℕ). eqb m 0) e ∙ first_is ks p o)
 
 module _ (l : List ℕ) (n variable sender : ℕ) where
   pub no_numbers : sender ≡ 0 → take n l ≡ take n l ++ grant_numbers variable sender
-  no_numbers z = sym (append-nil (take n l)) ∙ ap (λ (b : Bool). take n l ++ (if b then [] else pack variable 0 0 sender ∷ pack variable 0 1 sender ∷ pack variable 0 2 sender ∷ pack variable 0 3 sender ∷ [])) (sym (eq-eqb sender 0 z))
+  no_numbers z = sym (append-nil (take n l)) ∙ ap (λ (b : Bool). take n l ++ (when b then [] else pack variable 0 0 sender ∷ pack variable 0 1 sender ∷ pack variable 0 2 sender ∷ pack variable 0 3 sender ∷ [])) (sym (eq-eqb sender 0 z))
 
   pub some_numbers : (a b c d : ℕ) → (sender ≡ 0 → ⊥) → n + 4 ≤ length l → a ≡ pack variable 0 0 sender → b ≡ pack variable 0 1 sender → c ≡ pack variable 0 2 sender
       → d ≡ pack variable 0 3 sender → take (n + 4) (set (set (set (set l n a) (n + 1) b) (n + 2) c) (n + 3) d) ≡ take n l ++ grant_numbers variable sender
   some_numbers a b c d z h ea eb ec ed =
       stored_four l n a b c d h ∙ (λ i. take n l ++ (ea i ∷ eb i ∷ ec i ∷ ed i ∷ []))
-      ∙ ap (λ (b : Bool). take n l ++ (if b then [] else pack variable 0 0 sender ∷ pack variable 0 1 sender ∷ pack variable 0 2 sender ∷ pack variable 0 3 sender ∷ [])) (sym (ne_eqb sender 0 z))
+      ∙ ap (λ (b : Bool). take n l ++ (when b then [] else pack variable 0 0 sender ∷ pack variable 0 1 sender ∷ pack variable 0 2 sender ∷ pack variable 0 3 sender ∷ [])) (sym (ne_eqb sender 0 z))

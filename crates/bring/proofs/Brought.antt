@@ -9,7 +9,7 @@ use native.Mathlib.Omega.{arith}
 use lib.Dec.{T, eqb, leb, eqb→eq, le→leb}
 use lib.ListN.{length, take, drop, length-append, length-drop}
 use lib.Seq.{take-append_seam}
-use Rattle.language.specs.Text.{Text, all, joined, sum, if◌then◌else◌}
+use Rattle.language.specs.Text.{Text, all, joined, sum, when◌then◌else◌}
 use Rattle.language.specs.State.{Principal, Store}
 use Rattle.language.specs.Weight.{limit, principal_weight, store_weight}
 use Rattle.language.specs.Identifiers.{is_name}
@@ -41,7 +41,7 @@ clean_stays (b ∷ t) h =
     let (u, v) = both (not (eqb b tab)) (not (eqb b newline)) x in
     ap (λ (l : Text). l ++ counted t) (one (eqb b newline) v) ∙ ap (λ (l : Text). b ∷ l) (clean_stays t y)
   where
-    one : (c : Bool) → T (not c) → (if c then tab ∷ 48 ∷ newline ∷ [] else b ∷ []) ≡ b ∷ []
+    one : (c : Bool) → T (not c) → (when c then tab ∷ 48 ∷ newline ∷ [] else b ∷ []) ≡ b ∷ []
     one true h = absurd h
     one false h = refl
 

@@ -9,7 +9,7 @@ use native.Mathlib.Numerals.{add-one}
 use borrow.Author.Tests.{eq-eqb, ne_eqb}
 use lib.Dec.{eqb}
 use lib.ListN.{length, get_or, take, drop, replicate, length-append}
-use Rattle.language.specs.Text.{Text, if◌then◌else◌}
+use Rattle.language.specs.Text.{Text, when◌then◌else◌}
 use Rattle.language.specs.Encode.{tab, newline, head_text, padded, buffer_size}
 use Rattle.text.specs.Parts.{part}
 use Rattle.validate.specs.declared.Parts.{Parts}
@@ -20,15 +20,15 @@ use Rattle.state_lines.proofs.Zeros.{padded_is}
 use Rattle.bring.specs.Counts.{with_count, counted, brought_text}
 
 pub line_end : (b : ℕ) → b ≡ 10 → tab ∷ 48 ∷ newline ∷ [] ≡ with_count b
-line_end b e = sym (ap (λ (c : Bool). if c then tab ∷ 48 ∷ newline ∷ [] else b ∷ []) (eq-eqb b 10 e))
+line_end b e = sym (ap (λ (c : Bool). when c then tab ∷ 48 ∷ newline ∷ [] else b ∷ []) (eq-eqb b 10 e))
 
 pub inner_byte : (b : ℕ) → (b ≡ 10 → ⊥) → b ∷ [] ≡ with_count b
-inner_byte b n = sym (ap (λ (c : Bool). if c then tab ∷ 48 ∷ newline ∷ [] else b ∷ []) (ne_eqb b 10 n))
+inner_byte b n = sym (ap (λ (c : Bool). when c then tab ∷ 48 ∷ newline ∷ [] else b ∷ []) (ne_eqb b 10 n))
 
 some_byte : (b : ℕ) → 1 ≤ length (with_count b)
 some_byte b = go (eqb b 10)
   where
-    go : (c : Bool) → 1 ≤ length (if c then tab ∷ 48 ∷ newline ∷ [] else b ∷ [])
+    go : (c : Bool) → 1 ≤ length (when c then tab ∷ 48 ∷ newline ∷ [] else b ∷ [])
     go true = omega arith
     go false = omega arith
 

@@ -1,13 +1,13 @@
 -- The former principals' lines with a count of 0 at the end of each, and the text of now around them.
 use Rattle.std.specs.Prelude.{◌≡◌, [], ◌∷◌, ◌++◌, ℕ, ◌+◌, ◌≤◌, eqb, length}
-use Rattle.language.specs.Text.{Text, joined, if◌then◌else◌}
+use Rattle.language.specs.Text.{Text, joined, when◌then◌else◌}
 use Rattle.language.specs.Encode.{tab, newline, head_text}
 use Rattle.text.specs.Parts.{part}
 use Rattle.validate.specs.declared.Parts.{Parts}
 
 -- a byte as it stands; before a newline the count 0, which is byte 48
 abbrev pub with_count : ℕ → Text
-with_count b = if eqb b newline then tab ∷ 48 ∷ newline ∷ [] else b ∷ []
+with_count b = when eqb b newline then tab ∷ 48 ∷ newline ∷ [] else b ∷ []
 
 abbrev pub counted : Text → Text
 counted t = joined with_count t

@@ -4,7 +4,7 @@ use mathlib.Core.Path.{◌≡◌, refl, sym, ap, ◌∙◌}
 use mathlib.Core.Option.{none, some}
 use mathlib.Core.List.{List, ◌∷◌}
 use mathlib.Core.Bool.{Bool, true, false}
-use Rattle.language.specs.Text.{Text, bytes, ◌==◌}
+use Rattle.language.specs.Text.{Text, bytes, ◌≟◌}
 use Rattle.language.specs.Tokens.{Token, sign}
 use Rattle.language.specs.Syntax.{Operand, add, sub, times, per, Function, split, concat, Comparison, equal, notequal, tolower, call, compare}
 use Rattle.language.specs.Grammar.{the, any_operand, operation_of, function_for, function_of, comparison_of, any_call, any_term}
@@ -14,69 +14,69 @@ use Rattle.tokens.proofs.Reading.{no_some, or_else_none}
 
 -- ---- the keyword w
 module _ (w : Text) where
-  pub is_add : (w == bytes "add") ≡ true → operation_of w ≡ some add
+  pub is_add : (w ≟ bytes "add") ≡ true → operation_of w ≡ some add
   is_add q = rw q
 
-  module _ (no_add : (w == bytes "add") ≡ false) where
-    pub is_sub : (w == bytes "sub") ≡ true → operation_of w ≡ some sub
+  module _ (no_add : (w ≟ bytes "add") ≡ false) where
+    pub is_sub : (w ≟ bytes "sub") ≡ true → operation_of w ≡ some sub
     is_sub q = rw (no_add, q)
 
-    module _ (no_sub : (w == bytes "sub") ≡ false) where
-      pub is_times : (w == bytes "times") ≡ true → operation_of w ≡ some times
+    module _ (no_sub : (w ≟ bytes "sub") ≡ false) where
+      pub is_times : (w ≟ bytes "times") ≡ true → operation_of w ≡ some times
       is_times q = rw (no_add, no_sub, q)
 
-      module _ (no-times : (w == bytes "times") ≡ false) where
-        pub is_per : (w == bytes "per") ≡ true → operation_of w ≡ some per
+      module _ (no-times : (w ≟ bytes "times") ≡ false) where
+        pub is_per : (w ≟ bytes "per") ≡ true → operation_of w ≡ some per
         is_per q = rw (no_add, no_sub, no-times, q)
 
-        pub no_operation : (w == bytes "per") ≡ false → operation_of w ≡ none
+        pub no_operation : (w ≟ bytes "per") ≡ false → operation_of w ≡ none
         no_operation q = rw (no_add, no_sub, no-times, q)
 
-  pub is_split : (w == bytes "split") ≡ true → function_of w ≡ some split
+  pub is_split : (w ≟ bytes "split") ≡ true → function_of w ≡ some split
   is_split q = rw q
 
-  module _ (no-split : (w == bytes "split") ≡ false) where
-    pub is_concat : (w == bytes "concat") ≡ true → function_of w ≡ some concat
+  module _ (no-split : (w ≟ bytes "split") ≡ false) where
+    pub is_concat : (w ≟ bytes "concat") ≡ true → function_of w ≡ some concat
     is_concat q = rw (no-split, q)
 
-    pub is_arithmetic : (w == bytes "concat") ≡ false → function_of w ≡ function_for (operation_of w)
+    pub is_arithmetic : (w ≟ bytes "concat") ≡ false → function_of w ≡ function_for (operation_of w)
     is_arithmetic q = rw (no-split, q)
 
   -- a function of two values is not `tolower`
-  not_lower : (f : Function) → function_of w ≡ some f → (w == bytes "tolower") ≡ false
-  not_lower f e = go (w == bytes "tolower") refl
+  not_lower : (f : Function) → function_of w ≡ some f → (w ≟ bytes "tolower") ≡ false
+  not_lower f e = go (w ≟ bytes "tolower") refl
     where
-      go : (t : Bool) → (w == bytes "tolower") ≡ t → t ≡ false
+      go : (t : Bool) → (w ≟ bytes "tolower") ≡ t → t ≡ false
       go true q = no_some (sym (ap function_of (same_true w (bytes "tolower") q)) ∙ e)
       go false q = refl
 
   -- nor a comparison
   not_compared : (f : Function) → function_of w ≡ some f → comparison_of w ≡ none
-  not_compared f e = go (w == bytes "equal") (w == bytes "notequal") refl refl
+  not_compared f e = go (w ≟ bytes "equal") (w ≟ bytes "notequal") refl refl
     where
-      go : (s t : Bool) → (w == bytes "equal") ≡ s → (w == bytes "notequal") ≡ t → comparison_of w ≡ none
+      go : (s t : Bool) → (w ≟ bytes "equal") ≡ s → (w ≟ bytes "notequal") ≡ t → comparison_of w ≡ none
       go true t p q = no_some (sym (ap function_of (same_true w (bytes "equal") p)) ∙ e)
       go false true p q = no_some (sym (ap function_of (same_true w (bytes "notequal") q)) ∙ e)
       go false false p q = rw (p, q)
 
-  pub is_equal : (w == bytes "equal") ≡ true → comparison_of w ≡ some equal
+  pub is_equal : (w ≟ bytes "equal") ≡ true → comparison_of w ≡ some equal
   is_equal q = rw q
 
-  module _ (no-equal : (w == bytes "equal") ≡ false) where
-    pub is_notequal : (w == bytes "notequal") ≡ true → comparison_of w ≡ some notequal
+  module _ (no-equal : (w ≟ bytes "equal") ≡ false) where
+    pub is_notequal : (w ≟ bytes "notequal") ≡ true → comparison_of w ≡ some notequal
     is_notequal q = rw (no-equal, q)
 
-    pub no_comparison : (w == bytes "notequal") ≡ false → comparison_of w ≡ none
+    pub no_comparison : (w ≟ bytes "notequal") ≡ false → comparison_of w ≡ none
     no_comparison q = rw (no-equal, q)
 
   module _ (us : List Token) where
-    pub lower_call : (w == bytes "tolower") ≡ true → any_call (sign (bytes "tolower") ∷ us) ≡ any_call (sign w ∷ us)
+    pub lower_call : (w ≟ bytes "tolower") ≡ true → any_call (sign (bytes "tolower") ∷ us) ≡ any_call (sign w ∷ us)
     lower_call q = sym (ap (λ (v : Text). any_call (sign v ∷ us)) (same_true w (bytes "tolower") q))
 
     pub function_call : (f : Function) → function_of w ≡ some f → any_call (sign w ∷ us) ≡ two_values (call f) us
     function_call f e = rw (not_lower f e, e, not_compared f e) (or_else_none (two_values (call f) us))
 
-    pub other_call : (w == bytes "tolower") ≡ false → function_of w ≡ none → any_call (sign w ∷ us) ≡ comparing (sign w ∷ us)
+    pub other_call : (w ≟ bytes "tolower") ≡ false → function_of w ≡ none → any_call (sign w ∷ us) ≡ comparing (sign w ∷ us)
     other_call p q = rw (p, q)
 
     pub one_comparison : (k : Comparison) → comparison_of w ≡ some k → comparing (sign w ∷ us) ≡ two_values (compare k) us
@@ -86,7 +86,7 @@ module _ (w : Text) where
     no_comparing e = rw e
 
     -- what starts neither a record nor the empty list is a call
-    pub call_only : (w == bytes "{") ≡ false → (w == bytes "[]") ≡ false → any_term (sign w ∷ us) ≡ any_call (sign w ∷ us)
+    pub call_only : (w ≟ bytes "{") ≡ false → (w ≟ bytes "[]") ≡ false → any_term (sign w ∷ us) ≡ any_call (sign w ∷ us)
     call_only p q = rw (p, q) (or_else_none (any_call (sign w ∷ us)))
 
 -- ---- past `tolower`

@@ -2,7 +2,7 @@
 #![tactic(auto)]
 
 ghost use Rattle.std.specs.Prelude.{◌≡◌, ◌≤◌, length, take};
-ghost use Rattle.language.specs.Text.{if◌then◌else◌};
+ghost use Rattle.language.specs.Text.{when◌then◌else◌};
 ghost use Rattle.language.specs.Run as Run;
 ghost use Rattle.value_text.specs.Writing.{Written};
 ghost use Rattle.refusal.specs.Refusals.{refusal_meant};
@@ -16,7 +16,7 @@ use state_lines::zero_rest;
 
 // The kind of end of a completed program: one that exits leaves a closed state.
 pub fn end_kind(is_open: bool) -> Kind
-    ensures { kind_meant result ≡ (if◌then◌else◌ {A = Run.Kind} is_open Run.returned Run.exited) }
+    ensures { kind_meant result ≡ (when◌then◌else◌ {A = Run.Kind} is_open Run.returned Run.exited) }
 {
     if is_open {
         return Kind::Returned;

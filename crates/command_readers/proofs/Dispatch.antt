@@ -6,7 +6,7 @@ use mathlib.Core.Option.{Option, none, some}
 use mathlib.Core.List.{List, ◌∷◌}
 use Prim.Native.Nat.{ℕ, ◌<◌}
 use native.Mathlib.Omega.{arith}
-use Rattle.language.specs.Text.{Text, bytes, ◌==◌, ◌>>=◌}
+use Rattle.language.specs.Text.{Text, bytes, ◌≟◌, ◌>>=◌}
 use Rattle.language.specs.Tokens.{Token, sign, ident}
 use Rattle.language.specs.Syntax.{Name, Expr, Command, set, set_delegation, exit, return}
 use Rattle.language.specs.Grammar.{the, any_expression, create_form, change_form, append_form, local_form, foreach_form, filtereach_form, delete_delegation_form, any_command, any_ending}
@@ -51,11 +51,11 @@ module _ (us : List Token) where
   pub set_is : (x : Name) → any_command (sign (bytes "set") ∷ ident x ∷ us) ≡ assign_form (bytes "=") set (ident x ∷ us)
   set_is x = or_else_none (assign_form (bytes "=") set (ident x ∷ us))
 
-  pub set_delegation_is : (w : Text) → (w == bytes "delegation") ≡ true → any_command (sign (bytes "set") ∷ sign w ∷ us) ≡ delegation_form set_delegation us
+  pub set_delegation_is : (w : Text) → (w ≟ bytes "delegation") ≡ true → any_command (sign (bytes "set") ∷ sign w ∷ us) ≡ delegation_form set_delegation us
   set_delegation_is w q =
       ap (λ (v : Text). any_command (sign (bytes "set") ∷ sign v ∷ us)) (same_true w (bytes "delegation") q) ∙ or_else_none (delegation_form set_delegation us)
 
-  pub no_set : (w : Text) → (w == bytes "delegation") ≡ false → any_command (sign (bytes "set") ∷ sign w ∷ us) ≡ none
+  pub no_set : (w : Text) → (w ≟ bytes "delegation") ≡ false → any_command (sign (bytes "set") ∷ sign w ∷ us) ≡ none
   no_set w q = rw q
 
 -- no sign, or another one
@@ -75,19 +75,19 @@ no_sign_command ts e =
 
 module _ (w : Text) (us : List Token) where
   pub no_command :
-      (w == bytes "create") ≡ false
-      → (w == bytes "change") ≡ false
-      → (w == bytes "delete") ≡ false
-      → (w == bytes "default") ≡ false
+      (w ≟ bytes "create") ≡ false
+      → (w ≟ bytes "change") ≡ false
+      → (w ≟ bytes "delete") ≡ false
+      → (w ≟ bytes "default") ≡ false
       → about_principals (sign w ∷ us) ≡ none
   no_command c h d g = rw (c, h, d, g)
 
   pub principals_only :
-      (w == bytes "set") ≡ false
-      → (w == bytes "append") ≡ false
-      → (w == bytes "local") ≡ false
-      → (w == bytes "foreach") ≡ false
-      → (w == bytes "filtereach") ≡ false
+      (w ≟ bytes "set") ≡ false
+      → (w ≟ bytes "append") ≡ false
+      → (w ≟ bytes "local") ≡ false
+      → (w ≟ bytes "foreach") ≡ false
+      → (w ≟ bytes "filtereach") ≡ false
       → any_command (sign w ∷ us) ≡ about_principals (sign w ∷ us)
   principals_only s a l f h = rw (s, a, l, f, h)
 

@@ -9,7 +9,7 @@ use mathlib.Core.List.{List, [], ◌∷◌, ◌++◌, append-nil}
 use lib.Dec.{T, T_not, eqb, eqb_refl}
 use lib.ListN.{length, get_or, take, drop, length-append, take-append-drop, get_or-append}
 use lib.Seq.{get_or-drop}
-use Rattle.language.specs.Text.{Text, ◌==◌, all, any}
+use Rattle.language.specs.Text.{Text, ◌≟◌, all, any}
 use Rattle.language.specs.State.{Field}
 use Rattle.language.specs.Encode.{field_text}
 use Rattle.language.specs.Functions.{same_field}
@@ -37,7 +37,7 @@ head_length f = omega (arith, field_length f, length-append f.label (9 ∷ f.tex
 pub no_line : (t : Text) (at : ℕ) (l : Text) → false ≡ true → StandsAt t at l
 no_line t at l e = let z : ◌≡◌ {A = ℕ} 0 1 = cc in absurd (omega arith)
 
-pub line_there : (t : Text) (at : ℕ) (l : Text) → 0 < at → get_or t (at - 1) 0 ≡ 10 → at + length l ≤ length t → (take (at + length l - at) (drop at t) == l) ≡ true → StandsAt t at l
+pub line_there : (t : Text) (at : ℕ) (l : Text) → 0 < at → get_or t (at - 1) 0 ≡ 10 → at + length l ≤ length t → (take (at + length l - at) (drop at t) ≟ l) ≡ true → StandsAt t at l
 line_there t at l a b w e = record {
   ahead = a;
   starts = b;

@@ -7,7 +7,7 @@ use mathlib.Core.Bool.{true, false}
 use mathlib.Core.List.{List, [], ◌∷◌}
 use lib.Dec.{T}
 use lib.ListN.{length, length-append}
-use Rattle.language.specs.Text.{Text, joined, sum, ◌==◌}
+use Rattle.language.specs.Text.{Text, joined, sum, ◌≟◌}
 use Rattle.language.specs.State.{Field}
 use Rattle.language.specs.Encode.{field_text}
 use Rattle.language.specs.Functions.{holds_all, same_fields}
@@ -34,7 +34,7 @@ module _ (t u : Text) (fs gs : List Field) (h : HoldsRecord fs t) (k : HoldsReco
       let e : sum (λ f. length (field_text f)) fs ≡ sum (λ f. length (field_text f)) gs = same_size (λ f. length (field_text f)) some_size fs gs (record_labels t fs h) (record_labels u gs k) s in
       n (omega (arith, ap length h.is_text_lem, ap length k.is_text_lem, joined_size fs, joined_size gs))))
 
-  pub same_text : (t == u) ≡ true → true ≡ same_fields fs gs
+  pub same_text : (t ≟ u) ≡ true → true ≡ same_fields fs gs
   same_text b =
       let e : t ≡ u = ==→≡ t u (subst T (sym b) tt) in
       let q : fs ≡ gs = fields_only u 2 fs gs (subst (λ x. FieldsAt x 2 fs []) e (record_starts t fs h)) (record_starts u gs k) in

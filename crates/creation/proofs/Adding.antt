@@ -7,7 +7,7 @@ use Prim.Native.Nat.{ℕ, suc, ◌+◌, ◌≤◌, ◌<◌}
 use native.Mathlib.Omega.{arith}
 use lib.Dec.{T}
 use lib.ListN.{length, take}
-use Rattle.language.specs.Text.{Text, ◌==◌, if◌then◌else◌, member}
+use Rattle.language.specs.Text.{Text, ◌≟◌, when◌then◌else◌, member}
 use Rattle.language.specs.Syntax.{Name}
 use Rattle.language.specs.State.{Principal, admin, anyone}
 use Rattle.language.specs.Identifiers.{is_identifier, is_name, is_string}
@@ -40,15 +40,15 @@ use Rattle.creation.proofs.OtherPrincipals.{with_other_principals, Same, with_pr
 
 -- a name that is new, put last
 pub position_new : (l : List Name) (x : Name) → position l x ≡ length l → position (l ++ (x ∷ [])) x ≡ length l
-position_new [] x h = go (x == x) (==_refl x)
+position_new [] x h = go (x ≟ x) (==_refl x)
   where
-    go : (b : Bool) → T b → ◌≡◌ {A = ℕ} (if b then 0 else 1) 0
+    go : (b : Bool) → T b → ◌≡◌ {A = ℕ} (when b then 0 else 1) 0
     go true t = refl
     go false t = absurd t
-position_new (y ∷ l) x h = go (y == x) h (position_new l x)
+position_new (y ∷ l) x h = go (y ≟ x) h (position_new l x)
   where
-    go : (b : Bool) → (if b then 0 else suc (position l x)) ≡ suc (length l) → (position l x ≡ length l → position (l ++ (x ∷ [])) x ≡ length l)
-        → (if b then 0 else suc (position (l ++ (x ∷ [])) x)) ≡ suc (length l)
+    go : (b : Bool) → (when b then 0 else suc (position l x)) ≡ suc (length l) → (position l x ≡ length l → position (l ++ (x ∷ [])) x ≡ length l)
+        → (when b then 0 else suc (position (l ++ (x ∷ [])) x)) ≡ suc (length l)
     go true h f = absurd (omega (arith, h))
     go false h f = ap suc (f (omega (arith, h)))
 
@@ -60,8 +60,8 @@ module _ (s : Session) (l : Layout) (b : Slices) (text : Text) (slots : List ℕ
   unknown h = subst T N.unknown h
 
   -- another name than one that exists
-  another : (q : Name) → T (member q (principals_of s.store)) → (p == q) ≡ false
-  another q m = go (p == q) (==→≡ p q)
+  another : (q : Name) → T (member q (principals_of s.store)) → (p ≟ q) ≡ false
+  another q m = go (p ≟ q) (==→≡ p q)
     where
       go : (c : Bool) → (T c → p ≡ q) → c ≡ false
       go true f = absurd (unknown (subst (λ (x : Name). T (is_principal s x)) (sym (f tt)) (is_named q s.store.principals m)))

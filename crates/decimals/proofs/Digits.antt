@@ -6,12 +6,12 @@ use native.Mathlib.Omega.{arith}
 use mathlib.Core.List.{[], ◌∷◌, ◌++◌}
 use lib.ListN.{length, length-append}
 use borrow.Author.Tests.{lt-ltb, le-ltb}
-use Rattle.language.specs.Text.{if◌then◌else◌, digits}
+use Rattle.language.specs.Text.{when◌then◌else◌, digits}
 use Rattle.decimals.specs.Digits.{Digits, DigitsRoom}
 
 pub digit_last : (more n : ℕ) → n < 10 → (48 + n) ∷ [] ≡ digits more n
 digit_last zero n h = refl
-digit_last (suc more) n h = ap (λ c. if c then (48 + n) ∷ [] else digits more (n / 10) ++ ((48 + n % 10) ∷ [])) (sym (lt-ltb n 10 h))
+digit_last (suc more) n h = ap (λ c. when c then (48 + n) ∷ [] else digits more (n / 10) ++ ((48 + n % 10) ∷ [])) (sym (lt-ltb n 10 h))
 
 -- more digits follow only where one more is allowed
 pub record Longer (more n : ℕ) : Type 0 where
@@ -24,7 +24,7 @@ longer zero n h d = absurd (omega arith)
 longer (suc more) n h d = record {
   less = more;
   enough = d;
-  parted = ap (λ c. if c then (48 + n) ∷ [] else digits more (n / 10) ++ ((48 + n % 10) ∷ [])) (le-ltb n 10 h);
+  parted = ap (λ c. when c then (48 + n) ∷ [] else digits more (n / 10) ++ ((48 + n % 10) ∷ [])) (le-ltb n 10 h);
 }
 
 -- room for one digit, or for those before the last

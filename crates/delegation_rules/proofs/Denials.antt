@@ -7,7 +7,7 @@ use Prim.Native.Nat.{ℕ, ◌≤◌}
 use native.Mathlib.Omega.{arith}
 use lib.Dec.{T}
 use lib.ListN.{length}
-use Rattle.language.specs.Text.{if◌then◌else◌, ◌==◌, any}
+use Rattle.language.specs.Text.{when◌then◌else◌, ◌≟◌, any}
 use Rattle.language.specs.Syntax.{Name, Right, delegate, Target, every, only, set_delegation, delete_delegation}
 use Rattle.language.specs.State.{admin}
 use Rattle.language.specs.Chains.{has}
@@ -46,11 +46,11 @@ aim_few xs t a h e = subst Few (sym e) (go t)
 -- ---- the sender
 
 module _ (s : Session) (q : Name) where
-  pub none_admin : (s.sender == admin) ≡ true → false ≡ is_none s (admin ∷ q ∷ [])
-  none_admin e = sym (ap (λ (b : Bool). not b && (not (s.sender == q) && true)) e)
+  pub none_admin : (s.sender ≟ admin) ≡ true → false ≡ is_none s (admin ∷ q ∷ [])
+  none_admin e = sym (ap (λ (b : Bool). not b && (not (s.sender ≟ q) && true)) e)
 
-  pub none_other : (s.sender == admin) ≡ false → not (s.sender == q) ≡ is_none s (admin ∷ q ∷ [])
-  none_other e = sym (ap (λ (b : Bool). not b && (not (s.sender == q) && true)) e ∙ and_true (not (s.sender == q)))
+  pub none_other : (s.sender ≟ admin) ≡ false → not (s.sender ≟ q) ≡ is_none s (admin ∷ q ∷ [])
+  none_other e = sym (ap (λ (b : Bool). not b && (not (s.sender ≟ q) && true)) e ∙ and_true (not (s.sender ≟ q)))
 
 -- what the rule asks of q on x
 module _ (s : Session) (q x : Name) where
@@ -60,7 +60,7 @@ module _ (s : Session) (q x : Name) where
   abbrev unmet : List Need → Bool
   unmet l = any (λ n. not (met s n)) (l ++ [])
 
-  one_unmet : (b : Bool) → (b && not (has s.store delegate x q)) ≡ unmet (if b then asked ∷ [] else [])
+  one_unmet : (b : Bool) → (b && not (has s.store delegate x q)) ≡ unmet (when b then asked ∷ [] else [])
   one_unmet true = go (has s.store delegate x q)
     where
       go : (h : Bool) → not h ≡ (not (h || false) || false)
@@ -97,7 +97,7 @@ module _ (s : Session) (q : Name) (r : Right) (p : Name) where
   set_one t x f e =
       one_unmet s q x (is_principal s q && is_shared s x)
       ∙ sym (ap (λ (t : Target). denied s (set_delegation t q r p)) f
-      ∙ ap (λ (b : Bool). b || unmet s q x (if is_principal s q && is_shared s x then asked s q x ∷ [] else [])) e)
+      ∙ ap (λ (b : Bool). b || unmet s q x (when is_principal s q && is_shared s x then asked s q x ∷ [] else [])) e)
 
 -- ---- delete delegation
 
@@ -108,13 +108,13 @@ module _ (s : Session) (q : Name) (r : Right) (p : Name) where
   module _ (t : Target) (x : Name) (f : t ≡ only x) where
     -- by whether the sender is admin, q and p
     abbrev judged : Bool → Bool → Bool → Bool
-    judged a b c = (not a && (not b && (not c && true))) || any (λ n. not (met s n)) ((if b && not c && not a then need s (delegate ∷ []) x else []) ++ [])
+    judged a b c = (not a && (not b && (not c && true))) || any (λ n. not (met s n)) ((when b && not c && not a then need s (delegate ∷ []) x else []) ++ [])
 
-    as_judged : denied s (delete_delegation t q r p) ≡ judged (s.sender == admin) (s.sender == q) (s.sender == p)
+    as_judged : denied s (delete_delegation t q r p) ≡ judged (s.sender ≟ admin) (s.sender ≟ q) (s.sender ≟ p)
     as_judged = ap (λ (t : Target). denied s (delete_delegation t q r p)) f
 
-    pub delete_taker : (s.sender == p) ≡ true → false ≡ denied s (delete_delegation t q r p)
-    delete_taker e = sym (as_judged ∙ ap (judged (s.sender == admin) (s.sender == q)) e ∙ go (s.sender == admin) (s.sender == q))
+    pub delete_taker : (s.sender ≟ p) ≡ true → false ≡ denied s (delete_delegation t q r p)
+    delete_taker e = sym (as_judged ∙ ap (judged (s.sender ≟ admin) (s.sender ≟ q)) e ∙ go (s.sender ≟ admin) (s.sender ≟ q))
       where
         go : (a b : Bool) → judged a b true ≡ false
         go true true = refl
@@ -122,8 +122,8 @@ module _ (s : Session) (q : Name) (r : Right) (p : Name) where
         go false true = refl
         go false false = refl
 
-    pub delete_admin : (s.sender == admin) ≡ true → false ≡ denied s (delete_delegation t q r p)
-    delete_admin e = sym (as_judged ∙ ap (λ (a : Bool). judged a (s.sender == q) (s.sender == p)) e ∙ go (s.sender == q) (s.sender == p))
+    pub delete_admin : (s.sender ≟ admin) ≡ true → false ≡ denied s (delete_delegation t q r p)
+    delete_admin e = sym (as_judged ∙ ap (λ (a : Bool). judged a (s.sender ≟ q) (s.sender ≟ p)) e ∙ go (s.sender ≟ q) (s.sender ≟ p))
       where
         go : (b c : Bool) → judged true b c ≡ false
         go true true = refl
@@ -131,8 +131,8 @@ module _ (s : Session) (q : Name) (r : Right) (p : Name) where
         go false true = refl
         go false false = refl
 
-    pub delete_other : (s.sender == p) ≡ false → is_none s (admin ∷ q ∷ []) ≡ true → true ≡ denied s (delete_delegation t q r p)
-    delete_other e h = sym (as_judged ∙ ap (judged (s.sender == admin) (s.sender == q)) e ∙ go (s.sender == admin) (s.sender == q) h)
+    pub delete_other : (s.sender ≟ p) ≡ false → is_none s (admin ∷ q ∷ []) ≡ true → true ≡ denied s (delete_delegation t q r p)
+    delete_other e h = sym (as_judged ∙ ap (judged (s.sender ≟ admin) (s.sender ≟ q)) e ∙ go (s.sender ≟ admin) (s.sender ≟ q) h)
       where
         go : (a b : Bool) → (not a && (not b && true)) ≡ true → judged a b false ≡ true
         go true b h = absurd (let z : ◌≡◌ {A = ℕ} 0 1 = cc in omega arith)
@@ -140,16 +140,16 @@ module _ (s : Session) (q : Name) (r : Right) (p : Name) where
         go false false h = refl
 
     -- q, who is neither admin nor p
-    pub delete_giver : T (is_principal s s.sender) → (s.sender == admin) ≡ false → (s.sender == p) ≡ false → is_none s (admin ∷ q ∷ []) ≡ false
+    pub delete_giver : T (is_principal s s.sender) → (s.sender ≟ admin) ≡ false → (s.sender ≟ p) ≡ false → is_none s (admin ∷ q ∷ []) ≡ false
         → (is_principal s q && is_shared s x && not (has s.store delegate x q)) ≡ denied s (delete_delegation t q r p)
     delete_giver k a c h =
-        let b : T (s.sender == q) = is_giver (s.sender == admin) (s.sender == q) a h in
+        let b : T (s.sender ≟ q) = is_giver (s.sender ≟ admin) (s.sender ≟ q) a h in
         let e : s.sender ≡ q = ==→≡ s.sender q b in
         let m : is_principal s q ≡ true = true_of (is_principal s q) (subst (λ (n : Name). T (is_principal s n)) e k) in
         ap (λ (b : Bool). b && is_shared s x && not (has s.store delegate x q)) m
         ∙ one_unmet s q x (is_shared s x)
-        ∙ ap (λ (n : Name). unmet s q x (if is_shared s x then record { holder = n; one_of = delegate ∷ []; variable = x } ∷ [] else [])) (sym e)
-        ∙ sym (as_judged ∙ (λ i. judged (a i) (true_of (s.sender == q) b i) (c i)))
+        ∙ ap (λ (n : Name). unmet s q x (when is_shared s x then record { holder = n; one_of = delegate ∷ []; variable = x } ∷ [] else [])) (sym e)
+        ∙ sym (as_judged ∙ (λ i. judged (a i) (true_of (s.sender ≟ q) b i) (c i)))
       where
         is_giver : (a b : Bool) → a ≡ false → (not a && (not b && true)) ≡ false → T b
         is_giver true b e h = absurd (let z : ◌≡◌ {A = ℕ} 0 1 = cc in omega arith)

@@ -8,7 +8,7 @@ use native.Mathlib.Numerals.{add-one}
 use lib.Dec.{T}
 use lib.ListN.{length, get_or, take}
 use lib.Seq.{take-suc}
-use Rattle.language.specs.Text.{if◌then◌else◌, keep, distinct}
+use Rattle.language.specs.Text.{when◌then◌else◌, keep, distinct}
 use Rattle.language.specs.Syntax.{Name}
 use Rattle.language.proofs.Logic.Lists.{keep_append}
 use Rattle.store.specs.Rows.{position}
@@ -26,10 +26,10 @@ module _ (f : Name → Bool) (l : List Name) where
 
   pub passing_more : (k : ℕ) → k < length l → T (distinct l) → f (get_or l k []) ≡ true → passing k ++ (k ∷ []) ≡ passing (k + 1)
   passing_more k h d e =
-      sym (passing_next k h ∙ ap (λ (b : Bool). passing k ++ map (position l) (if◌then◌else◌ {A = List Name} b (get_or l k [] ∷ []) [])) e
+      sym (passing_next k h ∙ ap (λ (b : Bool). passing k ++ map (position l) (when◌then◌else◌ {A = List Name} b (get_or l k [] ∷ []) [])) e
       ∙ ap (λ (n : ℕ). passing k ++ (n ∷ [])) (position_own l k d h))
 
   pub passing_same : (k : ℕ) → k < length l → f (get_or l k []) ≡ false → passing k ≡ passing (k + 1)
   passing_same k h e =
-      sym (passing_next k h ∙ ap (λ (b : Bool). passing k ++ map (position l) (if◌then◌else◌ {A = List Name} b (get_or l k [] ∷ []) [])) e
+      sym (passing_next k h ∙ ap (λ (b : Bool). passing k ++ map (position l) (when◌then◌else◌ {A = List Name} b (get_or l k [] ∷ []) [])) e
       ∙ append-nil (passing k))

@@ -10,7 +10,7 @@ use native.Mathlib.Omega.{arith}
 use lib.Dec.{T, T_not}
 use lib.ListN.{length, get_or, set, take, drop, length-append, length-map, length-set}
 use lib.Seq.{set_at, set-set, get_or-set_same, take-set-le, take-set-lt, drop-set-lt, drop-drop, length-take-le}
-use Rattle.language.specs.Text.{Text, joined, ◌==◌, if◌then◌else◌, member, distinct}
+use Rattle.language.specs.Text.{Text, joined, ◌≟◌, when◌then◌else◌, member, distinct}
 use Rattle.language.specs.Syntax.{Name}
 use Rattle.language.specs.State.{Principal}
 use Rattle.language.specs.Identifiers.{is_name}
@@ -34,10 +34,10 @@ use Rattle.edits.proofs.Putting.{map_set}
 changed_none : (ks : List Principal) (p : Name) (t : Text) → (T (member p (principal_names ks)) → ⊥) → map (changed p t) ks ≡ ks
 changed_none [] p t n = refl
 changed_none (k ∷ ks) p t n =
-    go (k.name == p) (λ e. n (left_of_lem (p == k.name) (member p (principal_names ks)) (==_sym k.name p e)))
-    (changed_none ks p t (λ m. n (right_of (p == k.name) (member p (principal_names ks)) m)))
+    go (k.name ≟ p) (λ e. n (left_of_lem (p ≟ k.name) (member p (principal_names ks)) (==_sym k.name p e)))
+    (changed_none ks p t (λ m. n (right_of (p ≟ k.name) (member p (principal_names ks)) m)))
   where
-    go : (b : Bool) → (T b → ⊥) → map (changed p t) ks ≡ ks → record { name = k.name; password = if b then some t else k.password; count = k.count } ∷ map (changed p t) ks ≡ k ∷ ks
+    go : (b : Bool) → (T b → ⊥) → map (changed p t) ks ≡ ks → record { name = k.name; password = when b then some t else k.password; count = k.count } ∷ map (changed p t) ks ≡ k ∷ ks
     go true f e = absurd (f tt)
     go false f e = ap (λ (l : List Principal). k ∷ l) e
 
@@ -46,14 +46,14 @@ pub changed_at : (ks : List Principal) (p : Name) (t : Text) → T (distinct (pr
 changed_at [] p t d h = absurd (not-suc-le-zero h)
 changed_at (k ∷ ks) p t d h =
     let (d₁, d₂) = both (not (member k.name (principal_names ks))) (distinct (principal_names ks)) d in
-    go (k.name == p) (λ e. changed_none ks p t (λ m. T_not (member k.name (principal_names ks)) d₁ (subst (λ (x : Name). T (member x (principal_names ks))) (sym (==→≡ k.name p e)) m)))
+    go (k.name ≟ p) (λ e. changed_none ks p t (λ m. T_not (member k.name (principal_names ks)) d₁ (subst (λ (x : Name). T (member x (principal_names ks))) (sym (==→≡ k.name p e)) m)))
     h (changed_at ks p t d₂)
   where
     n : ℕ
     n = position (principal_names ks) p
 
-    go : (b : Bool) → (T b → map (changed p t) ks ≡ ks) → (if b then 0 else suc n) < suc (length ks) → (n < length ks → map (changed p t) ks ≡ with_password ks n t)
-        → record { name = k.name; password = if b then some t else k.password; count = k.count } ∷ map (changed p t) ks ≡ with_password (k ∷ ks) (if b then 0 else suc n) t
+    go : (b : Bool) → (T b → map (changed p t) ks ≡ ks) → (when b then 0 else suc n) < suc (length ks) → (n < length ks → map (changed p t) ks ≡ with_password ks n t)
+        → record { name = k.name; password = when b then some t else k.password; count = k.count } ∷ map (changed p t) ks ≡ with_password (k ∷ ks) (when b then 0 else suc n) t
     go true f h g = ap (λ (l : List Principal). passworded t k ∷ l) (f tt)
     go false f h g = ap (λ (l : List Principal). k ∷ l) (g (le_of_suc-le-suc h))
 

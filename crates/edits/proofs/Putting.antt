@@ -8,7 +8,7 @@ use Prim.Native.Nat.{ℕ, zero, suc, ◌+◌, ◌-◌, ◌<◌}
 use native.Mathlib.Nat.{not-suc-le-zero, le_of_suc-le-suc}
 use native.Mathlib.Omega.{arith}
 use lib.ListN.{length, set, length-append}
-use Rattle.language.specs.Text.{Text, joined, ◌==◌, if◌then◌else◌}
+use Rattle.language.specs.Text.{Text, joined, ◌≟◌, when◌then◌else◌}
 use Rattle.language.specs.Syntax.{Name}
 use Rattle.language.specs.State.{Element, Value, list, Variable, value_in, put}
 use Rattle.language.specs.Encode.{tab, element_text, variables_text, value_text}
@@ -32,25 +32,25 @@ map_set f (b ∷ l) (suc k) a = ap (λ x. f b ∷ x) (map_set f l k a)
 pub put_at : (vs : List Variable) (x : Name) (v : Value) → position (variable_names vs) x < length vs
     → put x v vs ≡ set vs (position (variable_names vs) x) (record { name = (variable_at vs (position (variable_names vs) x)).name; value = v })
 put_at [] x v h = absurd (not-suc-le-zero h)
-put_at (w ∷ vs) x v h = go (w.name == x) h (put_at vs x v)
+put_at (w ∷ vs) x v h = go (w.name ≟ x) h (put_at vs x v)
   where
     n : ℕ
     n = position (variable_names vs) x
 
-    go : (b : Bool) → (if b then 0 else suc n) < suc (length vs)
+    go : (b : Bool) → (when b then 0 else suc n) < suc (length vs)
         → (n < length vs → put x v vs ≡ set vs n (record { name = (variable_at vs n).name; value = v }))
-        → (if b then record { name = w.name; value = v } ∷ vs else w ∷ put x v vs)
-        ≡ set (w ∷ vs) (if b then 0 else suc n) (record { name = (variable_at (w ∷ vs) (if b then 0 else suc n)).name; value = v })
+        → (when b then record { name = w.name; value = v } ∷ vs else w ∷ put x v vs)
+        ≡ set (w ∷ vs) (when b then 0 else suc n) (record { name = (variable_at (w ∷ vs) (when b then 0 else suc n)).name; value = v })
     go true h f = refl
     go false h f = ap (λ (l : List Variable). w ∷ l) (f (le_of_suc-le-suc h))
 
 -- a name that is new
 pub put_new : (vs : List Variable) (x : Name) (v : Value) → value_in vs x ≡ none → put x v vs ≡ vs ++ (record { name = x; value = v } ∷ [])
 put_new [] x v e = refl
-put_new (w ∷ vs) x v e = go (w.name == x) e (put_new vs x v)
+put_new (w ∷ vs) x v e = go (w.name ≟ x) e (put_new vs x v)
   where
-    go : (b : Bool) → (if b then some w.value else value_in vs x) ≡ none → (value_in vs x ≡ none → put x v vs ≡ vs ++ (record { name = x; value = v } ∷ []))
-        → (if b then record { name = w.name; value = v } ∷ vs else w ∷ put x v vs) ≡ w ∷ (vs ++ (record { name = x; value = v } ∷ []))
+    go : (b : Bool) → (when b then some w.value else value_in vs x) ≡ none → (value_in vs x ≡ none → put x v vs ≡ vs ++ (record { name = x; value = v } ∷ []))
+        → (when b then record { name = w.name; value = v } ∷ vs else w ∷ put x v vs) ≡ w ∷ (vs ++ (record { name = x; value = v } ∷ []))
     go true e f = absurd (let z : ◌≡◌ {A = ℕ} 0 1 = cc in omega arith)
     go false e f = ap (λ (l : List Variable). w ∷ l) (f e)
 

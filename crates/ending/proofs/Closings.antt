@@ -5,7 +5,7 @@ use Prim.Native.Nat.{ℕ}
 use mathlib.Core.Bool.{Bool}
 use mathlib.Core.Option.{Option}
 use lib.ListN.{length, take}
-use Rattle.language.specs.Text.{Text, if◌then◌else◌}
+use Rattle.language.specs.Text.{Text, when◌then◌else◌}
 use Rattle.language.specs.Syntax.{Name}
 use Rattle.language.specs.Encode.{state_text, padded}
 use Rattle.language.specs.Commands.{Refusal}
@@ -36,8 +36,8 @@ module _ {p : Name} {e : Option End} {l : Layout} {n count : ℕ} {b : Slices} {
   the_end : end_or e ≡ completed C.lines C.session.store
   the_end = ap end_or C.is_end
 
-  pub kind_is : (k : Is.Kind) → kind_meant k ≡ (if◌then◌else◌ {A = Kind} l.is_open returned exited) → kind_meant k ≡ kind_of (end_or e)
-  kind_is k h = h ∙ ap (λ (o : Bool). if◌then◌else◌ {A = Kind} o returned exited) C.running.is_open ∙ sym (ap kind_of the_end)
+  pub kind_is : (k : Is.Kind) → kind_meant k ≡ (when◌then◌else◌ {A = Kind} l.is_open returned exited) → kind_meant k ≡ kind_of (end_or e)
+  kind_is k h = h ∙ ap (λ (o : Bool). when◌then◌else◌ {A = Kind} o returned exited) C.running.is_open ∙ sym (ap kind_of the_end)
 
   pub count_is : count ≡ line_count (output (end_or e))
   count_is = C.counted ∙ sym (ap (λ (k : End). line_count (output k)) the_end)

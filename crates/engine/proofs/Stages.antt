@@ -7,7 +7,7 @@ use mathlib.Core.Option.{Option, none, some}
 use mathlib.Core.List.{List, [], ◌∷◌, ◌++◌, append_assoc, append-nil}
 use lib.Dec.{T}
 use lib.ListN.{length}
-use Rattle.language.specs.Text.{Text, ◌>>=◌, present, if◌then◌else◌}
+use Rattle.language.specs.Text.{Text, ◌>>=◌, present, when◌then◌else◌}
 use Rattle.language.specs.Syntax.{Command}
 use Rattle.language.specs.Encode.{buffer_size}
 use Rattle.language.specs.Programs.{longest}
@@ -51,7 +51,7 @@ printing_more t u (some (completed lines s)) = ap (λ l. some (completed l s)) (
 
 -- the command k in front of those that o is
 after_refused : (s : Session) (k : Command) (r : Refusal) → step s k ≡ refused r → (o : Option (List Command))
-    → end_on s (o >>= λ cs. some (k ∷ cs)) ≡ (if present o then some (refusal r) else none)
+    → end_on s (o >>= λ cs. some (k ∷ cs)) ≡ (when present o then some (refusal r) else none)
 after_refused s k r e none = refl
 after_refused s k r e (some cs) = ap (λ (j : Step). some (Run.next j (λ u. Run.perform u cs))) e
 
@@ -102,14 +102,14 @@ module _ {s : Session} {t : Text} {at : ℕ} {before : Text} {l : Layout} {b : S
   module _ {c : Read.Command} {rest : Rest} (F : First t p c rest) where
     -- the command cannot be done
     pub stops : (r : Refusal) → step S.session F.command ≡ refused r
-        → end_on s (body_from t at) ≡ (if present (rest_from t rest) then some (refusal r) else none)
+        → end_on s (body_from t at) ≡ (when present (rest_from t rest) then some (refusal r) else none)
     stops r e =
         S.same_end
         ∙ ap (λ (o : Option (List Command)). printing S.so_far (end_on S.session o)) F.all
         ∙ ap (printing S.so_far) (after_refused S.session F.command r e (rest_from t rest))
         ∙ unprinted (present (rest_from t rest))
       where
-        unprinted : (c : Bool) → printing S.so_far (if c then some (refusal r) else none) ≡ (if c then some (refusal r) else none)
+        unprinted : (c : Bool) → printing S.so_far (when c then some (refusal r) else none) ≡ (when c then some (refusal r) else none)
         unprinted true = refl
         unprinted false = refl
 

@@ -9,7 +9,7 @@ use mathlib.Core.Option.{Option, none, some}
 use mathlib.Core.List.{List, [], ◌∷◌, ◌++◌, append_assoc, append-nil}
 use lib.Dec.{T, T_not, ltb, lt→ltb}
 use lib.ListN.{length}
-use Rattle.language.specs.Text.{Text, if◌then◌else◌, ◌==◌, ◌>>=◌, all, each, member, distinct}
+use Rattle.language.specs.Text.{Text, when◌then◌else◌, ◌≟◌, ◌>>=◌, all, each, member, distinct}
 use Rattle.language.specs.Tokens.{Token}
 use Rattle.language.specs.Syntax as Syntax
 use Rattle.language.specs.Syntax.{Name, Binding}
@@ -33,7 +33,7 @@ use Rattle.language.proofs.Logic.Lists.{map_append}
 
 abbrev closed : List Field → Option (List Field) → Option Value
 closed fs none = none
-closed fs (some gs) = if distinct (labels (fs ++ gs)) then some (single (fields (fs ++ gs))) else none
+closed fs (some gs) = when distinct (labels (fs ++ gs)) then some (single (fields (fs ++ gs))) else none
 
 abbrev pub finish : Session → List Field → Option (List Binding × List Token) → Option Value
 finish s fs none = none
@@ -42,7 +42,7 @@ finish s fs (some r) = closed fs (each (field_value s) r.0)
 pub whole_record : (s : Session) (bs : List Binding) (us : List Token) → record_value s bs ≡ finish s [] (some (bs, us))
 whole_record s bs us = go (each (field_value s) bs)
   where
-    go : (o : Option (List Field)) → (o >>= λ fs. if distinct (labels fs) then some (single (fields fs)) else none) ≡ closed [] o
+    go : (o : Option (List Field)) → (o >>= λ fs. when distinct (labels fs) then some (single (fields fs)) else none) ≡ closed [] o
     go none = refl
     go (some gs) = refl
 
@@ -66,8 +66,8 @@ repeated : (l : List Name) (x : Name) (m : List Name) → T (member x l) → T (
 repeated [] x m h d = h
 repeated (y ∷ l) x m h d =
     let (d₁, d₂) = both (not (member y (l ++ (x ∷ m)))) (distinct (l ++ (x ∷ m))) d in
-    elim (one_of_lem (x == y) (member x l) h) [
-      | inl e ↦ T_not (member y (l ++ (x ∷ m))) d₁ (any_right_lem (λ u. y == u) l (x ∷ m) (left_of_lem (y == x) (member y m) (==_sym x y e)))
+    elim (one_of_lem (x ≟ y) (member x l) h) [
+      | inl e ↦ T_not (member y (l ++ (x ∷ m))) d₁ (any_right_lem (λ u. y ≟ u) l (x ∷ m) (left_of_lem (y ≟ x) (member y m) (==_sym x y e)))
       | inr e ↦ repeated l x m e d₂
     ]
 
@@ -75,7 +75,7 @@ module _ (s : Session) (fs : List Field) (b : Binding) (bs : List Binding) (us :
   with_field_lem : (f : Field) (o : Option (List Field)) → closed fs (o >>= λ gs. some (f ∷ gs)) ≡ closed (fs ++ (f ∷ [])) o
   with_field_lem f none = refl
   with_field_lem f (some gs) =
-      ap (λ (l : List Field). if◌then◌else◌ {A = Option Value} (distinct (labels l)) (some (single (fields l))) none) (sym (append_assoc fs (f ∷ []) gs))
+      ap (λ (l : List Field). when◌then◌else◌ {A = Option Value} (distinct (labels l)) (some (single (fields l))) none) (sym (append_assoc fs (f ∷ []) gs))
 
   field_next : (t : Text) → string_in (operand_value s b.operand) ≡ some t
       → finish s fs (some (b ∷ bs, us)) ≡ finish s (fs ++ (record { label = b.label; text = t } ∷ [])) (some (bs, us))
@@ -101,7 +101,7 @@ module _ (s : Session) (fs : List Field) (b : Binding) (bs : List Binding) (us :
 
       go : (o : Option (List Field)) → closed (fs ++ (f ∷ [])) o ≡ none
       go none = refl
-      go (some gs) = ap (λ (c : Bool). if◌then◌else◌ {A = Option Value} c (some (single (fields ((fs ++ (f ∷ [])) ++ gs)))) none) (never gs)
+      go (some gs) = ap (λ (c : Bool). when◌then◌else◌ {A = Option Value} c (some (single (fields ((fs ++ (f ∷ [])) ++ gs)))) none) (never gs)
 
   -- what adding the field says of the whole
   pub not_added : (out : Text) (slots : List ℕ) → Extends fs b.label (string_in (operand_value s b.operand)) Is.No out slots → finish s fs (some (b ∷ bs, us)) ≡ none
@@ -127,8 +127,8 @@ module _ (s : Session) (fs : List Field) (b : Binding) (bs : List Binding) (us :
 
 pub all_read : (s : Session) (fs : List Field) (us : List Token) → T (distinct (labels fs)) → finish s fs (some ([], us)) ≡ some (single (fields fs))
 all_read s fs us d =
-    ap (λ (l : List Field). if◌then◌else◌ {A = Option Value} (distinct (labels l)) (some (single (fields l))) none) (append-nil fs)
-    ∙ ap (λ (c : Bool). if◌then◌else◌ {A = Option Value} c (some (single (fields fs))) none) (true_of (distinct (labels fs)) d)
+    ap (λ (l : List Field). when◌then◌else◌ {A = Option Value} (distinct (labels l)) (some (single (fields l))) none) (append-nil fs)
+    ∙ ap (λ (c : Bool). when◌then◌else◌ {A = Option Value} c (some (single (fields fs))) none) (true_of (distinct (labels fs)) d)
 
 module _ (fs : List Field) (out : Text) (slots : List ℕ) (d : Draft) (D : Drafted fs out slots d) (n : 0 < length fs) where
   pub record_light : d.weight ≤ 8192 → Written (by_weight (some (single (fields fs)))) out d.end d.weight

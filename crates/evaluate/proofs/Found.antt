@@ -7,7 +7,7 @@ use mathlib.Core.Option.{Option, none, some}
 use mathlib.Core.List.{List, [], ◌∷◌}
 use lib.Dec.{T}
 use lib.ListN.{length, length-append}
-use Rattle.language.specs.Text.{Text, if◌then◌else◌, ◌==◌, all, joined, ◌>>=◌, ◌or_else◌}
+use Rattle.language.specs.Text.{Text, when◌then◌else◌, ◌≟◌, all, joined, ◌>>=◌, ◌or_else◌}
 use Rattle.language.specs.Encode.{variable_text, value_text}
 use Rattle.store.specs.Held.{places}
 use Rattle.store.proofs.Holders.{variable_text_lem}
@@ -38,7 +38,7 @@ found_valid : (vs : List Variable) (x : Name) → T (all valid_variable vs) → 
 found_valid [] x h = tt
 found_valid (v ∷ vs) x h =
     let (h₁, h₂) = both (valid_variable v) (all valid_variable vs) h in
-    if_where IsValid (v.name == x) (some v.value) (value_in vs x) (λ t. (both (is_name v.name) (valid_value v.value) h₁).1) (λ t. found_valid vs x h₂)
+    if_where IsValid (v.name ≟ x) (some v.value) (value_in vs x) (λ t. (both (is_name v.name) (valid_value v.value) h₁).1) (λ t. found_valid vs x h₂)
 
 module _ {s : Session} {shared : Text} {slots : List ℕ} {count : ℕ} {locals : Text} {lslots : List ℕ} {lcount : ℕ} (S : Scope s shared slots count locals lslots lcount) (x : Name) where
   pub lookup_valid : Where IsValid (lookup s x)
@@ -56,10 +56,10 @@ module _ {s : Session} {shared : Text} {slots : List ℕ} {count : ℕ} {locals 
 
 bytes_in : (vs : List Variable) (x : Name) → length (value_bytes (value_in vs x)) ≤ length (joined (λ v. variable_text v.name v.value) vs)
 bytes_in [] x = zero-le
-bytes_in (v ∷ vs) x = go (v.name == x) (bytes_in vs x)
+bytes_in (v ∷ vs) x = go (v.name ≟ x) (bytes_in vs x)
   where
     go : (b : Bool) → length (value_bytes (value_in vs x)) ≤ length (joined (λ v. variable_text v.name v.value) vs)
-        → length (value_bytes (if b then some v.value else value_in vs x)) ≤ length (joined (λ v. variable_text v.name v.value) (v ∷ vs))
+        → length (value_bytes (when b then some v.value else value_in vs x)) ≤ length (joined (λ v. variable_text v.name v.value) (v ∷ vs))
     go true h =
         let u : Text = value_text v.value in
         omega (arith, length-append (variable_text v.name v.value) (joined (λ v. variable_text v.name v.value) vs), ap length (variable_text_lem v.name v.value), length-append v.name (9 ∷ u))
@@ -117,7 +117,7 @@ text_valid : (fs : List Field) (y : Name) → T (all valid_field fs) → MaybeSt
 text_valid [] y h = tt
 text_valid (f ∷ fs) y h =
     let (h₁, h₂) = both (valid_field f) (all valid_field fs) h in
-    if_where (λ t. T (is_string t)) (f.label == y) (some f.text) (text_of fs y) (λ t. (both (is_name f.label) (is_string f.text) h₁).1) (λ t. text_valid fs y h₂)
+    if_where (λ t. T (is_string t)) (f.label ≟ y) (some f.text) (text_of fs y) (λ t. (both (is_name f.label) (is_string f.text) h₁).1) (λ t. text_valid fs y h₂)
 
 field_valid : (v : Value) (y : Name) → IsValid v → MaybeString (field_of v y)
 field_valid (single (string t)) y h = tt

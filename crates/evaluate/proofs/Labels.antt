@@ -10,7 +10,7 @@ use mathlib.Core.List.{List, [], ◌∷◌, ◌++◌, append-nil}
 use lib.Dec.{T}
 use lib.ListN.{length, take, drop, set, length-append, length-map}
 use lib.Seq.{take-suc-set, take-take}
-use Rattle.language.specs.Text.{Text, if◌then◌else◌, ◌==◌, member, joined}
+use Rattle.language.specs.Text.{Text, when◌then◌else◌, ◌≟◌, member, joined}
 use Rattle.language.specs.Syntax.{Name}
 use Rattle.language.specs.Identifiers.{is_name}
 use Rattle.language.proofs.Logic.Tests.{and, all_append, ==_sym, same_test}
@@ -22,22 +22,22 @@ use Rattle.store.proofs.Answers.{answered, unanswered}
 
 -- ---- a name among names
 
-same_sym : (x y : Name) → (x == y) ≡ (y == x)
-same_sym x y = same_test (x == y) (y == x) (==_sym x y) (==_sym y x)
+same_sym : (x y : Name) → (x ≟ y) ≡ (y ≟ x)
+same_sym x y = same_test (x ≟ y) (y ≟ x) (==_sym x y) (==_sym y x)
 
 there : (l : List Name) (x : Name) → position l x < length l → member x l ≡ true
 there [] x h = absurd (not-suc-le-zero h)
-there (y ∷ l) x h = rw (same_sym x y) (go (y == x) h (there l x))
+there (y ∷ l) x h = rw (same_sym x y) (go (y ≟ x) h (there l x))
   where
-    go : (b : Bool) → (if b then 0 else suc (position l x)) < suc (length l) → (position l x < length l → member x l ≡ true) → (b || member x l) ≡ true
+    go : (b : Bool) → (when b then 0 else suc (position l x)) < suc (length l) → (position l x < length l → member x l ≡ true) → (b || member x l) ≡ true
     go true h f = refl
     go false h f = f (le_of_suc-le-suc h)
 
 not_there : (l : List Name) (x : Name) → length l ≤ position l x → member x l ≡ false
 not_there [] x h = refl
-not_there (y ∷ l) x h = rw (same_sym x y) (go (y == x) h (not_there l x))
+not_there (y ∷ l) x h = rw (same_sym x y) (go (y ≟ x) h (not_there l x))
   where
-    go : (b : Bool) → suc (length l) ≤ (if b then 0 else suc (position l x)) → (length l ≤ position l x → member x l ≡ false) → (b || member x l) ≡ false
+    go : (b : Bool) → suc (length l) ≤ (when b then 0 else suc (position l x)) → (length l ≤ position l x → member x l ≡ false) → (b || member x l) ≡ false
     go true h f = absurd (not-suc-le-zero h)
     go false h f = f (le_of_suc-le-suc h)
 

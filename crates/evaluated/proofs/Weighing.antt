@@ -6,7 +6,7 @@ use mathlib.Core.Bool.{Bool, ◌||◌, true, false}
 use mathlib.Core.Option.{Option, some}
 use mathlib.Core.List.{List, [], ◌∷◌}
 use borrow.Author.Tests.{lt-ltb, le-ltb}
-use Rattle.language.specs.Text.{if◌then◌else◌, any}
+use Rattle.language.specs.Text.{when◌then◌else◌, any}
 use Rattle.language.specs.State.{Value}
 use Rattle.language.specs.Weight.{limit, value_weight}
 use Rattle.language.specs.Outcomes.{Outcome, gives, fills}
@@ -17,13 +17,13 @@ use Rattle.evaluated.specs.Weighed.{by_weight}
 module _ (vs : List Value) (v : Value) where
   -- too heavy by the result, or by an argument
   pub result_heavy : limit < value_weight v → weighed vs v ≡ fills
-  result_heavy h = ap (λ (b : Bool). if◌then◌else◌ {A = Outcome Value} (b || any is_heavy vs) fills (gives v)) (lt-ltb limit (value_weight v) h)
+  result_heavy h = ap (λ (b : Bool). when◌then◌else◌ {A = Outcome Value} (b || any is_heavy vs) fills (gives v)) (lt-ltb limit (value_weight v) h)
 
   pub argument_heavy : any is_heavy vs ≡ true → weighed vs v ≡ fills
-  argument_heavy h = ap (λ (b : Bool). if◌then◌else◌ {A = Outcome Value} b fills (gives v)) (ap (λ (b : Bool). is_heavy v || b) h ∙ or_true (is_heavy v))
+  argument_heavy h = ap (λ (b : Bool). when◌then◌else◌ {A = Outcome Value} b fills (gives v)) (ap (λ (b : Bool). is_heavy v || b) h ∙ or_true (is_heavy v))
 
   pub all_light : value_weight v ≤ limit → any is_heavy vs ≡ false → weighed vs v ≡ gives v
-  all_light h k = λ i. if◌then◌else◌ {A = Outcome Value} (le-ltb limit (value_weight v) h i || k i) fills (gives v)
+  all_light h k = λ i. when◌then◌else◌ {A = Outcome Value} (le-ltb limit (value_weight v) h i || k i) fills (gives v)
 
 -- two arguments
 module _ (v w : Value) where

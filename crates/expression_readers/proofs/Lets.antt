@@ -7,7 +7,7 @@ use mathlib.Core.List.{List, [], ◌∷◌}
 use Prim.Native.Nat.{ℕ, zero, suc, ◌+◌, ◌-◌, ◌<◌}
 use native.Mathlib.Omega.{arith}
 use Rattle.language.specs.Text as Options
-use Rattle.language.specs.Text.{Text, bytes, ◌==◌, ◌or_else◌, present}
+use Rattle.language.specs.Text.{Text, bytes, ◌≟◌, ◌or_else◌, present}
 use Rattle.language.specs.Tokens.{Token, sign, ident, text, wrong}
 use Rattle.language.specs.Syntax.{Name, Term, Expr, term, let_in}
 use Rattle.language.specs.Grammar.{Reader, then_read, ◌>>=◌, ◌>>◌, give, the, any_name, any_term, any_expression}
@@ -67,9 +67,9 @@ expression_starts ts = expression_step ts ∙ ap (λ r. r or_else then_read (any
 -- a term does not start with `let`
 no_head : (ts : List Token) {t : Term} {us : List Token} → any_term ts ≡ some (t, us) → let_head ts ≡ none
 no_head [] e = refl
-no_head (sign w ∷ ts) {t} {us} e = go (w == bytes "let") refl
+no_head (sign w ∷ ts) {t} {us} e = go (w ≟ bytes "let") refl
   where
-    go : (b : Bool) → (w == bytes "let") ≡ b → let_head (sign w ∷ ts) ≡ none
+    go : (b : Bool) → (w ≟ bytes "let") ≡ b → let_head (sign w ∷ ts) ≡ none
     go true q = no_some (sym (ap (λ (v : Text). any_term (sign v ∷ ts)) (same_true w (bytes "let") q)) ∙ e)
     go false q = rw q
 no_head (ident w ∷ ts) e = refl

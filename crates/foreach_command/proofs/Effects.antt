@@ -4,7 +4,7 @@ use mathlib.Core.Path.{◌≡◌, refl, ap, ◌∙◌}
 use mathlib.Core.Bool.{Bool, true, false, ◌||◌, not}
 use mathlib.Core.Option.{Option, none, some}
 use mathlib.Core.List.{List, [], ◌∷◌, ◌++◌}
-use Rattle.language.specs.Text.{Text, if◌then◌else◌, any}
+use Rattle.language.specs.Text.{Text, when◌then◌else◌, any}
 use Rattle.language.specs.Syntax.{Name, read, write, Expr}
 use Rattle.language.specs.State.{Element, list}
 use Rattle.language.specs.Chains.{has}
@@ -30,8 +30,8 @@ module _ (s : Session) (x : Name) where
   two_rights false w b = refl
 
   ruled_by : (b : Bool) (rest : List Need)
-      → any (λ n. not (met s n)) (((if b then record { holder = s.sender; one_of = read ∷ []; variable = x } ∷ [] else []) ++ (if b then record { holder = s.sender; one_of = write ∷ []; variable = x } ∷ [] else [])) ++ rest)
-      ≡ ((not (if b then has s.store read x s.sender else true) || not (if b then has s.store write x s.sender else true)) || any (λ n. not (met s n)) rest)
+      → any (λ n. not (met s n)) (((when b then record { holder = s.sender; one_of = read ∷ []; variable = x } ∷ [] else []) ++ (when b then record { holder = s.sender; one_of = write ∷ []; variable = x } ∷ [] else [])) ++ rest)
+      ≡ ((not (when b then has s.store read x s.sender else true) || not (when b then has s.store write x s.sender else true)) || any (λ n. not (met s n)) rest)
   ruled_by true rest = two_rights (has s.store read x s.sender) (has s.store write x s.sender) (any (λ n. not (met s n)) rest)
   ruled_by false rest = refl
 

@@ -5,7 +5,7 @@ use Prim.Native.Nat.{◌≤◌}
 use native.Mathlib.Omega.{arith}
 use mathlib.Core.Bool.{Bool, true, false}
 use mathlib.Core.List.{List, [], ◌∷◌}
-use Rattle.language.specs.Text.{Text, if◌then◌else◌, ◌==◌, sum}
+use Rattle.language.specs.Text.{Text, when◌then◌else◌, ◌≟◌, sum}
 use Rattle.language.specs.Syntax.{Name, Command}
 use Rattle.language.specs.State.{Element, Value, list, Variable, put}
 use Rattle.language.specs.Weight.{value_weight, variable_weight}
@@ -19,10 +19,10 @@ use Rattle.foreach_command.specs.Each.{putting}
 
 put_weighs : (x : Name) (v : Value) (vs : List Variable) → value_weight v ≤ sum variable_weight (put x v vs)
 put_weighs x v [] = omega arith
-put_weighs x v (w ∷ vs) = go (w.name == x) (put_weighs x v vs)
+put_weighs x v (w ∷ vs) = go (w.name ≟ x) (put_weighs x v vs)
   where
     go : (b : Bool) → value_weight v ≤ sum variable_weight (put x v vs)
-        → value_weight v ≤ sum variable_weight (if b then record { name = w.name; value = v } ∷ vs else w ∷ put x v vs)
+        → value_weight v ≤ sum variable_weight (when b then record { name = w.name; value = v } ∷ vs else w ∷ put x v vs)
     go true h = omega arith
     go false h = omega (arith, h)
 
@@ -32,7 +32,7 @@ assign_weighs s x v = go (is_local s x) (is_shared s x)
     go : (b c : Bool)
         → value_weight v
         ≤ session_weight
-        (if b then with_locals s (put x v s.locals) else if c then with_store s (with_variables s.store (put x v s.store.variables))
+        (when b then with_locals s (put x v s.locals) else when c then with_store s (with_variables s.store (put x v s.store.variables))
         else with_store s (enter_all (with_variables s.store (put x v s.store.variables)) (granted s x)))
     go true c = omega (arith, put_weighs x v s.locals)
     go false true = omega (arith, put_weighs x v s.store.variables)

@@ -7,7 +7,7 @@ use mathlib.Core.Bool.{Bool, true, false}
 use mathlib.Core.Option.{Option, none, some}
 use mathlib.Core.List.{List}
 use lib.ListN.{length}
-use Rattle.language.specs.Text.{Text, if◌then◌else◌, present}
+use Rattle.language.specs.Text.{Text, when◌then◌else◌, present}
 use Rattle.language.specs.Syntax.{Name}
 use Rattle.language.specs.State.{Element, Value, single, list}
 use Rattle.language.specs.Weight.{limit, value_weight}
@@ -23,8 +23,8 @@ use Rattle.foreach_source.specs.Sources.{Copied}
 use Rattle.lookup.proofs.LightNames.{lookup_light}
 
 module _ (s : Session) (y x : Name) where
-  by_defined : (b : Bool) → is_defined s y ≡ b → elements s y x ≡ (if◌then◌else◌ {A = Option (List Element)} b none (elements_in (lookup s x)))
-  by_defined b e = ap (λ (c : Bool). if◌then◌else◌ {A = Option (List Element)} c none (elements_in (lookup s x))) e
+  by_defined : (b : Bool) → is_defined s y ≡ b → elements s y x ≡ (when◌then◌else◌ {A = Option (List Element)} b none (elements_in (lookup s x)))
+  by_defined b e = ap (λ (c : Bool). when◌then◌else◌ {A = Option (List Element)} c none (elements_in (lookup s x))) e
 
   -- where y has a value, there is no list
   pub other_there : is_defined s y ≡ true → elements s y x ≡ none
@@ -69,6 +69,6 @@ source_light s y x out n C l = defined (is_defined s y) C.is_source
     go (some (single a)) k e = absurd (let z : ◌≡◌ {A = ℕ} 0 1 = cc in omega arith)
     go (some (list es)) k e = let q : es ≡ C.elements = cc in omega (arith, k, ap (λ (l : List Element). value_weight (list l)) q)
 
-    defined : (b : Bool) → if◌then◌else◌ {A = Option (List Element)} b none (elements_in (lookup s x)) ≡ some C.elements → value_weight (list C.elements) ≤ limit
+    defined : (b : Bool) → when◌then◌else◌ {A = Option (List Element)} b none (elements_in (lookup s x)) ≡ some C.elements → value_weight (list C.elements) ≤ limit
     defined true e = absurd (let z : ◌≡◌ {A = ℕ} 0 1 = cc in omega arith)
     defined false e = go (lookup s x) (lookup_light s x l) e

@@ -5,7 +5,7 @@ use mathlib.Core.Bool.{true, false}
 use mathlib.Core.Option.{Option, none, some}
 use mathlib.Core.List.{List, ◌∷◌}
 use Rattle.language.specs.Text as Options
-use Rattle.language.specs.Text.{Text, bytes, ◌==◌}
+use Rattle.language.specs.Text.{Text, bytes, ◌≟◌}
 use Rattle.language.specs.Tokens.{Token, sign}
 use Rattle.language.specs.Syntax.{Name, Expr, Command, every}
 use Rattle.language.specs.Grammar.{then_read, ◌>>=◌, give, the_sign, any_name, any_expression, any_target, any_right}
@@ -21,18 +21,18 @@ no_sign_right ts e =
 pub no_right :
     {ts us : List Token} {v : Text}
     → ts ≡ sign v ∷ us
-    → (v == bytes "read") ≡ false
-    → (v == bytes "write") ≡ false
-    → (v == bytes "append") ≡ false
-    → (v == bytes "delegate") ≡ false
+    → (v ≟ bytes "read") ≡ false
+    → (v ≟ bytes "write") ≡ false
+    → (v ≟ bytes "append") ≡ false
+    → (v ≟ bytes "delegate") ≡ false
     → any_right ts ≡ none
 no_right e r w a d = ap any_right e ∙ rw (r, w, a, d)
 
 -- a keyword that is a target, or none
-pub target_all : (w : Text) (us : List Token) → (w == bytes "all") ≡ true → any_target (sign w ∷ us) ≡ some (every, us)
+pub target_all : (w : Text) (us : List Token) → (w ≟ bytes "all") ≡ true → any_target (sign w ∷ us) ≡ some (every, us)
 target_all w us q = rw q
 
-pub no_target : (w : Text) (us : List Token) → (w == bytes "all") ≡ false → any_target (sign w ∷ us) ≡ none
+pub no_target : (w : Text) (us : List Token) → (w ≟ bytes "all") ≡ false → any_target (sign w ∷ us) ≡ none
 no_target w us q = rw q
 
 -- ---- what k makes of an expression

@@ -10,7 +10,7 @@ use borrow.Author.Tests.{eq-eqb, ne_eqb}
 use lib.Dec.{eqb, leb→le, le→leb}
 use lib.ListN.{length, get_or, drop, replicate}
 use lib.Seq.{drop-cons}
-use Rattle.language.specs.Text.{Text, if◌then◌else◌, decimal}
+use Rattle.language.specs.Text.{Text, when◌then◌else◌, decimal}
 use Rattle.language.specs.State.{last_count}
 use Rattle.language.specs.Encode.{head_text}
 use Rattle.language.specs.Former.{former_head}
@@ -59,7 +59,7 @@ seen_all true a h = sym (ne_eqb a 0 (λ e. omega arith))
 -- ---- the letter of the first line
 
 letter_of : Bool → ℕ
-letter_of b = if b then 79 else 67
+letter_of b = when b then 79 else 67
 
 letter_low : (b : Bool) → 0 < letter_of b
 unfolding letter_of

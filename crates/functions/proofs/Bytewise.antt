@@ -10,20 +10,20 @@ use lib.Dec.{leb}
 use lib.Seq.{take_all}
 use borrow.Author.Tests.{le-leb, lt-leb}
 use native.Mathlib.Nat.{sub-zero}
-use Rattle.language.specs.Text.{Text, bytes, if◌then◌else◌}
+use Rattle.language.specs.Text.{Text, bytes, when◌then◌else◌}
 use Rattle.language.specs.Encode.{line_of, value_text}
 use Rattle.language.specs.Functions.{lower_byte, cut}
 use Rattle.value_text.specs.Writing.{Written, field_line}
 
 module _ (b : ℕ) where
   pub below_letters : b < 65 → b ≡ lower_byte b
-  below_letters h = sym (ap (λ (c : Bool). if◌then◌else◌ {A = ℕ} (c && leb b 90) (b + 32) b) (lt-leb 65 b h))
+  below_letters h = sym (ap (λ (c : Bool). when◌then◌else◌ {A = ℕ} (c && leb b 90) (b + 32) b) (lt-leb 65 b h))
 
   pub past_letters : 65 ≤ b → 90 < b → b ≡ lower_byte b
-  past_letters h k = sym (λ i. if◌then◌else◌ {A = ℕ} (le-leb 65 b h i && lt-leb b 90 k i) (b + 32) b)
+  past_letters h k = sym (λ i. when◌then◌else◌ {A = ℕ} (le-leb 65 b h i && lt-leb b 90 k i) (b + 32) b)
 
   pub large_letter : 65 ≤ b → b ≤ 90 → b + 32 ≡ lower_byte b
-  large_letter h k = sym (λ i. if◌then◌else◌ {A = ℕ} (le-leb 65 b h i && le-leb b 90 k i) (b + 32) b)
+  large_letter h k = sym (λ i. when◌then◌else◌ {A = ℕ} (le-leb 65 b h i && le-leb b 90 k i) (b + 32) b)
 
 -- the byte at a place
 pub lower_at : (t : Text) (i : ℕ) → lower_byte (get_or t i 0) ≡ get_or (map lower_byte t) i 0

@@ -8,7 +8,7 @@ use native.Mathlib.Omega.{arith}
 use lib.Dec.{eqb}
 use lib.ListN.{length, get_or, drop}
 use lib.Seq.{drop-cons}
-use Rattle.language.specs.Text.{Text, if◌then◌else◌, ◌==◌, any, keep, member}
+use Rattle.language.specs.Text.{Text, when◌then◌else◌, ◌≟◌, any, keep, member}
 
 pub no_bytes : (w : Text) → length w ≡ 0 → w ≡ []
 no_bytes [] h = refl
@@ -27,8 +27,8 @@ by_first b w ((c ∷ u) ∷ ts) = go (eqb b c) refl (by_first b w ts)
         (t : Bool)
         → eqb b c ≡ t
         → member (b ∷ w) ts ≡ member (b ∷ w) (keep (starts_with b) ts)
-        → ((t && (w == u)) || member (b ∷ w) ts)
-        ≡ member (b ∷ w) (if t then (c ∷ u) ∷ keep (starts_with b) ts else keep (starts_with b) ts)
+        → ((t && (w ≟ u)) || member (b ∷ w) ts)
+        ≡ member (b ∷ w) (when t then (c ∷ u) ∷ keep (starts_with b) ts else keep (starts_with b) ts)
     go true e ih = rw (e, ih)
     go false e ih = ih
 
@@ -40,7 +40,7 @@ none_starts b (u ∷ ts) h = go (starts_with b u) h (none_starts b ts)
         (t : Bool)
         → (t || any (starts_with b) ts) ≡ false
         → (any (starts_with b) ts ≡ false → keep (starts_with b) ts ≡ [])
-        → (if t then u ∷ keep (starts_with b) ts else keep (starts_with b) ts) ≡ []
+        → (when t then u ∷ keep (starts_with b) ts else keep (starts_with b) ts) ≡ []
     go true h ih = cc
     go false h ih = ih h
 

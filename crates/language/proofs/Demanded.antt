@@ -7,7 +7,7 @@ use mathlib.Core.Bool.{Bool, true, false, not}
 use mathlib.Core.Option.{Option, none, some}
 use lib.Dec.{T, not_T, leb, le→leb, leb→le, nleb→lt}
 use lib.ListN.{length}
-use Rattle.language.specs.Text.{Text, if◌then◌else◌, present}
+use Rattle.language.specs.Text.{Text, when◌then◌else◌, present}
 use Rattle.language.specs.Syntax.{Right}
 use Rattle.language.specs.Identifiers.{is_string}
 use Rattle.language.specs.Commands.{Refusal, DENIED, FAILED, FULL}
@@ -154,27 +154,27 @@ one FULL = refl
 
 module _ (s : Store) (p x : Text) where
   unknown_principal : (o : Option Right) → ¬ T (present (named s.principals p)) → question s p x o ≡ wrong 6
-  unknown_principal none h = ap (λ c. if c then wrong 7 else wrong 6) (false_of (present (named s.principals p)) h)
+  unknown_principal none h = ap (λ c. when c then wrong 7 else wrong 6) (false_of (present (named s.principals p)) h)
   unknown_principal (some r) h =
-      ap (λ c. if not c then wrong 6 else if not (present (value_in s.variables x)) then wrong 7 else length_answer (chain_length s r x p)) (false_of (present (named s.principals p)) h)
+      ap (λ c. when not c then wrong 6 else when not (present (value_in s.variables x)) then wrong 7 else length_answer (chain_length s r x p)) (false_of (present (named s.principals p)) h)
 
   module _ (h : T (present (named s.principals p))) where
-    known : (r : Right) → question s p x (some r) ≡ (if not (present (value_in s.variables x)) then wrong 7 else length_answer (chain_length s r x p))
+    known : (r : Right) → question s p x (some r) ≡ (when not (present (value_in s.variables x)) then wrong 7 else length_answer (chain_length s r x p))
     known r =
-        ap (λ c. if not c then wrong 6 else if not (present (value_in s.variables x)) then wrong 7 else length_answer (chain_length s r x p)) (true_of (present (named s.principals p)) h)
+        ap (λ c. when not c then wrong 6 else when not (present (value_in s.variables x)) then wrong 7 else length_answer (chain_length s r x p)) (true_of (present (named s.principals p)) h)
 
     unknown_right : (o : Option Right) → ¬ T (present o) → question s p x o ≡ wrong 7
-    unknown_right none k = ap (λ c. if c then wrong 7 else wrong 6) (true_of (present (named s.principals p)) h)
+    unknown_right none k = ap (λ c. when c then wrong 7 else wrong 6) (true_of (present (named s.principals p)) h)
     unknown_right (some r) k = absurd (k tt)
 
     unknown_variable : (o : Option Right) → ¬ T (present (value_in s.variables x)) → question s p x o ≡ wrong 7
-    unknown_variable none k = ap (λ c. if c then wrong 7 else wrong 6) (true_of (present (named s.principals p)) h)
-    unknown_variable (some r) k = known r ∙ ap (λ c. if not c then wrong 7 else length_answer (chain_length s r x p)) (false_of (present (value_in s.variables x)) k)
+    unknown_variable none k = ap (λ c. when c then wrong 7 else wrong 6) (true_of (present (named s.principals p)) h)
+    unknown_variable (some r) k = known r ∙ ap (λ c. when not c then wrong 7 else length_answer (chain_length s r x p)) (false_of (present (value_in s.variables x)) k)
 
     rightly_asked : (o : Option Right) → T (present (value_in s.variables x)) → T (present o) → IsRight (question s p x o)
     rightly_asked none k l = absurd l
     rightly_asked (some r) k l =
-        subst IsRight (sym (known r ∙ ap (λ c. if not c then wrong 7 else length_answer (chain_length s r x p)) (true_of (present (value_in s.variables x)) k))) (go (chain_length s r x p))
+        subst IsRight (sym (known r ∙ ap (λ c. when not c then wrong 7 else length_answer (chain_length s r x p)) (true_of (present (value_in s.variables x)) k))) (go (chain_length s r x p))
       where
         go : (o : Option ℕ) → IsRight (length_answer o)
         go none = tt

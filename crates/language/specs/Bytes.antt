@@ -1,7 +1,7 @@
 -- Document 01, "Program text": every byte belongs to one class; the alphabets of words, strings and comments.
 use Rattle.std.specs.Prelude.{ℕ, Bool, true, false, ◌&&◌, ◌||◌, leb, eqb}
 use Prim.Native.Char.{Char, code}
-use Rattle.language.specs.Text.{Text, bytes, if◌then◌else◌, any}
+use Rattle.language.specs.Text.{Text, bytes, when◌then◌else◌, any}
 
 infix 40 ◌is◌ ◌∈◌
 -- byte b is the character c
@@ -26,11 +26,11 @@ marks = bytes "_,;:.?!-=/>{}[]()*\""
 
 abbrev pub class : ℕ → Class
 class b =
-    if between "a" "z" b || between "A" "Z" b then letter
-    else if between "0" "9" b then digit
-    else if b is " " then space
-    else if b is "\n" then newline
-    else if b ∈ marks then mark b
+    when between "a" "z" b || between "A" "Z" b then letter
+    else when between "0" "9" b then digit
+    else when b is " " then space
+    else when b is "\n" then newline
+    else when b ∈ marks then mark b
     else foreign
 
 -- the first byte of an identifier

@@ -6,7 +6,7 @@
 use Rattle.std.specs.Prelude.{ℕ, ◌+◌, Bool, true, false, ◌&&◌, ◌||◌, not, List, [], ◌∷◌, ◌++◌, map, ltb}
 use Prim.Native.String.{String}
 use Rattle.std.proofs.Math.Option.{Option, none, some}
-use Rattle.language.specs.Text.{Text, if◌then◌else◌, ◌==◌, any, all, keep, sum}
+use Rattle.language.specs.Text.{Text, when◌then◌else◌, ◌≟◌, any, all, keep, sum}
 use Rattle.language.specs.Syntax.{Name, Right, read, write, append, delegate, rights, Expr, Target, every, only, Command, create_principal, change_password, set, append_to, local, foreach, filtereach, set_delegation, delete_delegation, default_delegator, exit, return}
 use Rattle.language.specs.State as S
 use Rattle.language.specs.State.{Element, Value, list, Principal, Variable, Assertion, Store, admin, put, enter, withdraw}
@@ -27,11 +27,11 @@ pub record Need : Type 0 where
 
 -- the sender needs one of these rights on x, where that is a shared variable
 abbrev pub need : Session → List Right → Name → List Need
-need s rs x = if is_shared s x then record { holder = s.sender; one_of = rs; variable = x } ∷ [] else []
+need s rs x = when is_shared s x then record { holder = s.sender; one_of = rs; variable = x } ∷ [] else []
 
 -- the elements that foreach and filtereach go through: x is a list, and y is undefined
 abbrev pub elements : Session → Name → Name → Option (List Element)
-elements s y x = if is_defined s y then none else list_of s x
+elements s y x = when is_defined s y then none else list_of s x
 
 -- y stands for an element, last among the locals
 abbrev pub with_element : Session → Name → Element → Session
@@ -72,10 +72,10 @@ ruled s (foreach y x e) = need s (read ∷ []) x ++ need s (write ∷ []) x
 ruled s (filtereach y x e) = need s (read ∷ []) x ++ need s (write ∷ []) x
 ruled s (set_delegation every q r p) = []
 ruled s (set_delegation (only x) q r p) =
-    if is_principal s q && is_shared s x then record { holder = q; one_of = delegate ∷ []; variable = x } ∷ [] else []
+    when is_principal s q && is_shared s x then record { holder = q; one_of = delegate ∷ []; variable = x } ∷ [] else []
 ruled s (delete_delegation every q r p) = []
 ruled s (delete_delegation (only x) q r p) =
-    if (s.sender == q) && not (s.sender == p) && not (s.sender == admin) then need s (delegate ∷ []) x else []
+    when (s.sender ≟ q) && not (s.sender ≟ p) && not (s.sender ≟ admin) then need s (delegate ∷ []) x else []
 ruled s (default_delegator p) = []
 ruled s exit = []
 ruled s (return e) = []
@@ -93,7 +93,7 @@ met s n = any (λ r. has s.store r n.variable n.holder) n.one_of
 
 -- the sender is none of these
 abbrev pub is_none : Session → List Name → Bool
-is_none s ps = all (λ p. not (s.sender == p)) ps
+is_none s ps = all (λ p. not (s.sender ≟ p)) ps
 
 -- reserved to others, whatever the rights
 abbrev pub reserved : Session → Command → Bool
@@ -177,17 +177,17 @@ created s p t = enter_all (with_principal s p t) (delegations rights (with_princ
 
 -- p's password is t
 abbrev pub changed : Name → Text → Principal → Principal
-changed p t k = record { name = k.name; password = if k.name == p then some t else k.password; count = k.count }
+changed p t k = record { name = k.name; password = when k.name ≟ p then some t else k.password; count = k.count }
 
 -- admin delegates all four rights on a new variable to the sender, unless that is admin
 abbrev pub granted : Session → Name → List Assertion
 granted s x =
-    if s.sender == admin then [] else map (λ r. record { variable = x; from = admin; right = r; to = s.sender }) rights
+    when s.sender ≟ admin then [] else map (λ r. record { variable = x; from = admin; right = r; to = s.sender }) rights
 
 abbrev pub assign : Session → Name → Value → Session
 assign s x v =
-    if is_local s x then with_locals s (put x v s.locals)
-    else if is_shared s x then with_store s (with_variables s.store (put x v s.store.variables))
+    when is_local s x then with_locals s (put x v s.locals)
+    else when is_shared s x then with_store s (with_variables s.store (put x v s.store.variables))
     else with_store s (enter_all (with_variables s.store (put x v s.store.variables)) (granted s x))
 
 -- a list is joined on, anything else added as one element
@@ -286,7 +286,7 @@ abbrev pub verdict : Bool → Outcome Effect → Step
 verdict true o = refused DENIED
 verdict false fails = refused FAILED
 verdict false fills = refused FULL
-verdict false (gives f) = if heavy f then refused FULL else went f
+verdict false (gives f) = when heavy f then refused FULL else went f
 
 abbrev pub step : Session → Command → Step
 step s c = verdict (denied s c) (effect s c)

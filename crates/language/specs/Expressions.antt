@@ -1,6 +1,6 @@
 -- Document 01, "Values", and requests M-100 and M-106: what an expression comes to, whatever the rights, and which names it evaluates.
 use Rattle.std.specs.Prelude.{ℕ, ◌+◌, Bool, not, List, [], ◌∷◌, ◌++◌, ltb}
-use Rattle.language.specs.Text.{if◌then◌else◌, any}
+use Rattle.language.specs.Text.{when◌then◌else◌, any}
 use Rattle.language.specs.Syntax.{Name, Operand, name, dot, quoted, Binding, Term, single, nothing, fields, tolower, call, compare, Expr, term, let_in}
 use Rattle.language.specs.State.{Value, list}
 use Rattle.language.specs.Weight.{limit, value_weight, variable_weight}
@@ -15,7 +15,7 @@ is_heavy v = ltb limit (value_weight v)
 
 -- a result; a function's arguments weigh like any value
 abbrev pub weighed : List Value → Value → Outcome Value
-weighed arguments v = if any is_heavy (v ∷ arguments) then fills else gives v
+weighed arguments v = when any is_heavy (v ∷ arguments) then fills else gives v
 
 abbrev pub term_value : Session → Term → Outcome Value
 term_value s (single o) = do
@@ -76,7 +76,7 @@ bound_with env x v = env.bound + variable_weight (record { name = x; value = v }
 -- x lives too, unless they weigh too much
 abbrev pub bind : Environment → Name → Value → Outcome Environment
 bind env x v =
-    if ltb limit (bound_with env x v) then fills else gives (record { session = with_name env.session x v; bound = bound_with env x v })
+    when ltb limit (bound_with env x v) then fills else gives (record { session = with_name env.session x v; bound = bound_with env x v })
 
 -- where the second expression is tried: x is undefined, the first comes to a value, and x may hold it. The name is asked before the first's
 -- outcome, since FAILED goes before FULL; what the first evaluates counts in any case (`names_within`), since DENIED goes before both.

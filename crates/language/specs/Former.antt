@@ -2,7 +2,7 @@
 -- and a principal's line has none. A principal weighed 10 less.
 use Rattle.std.specs.Prelude.{◌≡◌, ℕ, ◌+◌, Bool, ◌&&◌, [], ◌∷◌, ◌++◌, T, eqb, leb}
 use Rattle.std.proofs.Math.Option.{Option, none, some}
-use Rattle.language.specs.Text.{Text, bytes, parts, joined, decimal, sum, all, if◌then◌else◌, ◌>>=◌, ◌>>◌, given, ◌==◌}
+use Rattle.language.specs.Text.{Text, bytes, parts, joined, decimal, sum, all, when◌then◌else◌, ◌>>=◌, ◌>>◌, given, ◌≟◌}
 use Rattle.language.specs.Syntax.{Name}
 use Rattle.language.specs.State.{Principal, Store, last_count}
 use Rattle.language.specs.Weight.{limit, name_weight, password_weight, principal_weight, variable_weight, assertion_weight, store_weight}
@@ -11,7 +11,7 @@ use Rattle.language.specs.Encode.{newline, line_of, principal_text, delegator_te
 use Rattle.language.specs.Decode.{read_lines}
 
 abbrev pub former_head : Bool → ℕ → Text
-former_head is_open n = line_of ((if is_open then bytes "O" else bytes "C") ∷ decimal n ∷ [])
+former_head is_open n = line_of ((when is_open then bytes "O" else bytes "C") ∷ decimal n ∷ [])
 
 abbrev pub former_line : Name → Option Text → Text
 former_line p none = line_of (bytes "N" ∷ p ∷ [])
@@ -54,7 +54,7 @@ pub record FormerHolds (buffer : Text) (n : ℕ) (s : Store) : Type 0 where
 abbrev pub decode_former : Text → Option Store
 decode_former buffer = do
   b ← read_lines (parts newline buffer)
-  given (valid_former b.count b.store && (padded (former_text b.count b.store) == buffer))
+  given (valid_former b.count b.store && (padded (former_text b.count b.store) ≟ buffer))
   some b.store
 
 -- ---- the lines of now or the former ones, for what reads both

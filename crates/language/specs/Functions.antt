@@ -1,7 +1,7 @@
 -- Requests M-100, M-104 and M-106: what the functions make of values, where these are strings, and of prices; and when two values are the same.
 use Rattle.std.specs.Prelude.{ℕ, ◌+◌, Bool, true, false, ◌&&◌, not, List, [], ◌∷◌, ◌++◌, map, length, take, drop}
 use Rattle.std.proofs.Math.Option.{Option, some}
-use Rattle.language.specs.Text.{Text, bytes, if◌then◌else◌, ◌>>=◌, ◌==◌, any, all}
+use Rattle.language.specs.Text.{Text, bytes, when◌then◌else◌, ◌>>=◌, ◌≟◌, any, all}
 use Rattle.language.specs.Bytes.{between}
 use Rattle.language.specs.Syntax.{Operation, Function, split, concat, arithmetic, Comparison, equal, notequal}
 use Rattle.language.specs.State.{Field, Element, string, fields, Value, single}
@@ -9,7 +9,7 @@ use Rattle.language.specs.Values.{as_string, as_element}
 use Rattle.language.specs.Prices.{price, price_text, reckoned}
 
 abbrev pub lower_byte : ℕ → ℕ
-lower_byte b = if between "A" "Z" b then b + 32 else b
+lower_byte b = when between "A" "Z" b then b + 32 else b
 
 abbrev pub lowercase : Value → Option Value
 lowercase v = do
@@ -42,7 +42,7 @@ apply f v w = do
 
 -- the labels of a record are distinct, so two records are the same where each holds the other's fields
 abbrev pub same_field : Field → Field → Bool
-same_field f g = (f.label == g.label) && (f.text == g.text)
+same_field f g = (f.label ≟ g.label) && (f.text ≟ g.text)
 
 abbrev pub holds_all : List Field → List Field → Bool
 holds_all fs gs = all (λ g. any (same_field g) fs) gs
@@ -51,7 +51,7 @@ abbrev pub same_fields : List Field → List Field → Bool
 same_fields fs gs = holds_all fs gs && holds_all gs fs
 
 abbrev pub same_element : Element → Element → Bool
-same_element (string t) (string u) = t == u
+same_element (string t) (string u) = t ≟ u
 same_element (string t) (fields gs) = false
 same_element (fields fs) (string u) = false
 same_element (fields fs) (fields gs) = same_fields fs gs

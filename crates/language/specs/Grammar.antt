@@ -2,7 +2,7 @@
 use Rattle.std.specs.Prelude.{ℕ, zero, suc, List, [], ◌∷◌, length}
 use Prim.Native.String.{String}
 use Rattle.std.proofs.Math.Option.{Option, none, some}
-use Rattle.language.specs.Text.{Text, bytes, if◌then◌else◌, ◌==◌, ◌or_else◌}
+use Rattle.language.specs.Text.{Text, bytes, when◌then◌else◌, ◌≟◌, ◌or_else◌}
 use Rattle.language.specs.Tokens.{Token, sign, ident, text, wrong}
 use Rattle.language.specs.Syntax.{Name, Right, read, write, append, delegate, Operand, name, dot, quoted, Binding, Operation, add, sub, times, per, Function, split, concat, arithmetic, Comparison, equal, notequal, Term, single, nothing, fields, tolower, call, compare, Expr, term, let_in}
 use Rattle.language.specs.Syntax.{Target, every, only, Command, create_principal, change_password, set, append_to, local, foreach, filtereach, set_delegation, delete_delegation, default_delegator, exit, return}
@@ -34,7 +34,7 @@ m ∣ n = λ ts. m ts or_else n ts
 -- a keyword or a mark, by its spelling
 abbrev pub the_sign : Text → Reader (Unit {0})
 the_sign s [] = none
-the_sign s (sign w ∷ ts) = if w == s then some (tt, ts) else none
+the_sign s (sign w ∷ ts) = when w ≟ s then some (tt, ts) else none
 the_sign s (ident w ∷ ts) = none
 the_sign s (text w ∷ ts) = none
 the_sign s (wrong ∷ ts) = none
@@ -75,10 +75,10 @@ any_fields (suc n) = do
 -- the operation on two prices that a keyword names
 abbrev pub operation_of : Text → Option Operation
 operation_of w =
-    if w == bytes "add" then some add
-    else if w == bytes "sub" then some sub
-    else if w == bytes "times" then some times
-    else if w == bytes "per" then some per
+    when w ≟ bytes "add" then some add
+    else when w ≟ bytes "sub" then some sub
+    else when w ≟ bytes "times" then some times
+    else when w ≟ bytes "per" then some per
     else none
 
 abbrev pub function_for : Option Operation → Option Function
@@ -88,8 +88,8 @@ function_for (some o) = some (arithmetic o)
 -- the function of two strings that a keyword names
 abbrev pub function_of : Text → Option Function
 function_of w =
-    if w == bytes "split" then some split
-    else if w == bytes "concat" then some concat
+    when w ≟ bytes "split" then some split
+    else when w ≟ bytes "concat" then some concat
     else function_for (operation_of w)
 
 abbrev pub ahead : {A : Type 0} → Option A → Reader A
@@ -106,8 +106,8 @@ any_function (wrong ∷ ts) = none
 -- the comparison that a keyword names
 abbrev pub comparison_of : Text → Option Comparison
 comparison_of w =
-    if w == bytes "equal" then some equal
-    else if w == bytes "notequal" then some notequal
+    when w ≟ bytes "equal" then some equal
+    else when w ≟ bytes "notequal" then some notequal
     else none
 
 abbrev pub any_comparison : Reader Comparison

@@ -2,7 +2,7 @@
 use Rattle.std.specs.Prelude.{ℕ, suc, ◌+◌, ◌*◌, ◌/◌, ◌%◌, ◌≤◌, ◌<◌, ◌≡◌, Bool, true, false, ◌&&◌, not, [], ◌∷◌, ◌++◌, ℤ, pos, negsuc, neg_ℤ, nat_abs, ◌+ℤ◌, ◌-ℤ◌, ◌*ℤ◌, leb, ltb, eqb}
 use Rattle.std.proofs.Math.Option.{Option, none, some}
 use Rattle.std.specs.Int.Signed.{non_neg}
-use Rattle.language.specs.Text.{Text, bytes, if◌then◌else◌, ◌==◌, keep, decimal}
+use Rattle.language.specs.Text.{Text, bytes, when◌then◌else◌, ◌≟◌, keep, decimal}
 use Rattle.language.specs.Bytes.{◌is◌, between}
 use Rattle.language.specs.Syntax.{Operation, add, sub, times, per}
 use Rattle.language.specs.Decode.{number}
@@ -46,13 +46,13 @@ reading t = signed (starts_minus t) (digits_of t)
 
 -- A text is a price where it is the text of what was read: so an amount has one text, and minus zero, needless zeros and other bytes have none.
 abbrev pub price : Text → Option ℤ
-price t = if in_range (reading t) && (price_text (reading t) == t) then some (reading t) else none
+price t = when in_range (reading t) && (price_text (reading t) ≟ t) then some (reading t) else none
 
 -- ---- rounding
 
 -- t / d to the nearest whole; a half goes up
 abbrev pub nearest : ℕ → ℕ → ℕ
-nearest t d = if ltb (2 * (t % d)) d then t / d else t / d + 1
+nearest t d = when ltb (2 * (t % d)) d then t / d else t / d + 1
 
 -- exactly one of the two
 abbrev pub differ : Bool → Bool → Bool
@@ -75,11 +75,11 @@ abbrev pub is_zero : ℤ → Bool
 is_zero a = eqb (nat_abs a) 0
 
 abbrev pub ranged : ℤ → Option ℤ
-ranged a = if in_range a then some a else none
+ranged a = when in_range a then some a else none
 
 -- rounded first, then held against the range
 abbrev pub reckoned : Operation → ℤ → ℤ → Option ℤ
 reckoned add a b = ranged (a +ℤ b)
 reckoned sub a b = ranged (a -ℤ b)
 reckoned times a b = ranged (rounded (a *ℤ b) (pos 100))
-reckoned per a b = if is_zero b then none else ranged (rounded (a *ℤ pos 100) b)
+reckoned per a b = when is_zero b then none else ranged (rounded (a *ℤ pos 100) b)

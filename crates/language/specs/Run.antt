@@ -1,7 +1,7 @@
 -- Document 01, "A run": whole programs.
 use Rattle.std.specs.Prelude.{ℕ, ◌+◌, Bool, false, List, [], ◌∷◌, ◌++◌, map, length, eqb, ltb}
 use Rattle.std.proofs.Math.Option.{Option, none, some}
-use Rattle.language.specs.Text.{Text, if◌then◌else◌, ◌==◌, sum}
+use Rattle.language.specs.Text.{Text, when◌then◌else◌, ◌≟◌, sum}
 use Rattle.language.specs.Syntax.{Name, Command, Program}
 use Rattle.language.specs.State.{Principal, Store, last_count, named}
 use Rattle.language.specs.Output.{status}
@@ -33,11 +33,11 @@ pub data Login : Type 0 where
 
 abbrev pub opens : Text → Option Text → Bool
 opens t none = false
-opens t (some u) = t == u
+opens t (some u) = t ≟ u
 
 abbrev pub login_as : Text → Option Principal → Login
 login_as t none = mistaken
-login_as t (some k) = if opens t k.password then right else mistaken
+login_as t (some k) = when opens t k.password then right else mistaken
 
 abbrev pub login : Store → Program → Login
 login s p = login_as p.password (named s.principals p.sender)
@@ -48,10 +48,10 @@ begin s p = record { store = s; sender = p.sender; locals = [] }
 
 -- one completed program more; a count stays at its last value (document 02, M-101)
 abbrev pub counted : ℕ → ℕ
-counted n = if ltb n last_count then n + 1 else n
+counted n = when ltb n last_count then n + 1 else n
 
 abbrev pub counts : Name → Principal → Principal
-counts p k = record { name = k.name; password = k.password; count = if k.name == p then counted k.count else k.count }
+counts p k = record { name = k.name; password = k.password; count = when k.name ≟ p then counted k.count else k.count }
 
 -- a completed program counts for its sender
 abbrev pub tally : Name → Store → Store
@@ -88,10 +88,10 @@ pub data Kind : Type 0 where
 
 abbrev pub kind_of : End → Kind
 kind_of (refusal r) = stopped r
-kind_of (completed lines s) = if s.is_open then returned else exited
+kind_of (completed lines s) = when s.is_open then returned else exited
 
 abbrev pub line_count : Text → ℕ
-line_count t = sum (λ b. if eqb b 10 then 1 else 0) t
+line_count t = sum (λ b. when eqb b 10 then 1 else 0) t
 
 pub record Result : Type 0 where
   pub kind : Kind

@@ -1,6 +1,6 @@
 -- Document 02, M-102: who may do what to one shared variable, a line of 40 bytes for each principal in order of creation (02's sheet).
 use Rattle.std.specs.Prelude.{ℕ, ◌*◌, ◌-◌, Bool, ◌∷◌, ◌++◌, length, take, drop, replicate, leb}
-use Rattle.language.specs.Text.{Text, bytes, joined, if◌then◌else◌}
+use Rattle.language.specs.Text.{Text, bytes, joined, when◌then◌else◌}
 use Rattle.language.specs.Syntax.{Name, Right, read, write, append, delegate, rights}
 use Rattle.language.specs.State.{Principal, Store}
 use Rattle.language.specs.Chains.{has}
@@ -11,11 +11,11 @@ space = 32
 
 -- a name in 34 columns; of a longer one the first 33 characters and `~`
 abbrev pub shown_name : Name → Text
-shown_name p = if leb (length p) 34 then p ++ replicate (34 - length p) space else take 33 p ++ bytes "~"
+shown_name p = when leb (length p) 34 then p ++ replicate (34 - length p) space else take 33 p ++ bytes "~"
 
 -- a right's letter, or a point where it is missing
 abbrev pub shown_right : Bool → Right → Text
-shown_right had r = if had then letter r else bytes "."
+shown_right had r = when had then letter r else bytes "."
 
 -- a principal's line, by which rights it has
 abbrev pub shown_line : Name → (Right → Bool) → Text

@@ -1,6 +1,6 @@
 -- Document 01, "Program text", and request M-100 for parentheses: tokens, the longest taken; the first one of a text, and all of a line.
 use Rattle.std.specs.Prelude.{ℕ, zero, suc, List, [], ◌∷◌, length, leb}
-use Rattle.language.specs.Text.{Text, bytes, if◌then◌else◌, ◌==◌, member, front, past}
+use Rattle.language.specs.Text.{Text, bytes, when◌then◌else◌, ◌≟◌, member, front, past}
 use Rattle.language.specs.Bytes.{◌is◌, ◌∈◌, Class, letter, digit, space, newline, foreign, mark, class, word_byte, string_byte, comment_byte}
 use Rattle.language.specs.Identifiers.{keywords, longest_name}
 
@@ -20,27 +20,27 @@ pub data Lexeme : Type 0 where
 -- a run of letters, digits and underscores is a keyword or, if it is not too long, an identifier
 abbrev pub word : Text → ℕ → Lexeme
 word w n =
-    if member w keywords then token (sign w) n
-    else if leb (length w) longest_name then token (ident w) n
+    when member w keywords then token (sign w) n
+    else when leb (length w) longest_name then token (ident w) n
     else bad
 
 -- a string whose characters are s, if a quote comes after them
 abbrev pub quoted_by : Text → Text → Lexeme
 quoted_by s [] = bad
-quoted_by s (b ∷ bs) = if b is "\"" then token (text s) (suc (length s)) else bad
+quoted_by s (b ∷ bs) = when b is "\"" then token (text s) (suc (length s)) else bad
 
 -- a comment, if the line ends after its alphabet does
 abbrev pub comment : Text → Lexeme
 comment [] = end
-comment (b ∷ bs) = if b is "\n" then end else bad
+comment (b ∷ bs) = when b is "\n" then end else bad
 
 -- a mark of two bytes, of which the first is b
 abbrev pub pair : ℕ → Text → Lexeme
 pair b [] = bad
 pair b (c ∷ cs) =
-    if (b ∷ c ∷ []) == bytes "->" then token (sign (bytes "->")) 1
-    else if (b ∷ c ∷ []) == bytes "[]" then token (sign (bytes "[]")) 1
-    else if (b ∷ c ∷ []) == bytes "//" then comment (past comment_byte cs)
+    when (b ∷ c ∷ []) ≟ bytes "->" then token (sign (bytes "->")) 1
+    else when (b ∷ c ∷ []) ≟ bytes "[]" then token (sign (bytes "[]")) 1
+    else when (b ∷ c ∷ []) ≟ bytes "//" then comment (past comment_byte cs)
     else bad
 
 -- a text that starts with a byte of a class
@@ -51,8 +51,8 @@ lexeme space b bs = gap
 lexeme newline b bs = end
 lexeme foreign b bs = bad
 lexeme (mark m) b bs =
-    if m is "\"" then quoted_by (front string_byte bs) (past string_byte bs)
-    else if m ∈ bytes "=.,{}()" then token (sign (m ∷ [])) 0
+    when m is "\"" then quoted_by (front string_byte bs) (past string_byte bs)
+    else when m ∈ bytes "=.,{}()" then token (sign (m ∷ [])) 0
     else pair m bs
 
 -- a lexeme's token in front of the tokens that `rest n` gives, those past n bytes more

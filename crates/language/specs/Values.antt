@@ -1,7 +1,7 @@
 -- Document 01, "Values": a running program, the values of its names, and what operands and records come to, whatever the rights.
 use Rattle.std.specs.Prelude.{Bool, ◌||◌, List, [], ◌∷◌, ◌++◌}
 use Rattle.std.proofs.Math.Option.{Option, none, some}
-use Rattle.language.specs.Text.{Text, if◌then◌else◌, ◌==◌, ◌>>=◌, ◌or_else◌, present, each, distinct}
+use Rattle.language.specs.Text.{Text, when◌then◌else◌, ◌≟◌, ◌>>=◌, ◌or_else◌, present, each, distinct}
 use Rattle.language.specs.Syntax.{Name, Operand, name, dot, quoted, Binding}
 use Rattle.language.specs.State as S
 use Rattle.language.specs.State.{Field, Element, Value, list, Variable, Store, named, value_in}
@@ -55,7 +55,7 @@ as_element (list es) = none
 
 abbrev pub text_of : List Field → Name → Option Text
 text_of [] y = none
-text_of (f ∷ rest) y = if f.label == y then some f.text else text_of rest y
+text_of (f ∷ rest) y = when f.label ≟ y then some f.text else text_of rest y
 
 abbrev pub operand_value : Session → Operand → Option Value
 operand_value s (name x) = lookup s x
@@ -76,7 +76,7 @@ field_value s b = do
 abbrev pub record_value : Session → List Binding → Option Value
 record_value s bs = do
   fs ← each (field_value s) bs
-  if distinct (S.labels fs) then some (S.single (S.fields fs)) else none
+  when distinct (S.labels fs) then some (S.single (S.fields fs)) else none
 
 -- the elements of x, where that is a list
 abbrev pub list_of : Session → Name → Option (List Element)

@@ -6,7 +6,7 @@ use mathlib.Core.Bool.{Bool, true, false}
 use mathlib.Core.List.{List, [], ◌∷◌, ◌++◌, append_assoc}
 use lib.ListN.{length, take, get_or, length-append}
 use borrow.Author.Tests.{lt-ltb, le-ltb}
-use Rattle.language.specs.Text.{Text, if◌then◌else◌}
+use Rattle.language.specs.Text.{Text, when◌then◌else◌}
 use Rattle.language.specs.State.{Value, Variable}
 use Rattle.language.specs.Encode.{variable_text, variables_text, value_text}
 use Rattle.language.specs.Weight.{limit}
@@ -46,10 +46,10 @@ module _ {s : Session} {k : Frame} {v : Value} {t : Text} {b : Texts} {heads len
   open_one = gives (environment s more total)
 
   pub binds_heavy : taken s k ≡ false → limit < total → opening s k (gives v) ≡ fills
-  binds_heavy e h = opening_free s k (gives v) e ∙ ap (λ (c : Bool). if c then fills else open_one) (lt-ltb limit total h)
+  binds_heavy e h = opening_free s k (gives v) e ∙ ap (λ (c : Bool). when c then fills else open_one) (lt-ltb limit total h)
 
   pub binds_fits : taken s k ≡ false → total ≤ limit → opening s k (gives v) ≡ gives (environment s more total)
-  binds_fits e h = opening_free s k (gives v) e ∙ ap (λ (c : Bool). if c then fills else open_one) (le-ltb limit total h)
+  binds_fits e h = opening_free s k (gives v) e ∙ ap (λ (c : Bool). when c then fills else open_one) (le-ltb limit total h)
 
   -- the text of the new variable takes four bytes at most for each of its weight
   text_takes : length (variables_text more) ≡ length (variables_text k.locals) + (3 + length k.name + length src)

@@ -8,7 +8,7 @@ use native.Mathlib.Omega.{arith}
 use lib.Dec.{eqb, leb}
 use lib.ListN.{length}
 use borrow.Author.Tests.{eqb-true}
-use Rattle.language.specs.Text.{if◌then◌else◌, bytes, front, past, ◌==◌, member}
+use Rattle.language.specs.Text.{when◌then◌else◌, bytes, front, past, ◌≟◌, member}
 use Rattle.language.specs.Bytes.{◌is◌, ◌∈◌, Class, class, letter, digit, space, newline, mark, foreign, word_byte, string_byte, comment_byte}
 use Rattle.language.specs.Identifiers.{keywords, longest_name}
 use Rattle.language.specs.Tokens.{Token, Lexeme, gap, end, token, bad, sign, ident, text, tokens, lex, lead, lexeme, quoted_by, comment, pair}
@@ -20,7 +20,7 @@ use Rattle.language.proofs.Logic.Tests.{and_false}
 abbrev pub line : List ℕ → List ℕ
 line = front (is_not 10)
 
-if_same : {A : Type 0} (t : Bool) (a : A) → (if t then a else a) ≡ a
+if_same : {A : Type 0} (t : Bool) (a : A) → (when t then a else a) ≡ a
 if_same true a = refl
 if_same false a = refl
 
@@ -29,7 +29,7 @@ run_line : (p : ℕ → Bool) → p 10 ≡ false → (xs : List ℕ) → front p
 run_line p z [] = refl
 run_line p z (x ∷ xs) = go (eqb x 10) refl (run_line p z xs)
   where
-    go : (t : Bool) → eqb x 10 ≡ t → front p (line xs) ≡ front p xs → front p (if not t then x ∷ line xs else []) ≡ front p (x ∷ xs)
+    go : (t : Bool) → eqb x 10 ≡ t → front p (line xs) ≡ front p xs → front p (when not t then x ∷ line xs else []) ≡ front p (x ∷ xs)
     go true e ih = rw (eqb-true x 10 e, z)
     go false e ih = rw ih
 
@@ -39,7 +39,7 @@ past_line p z [] = refl
 past_line p z (x ∷ xs) = go (eqb x 10) refl (p x) refl (past_line p z xs)
   where
     go : (t : Bool) → eqb x 10 ≡ t → (u : Bool) → p x ≡ u → past p (line xs) ≡ line (past p xs)
-        → past p (if not t then x ∷ line xs else []) ≡ line (if u then past p xs else x ∷ xs)
+        → past p (when not t then x ∷ line xs else []) ≡ line (when u then past p xs else x ∷ xs)
     go true e true q ih = let h : ◌≡◌ {A = Bool} true false = sym q ∙ ap p (eqb-true x 10 e) ∙ z in cc
     go true e false q ih = rw e
     go false e true q ih = rw q ih
@@ -49,7 +49,7 @@ quoted_line : (s ys : List ℕ) → quoted_by s (line ys) ≡ quoted_by s ys
 quoted_line s [] = refl
 quoted_line s (y ∷ ys) = go (eqb y 10) refl
   where
-    go : (t : Bool) → eqb y 10 ≡ t → quoted_by s (if not t then y ∷ line ys else []) ≡ quoted_by s (y ∷ ys)
+    go : (t : Bool) → eqb y 10 ≡ t → quoted_by s (when not t then y ∷ line ys else []) ≡ quoted_by s (y ∷ ys)
     go true e = rw (eqb-true y 10 e)
     go false e = refl
 
@@ -57,7 +57,7 @@ comment_line : (ys : List ℕ) → comment (line ys) ≡ comment ys
 comment_line [] = refl
 comment_line (y ∷ ys) = go (eqb y 10) refl
   where
-    go : (t : Bool) → eqb y 10 ≡ t → comment (if not t then y ∷ line ys else []) ≡ comment (y ∷ ys)
+    go : (t : Bool) → eqb y 10 ≡ t → comment (when not t then y ∷ line ys else []) ≡ comment (y ∷ ys)
     go true e = rw e
     go false e = refl
 
@@ -77,7 +77,7 @@ pair_line b (x ∷ xs) = go (eqb x 10) refl
     after : comment (past comment_byte (line xs)) ≡ comment (past comment_byte xs)
     after = ap comment (past_line comment_byte comment_10 xs) ∙ comment_line (past comment_byte xs)
 
-    go : (t : Bool) → eqb x 10 ≡ t → pair b (if not t then x ∷ line xs else []) ≡ pair b (x ∷ xs)
+    go : (t : Bool) → eqb x 10 ≡ t → pair b (when not t then x ∷ line xs else []) ≡ pair b (x ∷ xs)
     go true e = rw (eqb-true x 10 e, and_false (eqb b 45), and_false (eqb b 91), and_false (eqb b 47))
     go false e = rw after
 
@@ -97,7 +97,7 @@ Fits end k = Unit
 Fits (token t n) k = n ≤ k
 Fits bad k = Unit
 
-fits_if : (t : Bool) (l m : Lexeme) (k : ℕ) → Fits l k → Fits m k → Fits (if t then l else m) k
+fits_if : (t : Bool) (l m : Lexeme) (k : ℕ) → Fits l k → Fits m k → Fits (when t then l else m) k
 fits_if true l m k p q = p
 fits_if false l m k p q = q
 
@@ -106,7 +106,7 @@ run_past p [] = refl
 run_past p (x ∷ xs) = go (p x) (run_past p xs)
   where
     go : (t : Bool) → length (front p xs) + length (past p xs) ≡ length xs
-        → length (if t then x ∷ front p xs else []) + length (if t then past p xs else x ∷ xs) ≡ suc (length xs)
+        → length (when t then x ∷ front p xs else []) + length (when t then past p xs else x ∷ xs) ≡ suc (length xs)
     go true h = omega arith
     go false h = omega arith
 
@@ -122,25 +122,25 @@ fits_pair : (b : ℕ) (xs : List ℕ) → Fits (pair b xs) (length xs)
 fits_pair b [] = tt
 fits_pair b (x ∷ xs) =
     let k = suc (length xs) in
-    let l₃ = if ((b ∷ x ∷ []) == bytes "//") then comment (past comment_byte xs) else bad in
-    let l₂ = if ((b ∷ x ∷ []) == bytes "[]") then token (sign (bytes "[]")) 1 else l₃ in
-    let p₃ : Fits l₃ k = fits_if ((b ∷ x ∷ []) == bytes "//") (comment (past comment_byte xs)) bad k (fits_comment (past comment_byte xs) k) tt in
-    let p₂ : Fits l₂ k = fits_if ((b ∷ x ∷ []) == bytes "[]") (token (sign (bytes "[]")) 1) l₃ k (omega arith) p₃ in
-    fits_if ((b ∷ x ∷ []) == bytes "->") (token (sign (bytes "->")) 1) l₂ k (omega arith) p₂
+    let l₃ = when ((b ∷ x ∷ []) ≟ bytes "//") then comment (past comment_byte xs) else bad in
+    let l₂ = when ((b ∷ x ∷ []) ≟ bytes "[]") then token (sign (bytes "[]")) 1 else l₃ in
+    let p₃ : Fits l₃ k = fits_if ((b ∷ x ∷ []) ≟ bytes "//") (comment (past comment_byte xs)) bad k (fits_comment (past comment_byte xs) k) tt in
+    let p₂ : Fits l₂ k = fits_if ((b ∷ x ∷ []) ≟ bytes "[]") (token (sign (bytes "[]")) 1) l₃ k (omega arith) p₃ in
+    fits_if ((b ∷ x ∷ []) ≟ bytes "->") (token (sign (bytes "->")) 1) l₂ k (omega arith) p₂
 
 fits : (c : Class) (b : ℕ) (xs : List ℕ) → Fits (lexeme c b xs) (length xs)
 fits letter b xs =
     let w = b ∷ front word_byte xs in
     let n = length (front word_byte xs) in
     let k = length xs in
-    fits_if (member w keywords) (token (sign w) n) (if leb (length w) longest_name then token (ident w) n else bad) k (run_le word_byte xs)
+    fits_if (member w keywords) (token (sign w) n) (when leb (length w) longest_name then token (ident w) n else bad) k (run_le word_byte xs)
     (fits_if (leb (length w) longest_name) (token (ident w) n) bad k (run_le word_byte xs) tt)
 fits digit b xs = tt
 fits space b xs = tt
 fits newline b xs = tt
 fits foreign b xs = tt
 fits (mark m) b xs =
-    fits_if (m is "\"") (quoted_by (front string_byte xs) (past string_byte xs)) (if m ∈ bytes "=.,{}()" then token (sign (m ∷ [])) 0 else pair m xs) (length xs)
+    fits_if (m is "\"") (quoted_by (front string_byte xs) (past string_byte xs)) (when m ∈ bytes "=.,{}()" then token (sign (m ∷ [])) 0 else pair m xs) (length xs)
     (fits_quoted (front string_byte xs) (past string_byte xs) (length xs) (run_past string_byte xs))
     (fits_if (m ∈ bytes "=.,{}()") (token (sign (m ∷ [])) 0) (pair m xs) (length xs) (omega arith) (fits_pair m xs))
 
@@ -159,15 +159,15 @@ tokens_line [] k h = refl
 tokens_line (x ∷ xs) zero h = go (eqb x 10) refl (λ n. tokens_line xs n)
   where
     go : (t : Bool) → eqb x 10 ≡ t → ((n : ℕ) → n ≤ length (line xs) → tokens (line xs) n ≡ tokens xs n)
-        → tokens (if not t then x ∷ line xs else []) 0 ≡ tokens (x ∷ xs) 0
+        → tokens (when not t then x ∷ line xs else []) 0 ≡ tokens (x ∷ xs) 0
     go true e ih = rw (eqb-true x 10 e) (sym (newline_10 xs))
     go false e ih =
         lead_same (lexeme (class x) x (line xs)) (tokens (line xs)) (tokens xs) (length (line xs)) (fits (class x) x (line xs)) ih
         ∙ rw (lexeme_line (class x) x xs)
 tokens_line (x ∷ xs) (suc k) h = go (eqb x 10) refl h (λ n. tokens_line xs n)
   where
-    go : (t : Bool) → eqb x 10 ≡ t → suc k ≤ length (if not t then x ∷ line xs else []) → ((n : ℕ) → n ≤ length (line xs) → tokens (line xs) n ≡ tokens xs n)
-        → tokens (if not t then x ∷ line xs else []) (suc k) ≡ tokens xs k
+    go : (t : Bool) → eqb x 10 ≡ t → suc k ≤ length (when not t then x ∷ line xs else []) → ((n : ℕ) → n ≤ length (line xs) → tokens (line xs) n ≡ tokens xs n)
+        → tokens (when not t then x ∷ line xs else []) (suc k) ≡ tokens xs k
     go true e p ih = absurd (omega arith)
     go false e p ih = ih k (omega arith)
 

@@ -9,7 +9,7 @@ use mathlib.Core.List.{[], ◌∷◌, ◌++◌}
 use lib.Dec.{T, leb}
 use lib.ListN.{length, get_or, take, drop, take-append-drop, length-append, length-drop}
 use lib.Seq.{drop-cons, drop-drop, get_or-drop, get_or-append_seam}
-use Rattle.language.specs.Text.{Text, if◌then◌else◌, all, member, front}
+use Rattle.language.specs.Text.{Text, when◌then◌else◌, all, member, front}
 use Rattle.language.specs.Bytes.{class, is_letter, word_byte}
 use Rattle.language.specs.Identifiers.{base_keywords, is_word, is_name}
 use borrow.Author.Tests.{lt-leb, le-leb}
@@ -31,7 +31,7 @@ module _ (p : ℕ → Bool) where
   front_all [] = tt
   front_all (b ∷ t) = go (p b) refl (front_all t)
     where
-      go : (c : Bool) → p b ≡ c → T (all p (front p t)) → T (all p (if c then b ∷ front p t else []))
+      go : (c : Bool) → p b ≡ c → T (all p (front p t)) → T (all p (when c then b ∷ front p t else []))
       go true e h = and (p b) (all p (front p t)) (subst T (sym e) tt) h
       go false e h = tt
 
@@ -39,14 +39,14 @@ module _ (p : ℕ → Bool) where
     front_stop : (x r : Text) → T (all p x) → front p (x ++ stop ∷ r) ≡ x
     front_stop [] r h = go (p stop) outside
       where
-        go : (c : Bool) → c ≡ false → (if c then stop ∷ front p r else []) ≡ []
+        go : (c : Bool) → c ≡ false → (when c then stop ∷ front p r else []) ≡ []
         go true e = absurd (subst (λ (c : Bool). T c) e tt)
         go false e = refl
     front_stop (b ∷ x) r h =
         let (h₁, h₂) = both (p b) (all p x) h in
         go (p b) h₁ (front_stop x r h₂)
       where
-        go : (c : Bool) → T c → front p (x ++ stop ∷ r) ≡ x → (if c then b ∷ front p (x ++ stop ∷ r) else []) ≡ b ∷ x
+        go : (c : Bool) → T c → front p (x ++ stop ∷ r) ≡ x → (when c then b ∷ front p (x ++ stop ∷ r) else []) ≡ b ∷ x
         go true k e = ap (λ (l : Text). b ∷ l) e
         go false k e = absurd k
 

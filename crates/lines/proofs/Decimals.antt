@@ -10,7 +10,7 @@ use lib.Dec.{T, leb, leb→le, le→leb, ltb, lit≤}
 use lib.ListN.{length, get_or, drop, length-append, length-drop, get_or-append}
 use lib.Seq.{drop-cons, length-take-le, get_or-take, get_or-drop}
 use borrow.Author.Tests.{le-ltb, lt-ltb, ltb-false, lt-leb}
-use Rattle.language.specs.Text.{Text, if◌then◌else◌, all, digits, decimal}
+use Rattle.language.specs.Text.{Text, when◌then◌else◌, all, digits, decimal}
 use Rattle.language.specs.Decode.{number}
 use Rattle.language.proofs.Logic.Tests.{both, and, true_of, and_false}
 use Rattle.language.proofs.StateText.Clean.{decimal_number, digits_length, number_append}
@@ -45,7 +45,7 @@ digits_some : (k n : ℕ) → 0 < length (digits k n)
 digits_some zero n = lit≤ tt
 digits_some (suc k) n = go (ltb n 10)
   where
-    go : (c : Bool) → 0 < length (if c then (48 + n) ∷ [] else digits k (n / 10) ++ ((48 + n % 10) ∷ []))
+    go : (c : Bool) → 0 < length (when c then (48 + n) ∷ [] else digits k (n / 10) ++ ((48 + n % 10) ∷ []))
     go true = lit≤ tt
     go false = omega (arith, length-append (digits k (n / 10)) ((48 + n % 10) ∷ []))
 
@@ -55,7 +55,7 @@ digits_zero zero n h = omega arith
 digits_zero (suc k) n h = go (ltb n 10) refl (digits_zero k (n / 10)) h
   where
     go : (c : Bool) → ltb n 10 ≡ c → (get_or (digits k (n / 10)) 0 0 ≡ 48 → n / 10 ≡ 0)
-        → get_or (if c then (48 + n) ∷ [] else digits k (n / 10) ++ ((48 + n % 10) ∷ [])) 0 0 ≡ 48 → n ≡ 0
+        → get_or (when c then (48 + n) ∷ [] else digits k (n / 10) ++ ((48 + n % 10) ∷ [])) 0 0 ≡ 48 → n ≡ 0
     go true e ih g = omega arith
     go false e ih g =
         let m : n / 10 ≡ 0 = ih (sym (get_or-append (digits k (n / 10)) ((48 + n % 10) ∷ []) 0 0 (digits_some k (n / 10))) ∙ g) in
@@ -106,7 +106,7 @@ digits_back (suc k) [] c l h f =
     let (a, b) = digit_range c (both (is_digit c) true h).0 in
     let e : ltb (0 * 10 + (c - 48)) 10 ≡ true = lt-ltb (0 * 10 + (c - 48)) 10 (omega arith) in
     let s : 48 + (0 * 10 + (c - 48)) ≡ c = omega arith in
-    ap (λ (t : Bool). if t then (48 + (0 * 10 + (c - 48))) ∷ [] else digits k ((0 * 10 + (c - 48)) / 10) ++ ((48 + (0 * 10 + (c - 48)) % 10) ∷ [])) e
+    ap (λ (t : Bool). when t then (48 + (0 * 10 + (c - 48))) ∷ [] else digits k ((0 * 10 + (c - 48)) / 10) ++ ((48 + (0 * 10 + (c - 48)) % 10) ∷ [])) e
     ∙ ap (λ (x : ℕ). x ∷ []) s
 digits_back (suc k) (b ∷ u) c l h f = go (cut_last b u) (λ v d l' h' f'. digits_back k v d l' h' f')
   where
@@ -124,7 +124,7 @@ digits_back (suc k) (b ∷ u) c l h f = go (cut_last b u) (λ v d l' h' f'. digi
         let q : n / 10 ≡ m = omega arith in
         let r : n % 10 ≡ d = omega arith in
         let t : ltb n 10 ≡ false = le-ltb n 10 (omega arith) in
-        ap (λ (x : Bool). if x then (48 + n) ∷ [] else digits k (n / 10) ++ ((48 + n % 10) ∷ [])) t
+        ap (λ (x : Bool). when x then (48 + n) ∷ [] else digits k (n / 10) ++ ((48 + n % 10) ∷ [])) t
         ∙ ap (λ (x : ℕ). digits k x ++ ((48 + n % 10) ∷ [])) q
         ∙ ap (λ (y : Text). y ++ ((48 + n % 10) ∷ [])) ih
         ∙ ap (λ (x : ℕ). w ++ (48 + x) ∷ []) r

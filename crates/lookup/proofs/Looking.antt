@@ -7,7 +7,7 @@ use mathlib.Core.List.{List, [], ◌∷◌}
 use Prim.Native.Nat.{ℕ}
 use native.Mathlib.Omega.{arith}
 use lib.ListN.{length}
-use Rattle.language.specs.Text.{Text, if◌then◌else◌, any, present}
+use Rattle.language.specs.Text.{Text, when◌then◌else◌, any, present}
 use Rattle.language.specs.Syntax.{Name, Right, write, append, Expr, set, append_to}
 use Rattle.language.specs.State.{string, fields, Value, single, list}
 use Rattle.language.specs.Values.{Session, as_list, is_shared}
@@ -75,7 +75,7 @@ module _ (s : Session) (x : Name) (e : Expr) where
       two false = refl
 
       go : (c h : Bool) → has s.store r x s.sender ≡ h
-          → any (λ n. not (met s n)) (if c then record { holder = s.sender; one_of = r ∷ []; variable = x } ∷ [] else []) ≡ not (if c then has s.store r x s.sender else true)
+          → any (λ n. not (met s n)) (when c then record { holder = s.sender; one_of = r ∷ []; variable = x } ∷ [] else []) ≡ not (when c then has s.store r x s.sender else true)
       go true h q = two (has s.store r x s.sender)
       go false h q = refl
 
@@ -87,8 +87,8 @@ module _ (s : Session) (x : Name) (e : Expr) where
       two false true = refl
       two false false = refl
 
-      go : (c : Bool) → any (λ n. not (met s n)) (if c then record { holder = s.sender; one_of = write ∷ append ∷ []; variable = x } ∷ [] else [])
-          ≡ not ((if c then has s.store write x s.sender else true) || (if c then has s.store append x s.sender else true))
+      go : (c : Bool) → any (λ n. not (met s n)) (when c then record { holder = s.sender; one_of = write ∷ append ∷ []; variable = x } ∷ [] else [])
+          ≡ not ((when c then has s.store write x s.sender else true) || (when c then has s.store append x s.sender else true))
       go true = two (has s.store write x s.sender) (has s.store append x s.sender)
       go false = refl
 

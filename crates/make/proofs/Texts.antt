@@ -6,7 +6,7 @@ use mathlib.Core.Bool.{Bool, true, false, ◌&&◌}
 use mathlib.Core.List.{[], ◌∷◌, ◌++◌, append_assoc}
 use lib.Dec.{eqb, eqb-zero-suc, eqb-suc-suc}
 use lib.ListN.{length, take, replicate}
-use Rattle.language.specs.Text.{Text, bytes, if◌then◌else◌, all, front}
+use Rattle.language.specs.Text.{Text, bytes, when◌then◌else◌, all, front}
 use Rattle.language.specs.State.{fresh, anyone}
 use Rattle.language.specs.Encode.{head_text, principals_text, delegator_text, buffer_size}
 use Rattle.language.specs.Calls.{made}
@@ -18,7 +18,7 @@ pub whole_run : (f : ℕ → Bool) (t : Text) → eqb (length (front f t)) (leng
 whole_run f [] = refl
 whole_run f (b ∷ t) = go (f b) (whole_run f t)
   where
-    go : (c : Bool) → eqb (length (front f t)) (length t) ≡ all f t → eqb (length (if c then b ∷ front f t else [])) (suc (length t)) ≡ (c && all f t)
+    go : (c : Bool) → eqb (length (front f t)) (length t) ≡ all f t → eqb (length (when c then b ∷ front f t else [])) (suc (length t)) ≡ (c && all f t)
     go true e = eqb-suc-suc (length (front f t)) (length t) ∙ e
     go false e = eqb-zero-suc (length t)
 

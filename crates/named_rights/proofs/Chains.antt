@@ -10,7 +10,7 @@ use mathlib.Core.List.Memᴰ
 use mathlib.Core.List.{List, [], ◌∷◌, map, Memᴰ}
 use lib.Dec.{T}
 use lib.ListN.{length, take}
-use Rattle.language.specs.Text.{◌==◌, all, member, present}
+use Rattle.language.specs.Text.{◌≟◌, all, member, present}
 use Rattle.language.specs.Syntax.{Name, Right}
 use Rattle.language.specs.State.{Principal, Assertion, Store, admin, anyone, named, value_in, same_assertion, stands}
 use Rattle.language.specs.Valid.{has_password, valid_order, valid_assertion, valid_store}
@@ -77,8 +77,8 @@ module _ (s : Store) (v : T (valid_store s)) where
       go [] o = absurd o
       go (k ∷ []) o = absurd o
       go (k ∷ l ∷ ks) o =
-          let (h, r) = both ((k.name == admin) && has_password k && (l.name == anyone)) (all has_password ks) o in
-          let (a, b, c) = three (k.name == admin) (has_password k) (l.name == anyone) h in
+          let (h, r) = both ((k.name ≟ admin) && has_password k && (l.name ≟ anyone)) (all has_password ks) o in
+          let (a, b, c) = three (k.name ≟ admin) (has_password k) (l.name ≟ anyone) h in
           let e : k.name ≡ admin = ==→≡ k.name admin a in
           let f : l.name ≡ anyone = ==→≡ l.name anyone c in
           (map (λ k. k.name) ks, λ i. e i ∷ f i ∷ map (λ k. k.name) ks)

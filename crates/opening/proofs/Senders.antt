@@ -4,7 +4,7 @@ use mathlib.Core.Path.{◌≡◌, sym, ap, ◌∙◌}
 use mathlib.Core.Bool.{Bool, true, false}
 use mathlib.Core.List.{map}
 use Prim.Native.Nat.{ℕ}
-use Rattle.language.specs.Text.{Text, if◌then◌else◌}
+use Rattle.language.specs.Text.{Text, when◌then◌else◌}
 use Rattle.language.specs.Syntax.{Name}
 use Rattle.language.specs.State.{Store, named}
 use Rattle.language.specs.Run.{Login, mistaken, right, opens, login_as}
@@ -20,9 +20,9 @@ module _ (s : Store) (x : Name) (w : Text) where
   not_there e = ap (login_as w) (principal_missing s.principals x e)
 
   module _ (k from to : ℕ) (e : At k from to ≡ place (map principal_row s.principals) x) where
-    judged : (b : Bool) → b ≡ opens w (principal_at s.principals k).password → (if◌then◌else◌ {A = Login} b right mistaken) ≡ login_as w (named s.principals x)
+    judged : (b : Bool) → b ≡ opens w (principal_at s.principals k).password → (when◌then◌else◌ {A = Login} b right mistaken) ≡ login_as w (named s.principals x)
     judged b h =
-        ap (λ (c : Bool). if◌then◌else◌ {A = Login} c right mistaken) h ∙ sym (ap (login_as w) (principal_found s.principals x k from to e).is_named)
+        ap (λ (c : Bool). when◌then◌else◌ {A = Login} c right mistaken) h ∙ sym (ap (login_as w) (principal_found s.principals x k from to e).is_named)
 
     pub let_in_lem : true ≡ opens w (principal_at s.principals k).password → LoginMeant (Is.Right k) s x w
     let_in_lem h = (sym (judged true h), (principal_found s.principals x k from to e).number)

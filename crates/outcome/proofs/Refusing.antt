@@ -3,7 +3,7 @@
 use mathlib.Core.Path.{◌≡◌}
 use mathlib.Core.Bool.{Bool, true, false}
 use mathlib.Core.Option.{Option, none, some}
-use Rattle.language.specs.Text.{Text, if◌then◌else◌}
+use Rattle.language.specs.Text.{Text, when◌then◌else◌}
 use Rattle.language.specs.Syntax.{Name}
 use Rattle.language.specs.Run.{End, refusal}
 use Rattle.session.specs.Sessions.{Slices}
@@ -13,6 +13,6 @@ use Rattle.outcome.specs.Ends.{unless_broken, Ends}
 
 -- it is refused, where the rest of the text is that of a program
 pub refuses : (how : Refusal) (c : Bool) (p : Name) (e : Option End) (b : Slices) (before after : Text)
-    → e ≡ (if c then some (refusal (refusal_meant how)) else none) → Ends (unless_broken c how) p e b before after
+    → e ≡ (when c then some (refusal (refusal_meant how)) else none) → Ends (unless_broken c how) p e b before after
 refuses how true p e b before after q = q
 refuses how false p e b before after q = q

@@ -7,7 +7,7 @@ use mathlib.Core.List.{List, [], ◌∷◌}
 use Prim.Native.Nat.{◌≤◌, ◌<◌}
 use lib.ListN.{length}
 use borrow.Author.Tests.{le-leb, lt-leb}
-use Rattle.language.specs.Text.{Text, bytes, ◌>>=◌, ◌==◌, parts, present}
+use Rattle.language.specs.Text.{Text, bytes, ◌>>=◌, ◌≟◌, parts, present}
 use Rattle.language.specs.Tokens.{Token, sign, ident, text, wrong, lex}
 use Rattle.language.specs.Syntax.{Command}
 use Rattle.language.specs.Grammar.{Opening, spent, whole, any_command, any_ending}
@@ -19,9 +19,9 @@ use Rattle.parser.specs.Bodies.{is_empty, with_body}
 -- tokens are not both those of a command and those of an ending, and so no line is both
 disjoint : (ts : List Token) → present (whole any_command ts) ≡ true → any_ending ts ≡ none
 disjoint [] h = refl
-disjoint (sign w ∷ ts) h = go (w == bytes "exit") (w == bytes "return") refl refl
+disjoint (sign w ∷ ts) h = go (w ≟ bytes "exit") (w ≟ bytes "return") refl refl
   where
-    go : (a b : Bool) → (w == bytes "exit") ≡ a → (w == bytes "return") ≡ b → any_ending (sign w ∷ ts) ≡ none
+    go : (a b : Bool) → (w ≟ bytes "exit") ≡ a → (w ≟ bytes "return") ≡ b → any_ending (sign w ∷ ts) ≡ none
     go true b p q =
         let other : present (whole any_command (sign w ∷ ts)) ≡ false = ap (λ (v : Text). present (whole any_command (sign v ∷ ts))) (same_true w (bytes "exit") p) in
         let z : ◌≡◌ {A = Bool} true false = sym h ∙ other in

@@ -9,7 +9,7 @@ use mathlib.Core.List.{List, map}
 use lib.Dec.{T}
 use lib.ListN.{length, length-map}
 use lib.Seq.{length-take-le}
-use Rattle.language.specs.Text.{Text, if◌then◌else◌, present}
+use Rattle.language.specs.Text.{Text, when◌then◌else◌, present}
 use Rattle.language.specs.Syntax.{Name, Right}
 use Rattle.language.specs.State.{Value, Variable}
 use Rattle.language.specs.Values.{Session}
@@ -51,7 +51,7 @@ module _ {s : Session} {shared : Text} {slots : List ℕ} {count : ℕ} {asserti
     }
 
     pub shared_allowed : (r : Right) (c : Bool) → c ≡ has s.store r x s.sender → c ≡ allowed_on s r x
-    shared_allowed r c h = h ∙ sym (ap (λ (o : Option Value). if◌then◌else◌ {A = Bool} (present o) (has s.store r x s.sender) true) F.is_value)
+    shared_allowed r c h = h ∙ sym (ap (λ (o : Option Value). when◌then◌else◌ {A = Bool} (present o) (has s.store r x s.sender) true) F.is_value)
 
   pub other_allowed : (x : Name) (r : Right) → Missing ≡ place (map variable_row s.store.variables) x → true ≡ allowed_on s r x
-  other_allowed x r q = sym (ap (λ (o : Option Value). if◌then◌else◌ {A = Bool} (present o) (has s.store r x s.sender) true) (variable_missing s.store.variables x q))
+  other_allowed x r q = sym (ap (λ (o : Option Value). when◌then◌else◌ {A = Bool} (present o) (has s.store r x s.sender) true) (variable_missing s.store.variables x q))

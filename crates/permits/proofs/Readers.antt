@@ -6,7 +6,7 @@ use native.Mathlib.Omega.{arith}
 use mathlib.Core.Bool.{Bool, true, false, ◌||◌, not}
 use mathlib.Core.Option.{Option, none, some}
 use mathlib.Core.List.{List, [], ◌∷◌, ◌++◌, append_assoc}
-use Rattle.language.specs.Text.{Text, if◌then◌else◌, any}
+use Rattle.language.specs.Text.{Text, when◌then◌else◌, any}
 use Rattle.language.specs.Tokens.{Token}
 use Rattle.language.specs.Syntax.{Name, read, Binding, Term}
 use Rattle.language.specs.Values.{Session, is_shared}
@@ -31,7 +31,7 @@ one_name s x b e = go (is_shared s x) (has s.store read x s.sender) refl ∙ sym
     two false = refl
 
     go : (c h : Bool) → has s.store read x s.sender ≡ h
-        → any (λ n. not (met s n)) ((if c then record { holder = s.sender; one_of = read ∷ []; variable = x } ∷ [] else []) ++ []) ≡ not (if c then has s.store read x s.sender else true)
+        → any (λ n. not (met s n)) ((when c then record { holder = s.sender; one_of = read ∷ []; variable = x } ∷ [] else []) ++ []) ≡ not (when c then has s.store read x s.sender else true)
     go true h q = two (has s.store read x s.sender)
     go false h q = refl
 

@@ -1,6 +1,6 @@
 -- Who sends a program, and what the sender may do with a name.
 use Rattle.std.specs.Prelude.{◌≡◌, ℕ, Bool, true, not, List, T, length}
-use Rattle.language.specs.Text.{Text, if◌then◌else◌, any, member}
+use Rattle.language.specs.Text.{Text, when◌then◌else◌, any, member}
 use Rattle.language.specs.Syntax.{Name, Right}
 use Rattle.language.specs.Values.{Session, is_shared}
 use Rattle.language.specs.Chains.{has}
@@ -26,7 +26,7 @@ pub record SomeSender (shared : Text) (slots : List ℕ) (count : ℕ) (assertio
 
 -- the sender has the right r on x, or x is no shared variable and asks for none
 abbrev pub allowed_on : Session → Right → Name → Bool
-allowed_on s r x = if is_shared s x then has s.store r x s.sender else true
+allowed_on s r x = when is_shared s x then has s.store r x s.sender else true
 
 -- the sender may not read one of these names
 abbrev pub unread : Session → List Name → Bool

@@ -14,7 +14,7 @@ use lib.Signed.{non_neg}
 use lib.Dec.{T, leb, leb→le, eqb}
 use lib.ListN.{length, get_or, take, drop}
 use lib.Seq.{drop-cons}
-use Rattle.language.specs.Text.{Text, bytes, if◌then◌else◌, ◌==◌, keep}
+use Rattle.language.specs.Text.{Text, bytes, when◌then◌else◌, ◌≟◌, keep}
 use Rattle.language.specs.Bytes.{between}
 use Rattle.language.specs.Decode.{number}
 use Rattle.language.specs.Prices.{greatest, in_range, amount_text, price_text, digits_of, starts_minus, signed, reading, price}
@@ -41,25 +41,25 @@ written_part {a} {b} {r} {p} w = ap (λ (k : ℕ). take k b) (sub-zero r) ∙ wr
 -- ---- a digit more
 
 abbrev with_digit : ℕ → ℕ → ℕ
-with_digit n b = if between "0" "9" b then n * 10 + (b - 48) else n
+with_digit n b = when between "0" "9" b then n * 10 + (b - 48) else n
 
 module _ (n b : ℕ) where
   pub below_digits : b < 48 → n ≡ with_digit n b
-  below_digits h = sym (ap (λ (c : Bool). if c && leb b 57 then n * 10 + (b - 48) else n) (lt-leb 48 b h))
+  below_digits h = sym (ap (λ (c : Bool). when c && leb b 57 then n * 10 + (b - 48) else n) (lt-leb 48 b h))
 
   pub past_digits : 57 < b → n ≡ with_digit n b
-  past_digits h = sym (ap (λ (c : Bool). if c then n * 10 + (b - 48) else n) (ap (λ (c : Bool). leb 48 b && c) (lt-leb b 57 h) ∙ and_false (leb 48 b)))
+  past_digits h = sym (ap (λ (c : Bool). when c then n * 10 + (b - 48) else n) (ap (λ (c : Bool). leb 48 b && c) (lt-leb b 57 h) ∙ and_false (leb 48 b)))
 
   pub a_digit : 48 ≤ b → b ≤ 57 → n * 10 + (b - 48) ≡ with_digit n b
-  a_digit h k = sym (λ i. if◌then◌else◌ {A = ℕ} (le-leb 48 b h i && le-leb b 57 k i) (n * 10 + (b - 48)) n)
+  a_digit h k = sym (λ i. when◌then◌else◌ {A = ℕ} (le-leb 48 b h i && le-leb b 57 k i) (n * 10 + (b - 48)) n)
 
 -- one byte of a text after the other
 pub digits_step : (n : ℕ) (t : Text) (i : ℕ) → i < length t
     → number n (keep (between "0" "9") (drop i t)) ≡ number (with_digit n (get_or t i 0)) (keep (between "0" "9") (drop (i + 1) t))
 digits_step n t i h = rw (add-one, drop-cons t i 0 h) (go (between "0" "9" (get_or t i 0)) (get_or t i 0) (drop (suc i) t))
   where
-    go : (c : Bool) (b : ℕ) (u : Text) → number n (if c then b ∷ keep (between "0" "9") u else keep (between "0" "9") u)
-        ≡ number (if c then n * 10 + (b - 48) else n) (keep (between "0" "9") u)
+    go : (c : Bool) (b : ℕ) (u : Text) → number n (when c then b ∷ keep (between "0" "9") u else keep (between "0" "9") u)
+        ≡ number (when c then n * 10 + (b - 48) else n) (keep (between "0" "9") u)
     go true b u = refl
     go false b u = refl
 
@@ -73,7 +73,7 @@ within_more (suc j) (suc k) n l h = within_more j k (n / 10) (omega arith) h
 pub within_step : (j n b : ℕ) → Within j n → Within (j + 1) (with_digit n b)
 within_step j n b h = rw add-one (go (between "0" "9" b) (λ t. (both (leb 48 b) (leb b 57) t).1))
   where
-    go : (c : Bool) → (T c → T (leb b 57)) → Within (suc j) (if c then n * 10 + (b - 48) else n)
+    go : (c : Bool) → (T c → T (leb b 57)) → Within (suc j) (when c then n * 10 + (b - 48) else n)
     go true f = let l : b ≤ 57 = leb→le b 57 (f tt) in subst (Within j) (omega arith) h
     go false f = within_more j (suc j) n (omega arith) h
 
@@ -98,16 +98,16 @@ signed_small m n h = omega (arith, abs_signed m n)
 pub wide_none : (t : Text) → greatest < digits_of t → none ≡ price t
 wide_none t h =
     let l : leb (nat_abs (reading t)) greatest ≡ false = lt-leb (nat_abs (reading t)) greatest (omega (arith, abs_signed (starts_minus t) (digits_of t))) in
-    sym (ap (λ (b : Bool). if b && (price_text (reading t) == t) then some (reading t) else none) l)
+    sym (ap (λ (b : Bool). when b && (price_text (reading t) ≟ t) then some (reading t) else none) l)
 
 module _ (t : Text) (m : Bool) (n : ℕ) (a : ℤ) (minus : m ≡ starts_minus t) (digits : n ≡ digits_of t) (is : a ≡ signed m n) (low : n ≤ greatest) where
   as_read : a ≡ reading t
   as_read = is ∙ ap (λ (b : Bool). signed b n) minus ∙ ap (signed (starts_minus t)) digits
 
   -- the amount counts where it has this text
-  pub price_tested : (c : Bool) → c ≡ (price_text a == t) → (if c then some a else none) ≡ price t
+  pub price_tested : (c : Bool) → c ≡ (price_text a ≟ t) → (when c then some a else none) ≡ price t
   price_tested c e =
       let l : in_range a ≡ true = le-leb (nat_abs a) greatest (omega (arith, ap nat_abs is, abs_signed m n)) in
-      ap (λ (b : Bool). if b then some a else none) e
-      ∙ sym (ap (λ (b : Bool). if b && (price_text a == t) then some a else none) l)
-      ∙ ap (λ (r : ℤ). if in_range r && (price_text r == t) then some r else none) as_read
+      ap (λ (b : Bool). when b then some a else none) e
+      ∙ sym (ap (λ (b : Bool). when b && (price_text a ≟ t) then some a else none) l)
+      ∙ ap (λ (r : ℤ). when in_range r && (price_text r ≟ t) then some r else none) as_read

@@ -2,7 +2,7 @@
 #![tactic(auto)]
 
 ghost use Rattle.std.specs.Prelude.{◌≡◌, ◌+◌, ◌*◌, ◌-◌, ◌≤◌, nat_abs, length};
-ghost use Rattle.language.specs.Text.{if◌then◌else◌, ◌==◌};
+ghost use Rattle.language.specs.Text.{when◌then◌else◌, ◌≟◌};
 ghost use Rattle.language.specs.Bytes.{between};
 ghost use Rattle.language.specs.Prices.{greatest, amount_text, price_text, digits_of, starts_minus, price};
 ghost use Rattle.amounts.specs.Amounts.{amount_meant};
@@ -38,7 +38,7 @@ pub fn put_price(out: &mut [u8], at: usize, amount: i64) -> usize
 // A digit more, if the byte is one.
 fn with_digit(n: u64, b: u8) -> u64
     requires { n ≤ 99999999999 }
-    ensures { result ≡ (if between "0" "9" b then n * 10 + (b - 48) else n) }
+    ensures { result ≡ (when between "0" "9" b then n * 10 + (b - 48) else n) }
 {
     if b < b'0' {
         return n;
@@ -75,7 +75,7 @@ fn starts_minus(text: &[u8]) -> bool
 // Whether a text is that of the amount.
 fn is_text(text: &[u8], amount: i64) -> bool
     requires { nat_abs amount ≤ greatest }
-    ensures { result ≡ (price_text amount == text.now) }
+    ensures { result ≡ (price_text amount ≟ text.now) }
 {
     let mut again = [0u8; 11];
     let end = put_price(&mut again, 0, amount);

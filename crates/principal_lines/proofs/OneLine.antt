@@ -9,7 +9,7 @@ use mathlib.Core.List.{[], ◌∷◌, ◌++◌, append_assoc}
 use lib.Dec.{T, eqb, leb, leb→le, le→leb, eqb→eq}
 use lib.ListN.{length, get_or, drop}
 use borrow.Author.Tests.{eq-eqb, ne_eqb}
-use Rattle.language.specs.Text.{Text, if◌then◌else◌, ◌==◌, decimal, all, present}
+use Rattle.language.specs.Text.{Text, when◌then◌else◌, ◌≟◌, decimal, all, present}
 use Rattle.language.specs.Bytes.{string_byte, word_byte}
 use Rattle.language.specs.State.{Principal, last_count, admin, anyone}
 use Rattle.language.specs.Weight.{name_weight, password_weight}
@@ -368,20 +368,20 @@ and_no true = refl
 and_no false = refl
 
 module _ (n : ℕ) (x : Text) (has : Bool) where
-  first_place : n ≡ 0 → in_place n x has ≡ ((x == admin) && has)
-  first_place e = ap (λ (b : Bool). if b then (x == admin) && has else if eqb n 1 then x == anyone else has) (eq-eqb n 0 e)
+  first_place : n ≡ 0 → in_place n x has ≡ ((x ≟ admin) && has)
+  first_place e = ap (λ (b : Bool). when b then (x ≟ admin) && has else when eqb n 1 then x ≟ anyone else has) (eq-eqb n 0 e)
 
-  pub place_admin : n ≡ 0 → has ≡ true → (x == admin) ≡ in_place n x has
-  place_admin e h = and_yes (x == admin) ∙ ap (λ (b : Bool). (x == admin) && b) (sym h) ∙ sym (first_place e)
+  pub place_admin : n ≡ 0 → has ≡ true → (x ≟ admin) ≡ in_place n x has
+  place_admin e h = and_yes (x ≟ admin) ∙ ap (λ (b : Bool). (x ≟ admin) && b) (sym h) ∙ sym (first_place e)
 
   pub place_refused : n ≡ 0 → has ≡ false → false ≡ in_place n x has
-  place_refused e h = and_no (x == admin) ∙ ap (λ (b : Bool). (x == admin) && b) (sym h) ∙ sym (first_place e)
+  place_refused e h = and_no (x ≟ admin) ∙ ap (λ (b : Bool). (x ≟ admin) && b) (sym h) ∙ sym (first_place e)
 
-  later : (n ≡ 0 → ⊥) → in_place n x has ≡ (if eqb n 1 then x == anyone else has)
-  later z = ap (λ (b : Bool). if b then (x == admin) && has else if eqb n 1 then x == anyone else has) (ne_eqb n 0 z)
+  later : (n ≡ 0 → ⊥) → in_place n x has ≡ (when eqb n 1 then x ≟ anyone else has)
+  later z = ap (λ (b : Bool). when b then (x ≟ admin) && has else when eqb n 1 then x ≟ anyone else has) (ne_eqb n 0 z)
 
-  pub place_anyone : (n ≡ 0 → ⊥) → n ≡ 1 → (x == anyone) ≡ in_place n x has
-  place_anyone z e = sym (later z ∙ ap (λ (b : Bool). if b then x == anyone else has) (eq-eqb n 1 e))
+  pub place_anyone : (n ≡ 0 → ⊥) → n ≡ 1 → (x ≟ anyone) ≡ in_place n x has
+  place_anyone z e = sym (later z ∙ ap (λ (b : Bool). when b then x ≟ anyone else has) (eq-eqb n 1 e))
 
   pub place_other : (n ≡ 0 → ⊥) → (n ≡ 1 → ⊥) → has ≡ in_place n x has
-  place_other z o = sym (later z ∙ ap (λ (b : Bool). if b then x == anyone else has) (ne_eqb n 1 o))
+  place_other z o = sym (later z ∙ ap (λ (b : Bool). when b then x ≟ anyone else has) (ne_eqb n 1 o))

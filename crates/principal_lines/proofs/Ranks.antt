@@ -8,7 +8,7 @@ use mathlib.Core.Option.{Option, none, some}
 use mathlib.Core.List.{List, [], ◌∷◌, ◌++◌, map}
 use lib.Dec.{T, leb, leb→le}
 use lib.ListN.{length, drop}
-use Rattle.language.specs.Text.{Text, all, ◌==◌, joined, distinct, sum}
+use Rattle.language.specs.Text.{Text, all, ◌≟◌, joined, distinct, sum}
 use Rattle.language.specs.State.{Principal, admin, anyone}
 use Rattle.language.specs.Weight.{name_weight}
 use Rattle.language.specs.Identifiers.{is_name}
@@ -74,21 +74,21 @@ order_orderly : (ks : List Principal) → T (valid_order ks) → (2 ≤ length k
 order_orderly [] h = absurd h
 order_orderly (k ∷ []) h = absurd h
 order_orderly (k ∷ l ∷ ks) h =
-    let (a, b, c, d) = four (k.name == admin) (has_password k) (l.name == anyone) (all has_password ks) h in (
+    let (a, b, c, d) = four (k.name ≟ admin) (has_password k) (l.name ≟ anyone) (all has_password ks) h in (
       omega arith,
-      and ((k.name == admin) && has_password k) ((l.name == anyone) && orderly 2 ks) (and (k.name == admin) (has_password k) a b)
-          (and (l.name == anyone) (orderly 2 ks) c (others_orderly 0 ks d)),
+      and ((k.name ≟ admin) && has_password k) ((l.name ≟ anyone) && orderly 2 ks) (and (k.name ≟ admin) (has_password k) a b)
+          (and (l.name ≟ anyone) (orderly 2 ks) c (others_orderly 0 ks d)),
     )
 
 orderly_order : (ks : List Principal) → 2 ≤ length ks → T (orderly 0 ks) → T (valid_order ks)
 orderly_order [] l h = absurd (omega arith)
 orderly_order (k ∷ []) l h = absurd (omega arith)
 orderly_order (k ∷ m ∷ ks) l h =
-    let (h₁, h₂) = both ((k.name == admin) && has_password k) ((m.name == anyone) && orderly 2 ks) h in
-    let (a, b) = both (k.name == admin) (has_password k) h₁ in
-    let (c, d) = both (m.name == anyone) (orderly 2 ks) h₂ in
-    and ((k.name == admin) && has_password k && (m.name == anyone)) (all has_password ks)
-    (and ((k.name == admin) && has_password k) (m.name == anyone) (and (k.name == admin) (has_password k) a b) c) (orderly_others 0 ks d)
+    let (h₁, h₂) = both ((k.name ≟ admin) && has_password k) ((m.name ≟ anyone) && orderly 2 ks) h in
+    let (a, b) = both (k.name ≟ admin) (has_password k) h₁ in
+    let (c, d) = both (m.name ≟ anyone) (orderly 2 ks) h₂ in
+    and ((k.name ≟ admin) && has_password k && (m.name ≟ anyone)) (all has_password ks)
+    (and ((k.name ≟ admin) && has_password k) (m.name ≟ anyone) (and (k.name ≟ admin) (has_password k) a b) c) (orderly_others 0 ks d)
 
 -- ---- one principal
 

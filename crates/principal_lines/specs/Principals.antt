@@ -1,6 +1,6 @@
 -- The principals of a state text: admin first, with a password, then anyone, then others with passwords.
 use Rattle.std.specs.Prelude.{ℕ, suc, Bool, true, ◌&&◌, not, List, [], ◌∷◌, ◌++◌, map, eqb, leb, length}
-use Rattle.language.specs.Text.{Text, if◌then◌else◌, ◌==◌, distinct, decimal}
+use Rattle.language.specs.Text.{Text, when◌then◌else◌, ◌≟◌, distinct, decimal}
 use Rattle.language.specs.Syntax.{Name}
 use Rattle.language.specs.State.{Principal, last_count, admin, anyone}
 use Rattle.language.specs.Identifiers.{is_string}
@@ -78,7 +78,7 @@ off_principal q = not (opens 80 q) && not (opens 78 q)
 
 -- what the principal at a place may be
 abbrev pub in_place : ℕ → Name → Bool → Bool
-in_place n x has = if eqb n 0 then (x == admin) && has else if eqb n 1 then x == anyone else has
+in_place n x has = when eqb n 0 then (x ≟ admin) && has else when eqb n 1 then x ≟ anyone else has
 
 abbrev pub orderly : ℕ → List Principal → Bool
 orderly n [] = true

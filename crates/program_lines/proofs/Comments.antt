@@ -8,7 +8,7 @@ use native.Mathlib.Omega.{arith}
 use lib.Dec.{eqb}
 use lib.ListN.{length, get_or, drop}
 use borrow.Author.Tests.{eq-eqb, ne_eqb, eqb-true}
-use Rattle.language.specs.Text.{Text, if◌then◌else◌, all, front}
+use Rattle.language.specs.Text.{Text, when◌then◌else◌, all, front}
 use Rattle.language.specs.Bytes.{comment_byte}
 use Rattle.language.specs.Programs.{is_comment}
 use Rattle.language.proofs.Logic.Tests.{and_false}
@@ -31,7 +31,7 @@ front_all : (f : ℕ → Bool) (t : Text) → all f t ≡ eqb (length (front f t
 front_all f [] = refl
 front_all f (b ∷ t) = go (f b) (front_all f t)
   where
-    go : (c : Bool) → all f t ≡ eqb (length (front f t)) (length t) → (c && all f t) ≡ eqb (length (if c then b ∷ front f t else [])) (suc (length t))
+    go : (c : Bool) → all f t ≡ eqb (length (front f t)) (length t) → (c && all f t) ≡ eqb (length (when c then b ∷ front f t else [])) (suc (length t))
     go true e = e ∙ sym (eqb_suc (length (front f t)) (length t))
     go false e = sym (ne_eqb 0 (suc (length t)) (λ z. omega arith))
 

@@ -11,7 +11,7 @@ use lib.Dec.{eqb}
 use lib.ListN.{length, get_or, take, drop, drop_of_length-le}
 use lib.Seq.{drop-cons}
 use borrow.Author.Tests.{le-leb, lt-leb}
-use Rattle.language.specs.Text.{Text, if◌then◌else◌, bytes, ◌>>=◌, ◌==◌, front, past, parts}
+use Rattle.language.specs.Text.{Text, when◌then◌else◌, bytes, ◌>>=◌, ◌≟◌, front, past, parts}
 use Rattle.language.specs.Programs.{ended, above, is_comment, written}
 use Rattle.text.specs.Meaning.{is_not}
 use Rattle.text.proofs.Runs.{run_part}
@@ -22,7 +22,7 @@ use Rattle.program_lines.specs.Lines.{written_from, line_from, ahead}
 ended_more : (b : ℕ) (bs : Text) → ended (parts 10 (b ∷ bs)) ≡ false
 ended_more b bs = rw (split_run 10 bs) (go (eqb b 10) (front (is_not 10) bs) (next 10 (past (is_not 10) bs)))
   where
-    go : (c : Bool) (l : Text) (ls : List Text) → ended (if c then [] ∷ l ∷ ls else (b ∷ l) ∷ ls) ≡ false
+    go : (c : Bool) (l : Text) (ls : List Text) → ended (when c then [] ∷ l ∷ ls else (b ∷ l) ∷ ls) ≡ false
     go true l ls = refl
     go false l ls = refl
 
@@ -61,19 +61,19 @@ module _ (t : Text) (at e : ℕ) (h : at ≤ length t) (ends : e ≡ at + length
   ended_wrong : 1 < length t - e → ended (parts_from 10 (e + 1) t) ≡ false
   ended_wrong q = rw (others (omega arith), drop-cons t (e + 1) 0 (omega arith)) (ended_more (get_or t (e + 1) 0) (drop (suc (e + 1)) t))
 
-  pub stars : (line == bytes "***") ≡ true → e ≤ length t → length t - e ≤ 1 → written_from t at ≡ some []
+  pub stars : (line ≟ bytes "***") ≡ true → e ≤ length t → length t - e ≤ 1 → written_from t at ≡ some []
   stars s k q = rw (lines, s, ended_right k q)
 
-  pub stars_more : (line == bytes "***") ≡ true → 1 < length t - e → written_from t at ≡ none
+  pub stars_more : (line ≟ bytes "***") ≡ true → 1 < length t - e → written_from t at ≡ none
   stars_more s q = rw (lines, s, ended_wrong q)
 
-  pub no_newline : (line == bytes "***") ≡ false → length t ≤ e → written_from t at ≡ none
+  pub no_newline : (line ≟ bytes "***") ≡ false → length t ≤ e → written_from t at ≡ none
   no_newline s k = rw (lines, s, last k)
 
-  pub comment_row : (line == bytes "***") ≡ false → e < length t → is_comment line ≡ true → written_from t at ≡ written_from t (e + 1)
+  pub comment_row : (line ≟ bytes "***") ≡ false → e < length t → is_comment line ≡ true → written_from t at ≡ written_from t (e + 1)
   comment_row s k c = rw (lines, s, others k) (skips line (above (parts 10 (drop (e + 1) t))) c)
 
-  pub token_row : (line == bytes "***") ≡ false → e < length t → is_comment line ≡ false → written_from t at ≡ ahead (line_from t at) (written_from t (e + 1))
+  pub token_row : (line ≟ bytes "***") ≡ false → e < length t → is_comment line ≡ false → written_from t at ≡ ahead (line_from t at) (written_from t (e + 1))
   token_row s k c =
       let row : written_from t at ≡ ahead line (written_from t (e + 1)) = rw (lines, s, others k) (leads line (above (parts 10 (drop (e + 1) t))) c) in
       row ∙ ap (λ (l : Text). ahead l (written_from t (e + 1))) (run_part (is_not 10) t at e ends)

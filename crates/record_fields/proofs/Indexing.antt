@@ -10,7 +10,7 @@ use mathlib.Core.List.{List, [], ◌∷◌, ◌++◌, map}
 use lib.Dec.{T, T_not, leb, leb→le}
 use lib.ListN.{length, take, drop, set, length-append, length-drop, length-map}
 use lib.Seq.{take-suc-set, take-append_seam}
-use Rattle.language.specs.Text.{Text, if◌then◌else◌, ◌==◌, all, joined, sum, member, distinct}
+use Rattle.language.specs.Text.{Text, when◌then◌else◌, ◌≟◌, all, joined, sum, member, distinct}
 use Rattle.language.specs.Syntax.{Name}
 use Rattle.language.specs.Identifiers.{is_name}
 use Rattle.language.proofs.Logic.Tests.{both, one_of_lem, left_of_lem, right_of, ==_sym, all_map, any_right_lem, distinct_last}
@@ -29,28 +29,28 @@ use Rattle.language.proofs.Logic.Lists.{map_append}
 
 pub member_place : (x : Name) (l : List Name) → T (member x l) → position l x < length l
 member_place x [] h = absurd h
-member_place x (y ∷ l) h = go (y == x) (x == y) (==_sym x y) h (member_place x l)
+member_place x (y ∷ l) h = go (y ≟ x) (x ≟ y) (==_sym x y) h (member_place x l)
   where
-    go : (b c : Bool) → (T c → T b) → T (c || member x l) → (T (member x l) → position l x < length l) → (if b then 0 else suc (position l x)) < suc (length l)
+    go : (b c : Bool) → (T c → T b) → T (c || member x l) → (T (member x l) → position l x < length l) → (when b then 0 else suc (position l x)) < suc (length l)
     go true c f h ih = omega arith
     go false true f h ih = absurd (f tt)
     go false false f h ih = let k = ih h in omega arith
 
 pub place_member : (x : Name) (l : List Name) → position l x < length l → T (member x l)
 place_member x [] h = absurd (omega arith)
-place_member x (y ∷ l) h = go (y == x) (==_sym y x) h (place_member x l)
+place_member x (y ∷ l) h = go (y ≟ x) (==_sym y x) h (place_member x l)
   where
-    go : (b : Bool) → (T b → T (x == y)) → (if b then 0 else suc (position l x)) < suc (length l) → (position l x < length l → T (member x l)) → T ((x == y) || member x l)
-    go true f h ih = left_of_lem (x == y) (member x l) (f tt)
-    go false f h ih = right_of (x == y) (member x l) (ih (omega arith))
+    go : (b : Bool) → (T b → T (x ≟ y)) → (when b then 0 else suc (position l x)) < suc (length l) → (position l x < length l → T (member x l)) → T ((x ≟ y) || member x l)
+    go true f h ih = left_of_lem (x ≟ y) (member x l) (f tt)
+    go false f h ih = right_of (x ≟ y) (member x l) (ih (omega arith))
 
 -- a name twice
 pub not_distinct : (l m : List Name) (x : Name) → T (member x l) → T (distinct (l ++ x ∷ m)) → ⊥
 not_distinct [] m x h d = h
 not_distinct (y ∷ l) m x h d =
     let (n, r) = both (not (member y (l ++ x ∷ m))) (distinct (l ++ x ∷ m)) d in
-    elim (one_of_lem (x == y) (member x l) h) [
-      | inl e ↦ T_not (member y (l ++ x ∷ m)) n (any_right_lem (λ u. y == u) l (x ∷ m) (left_of_lem (y == x) (member y m) (==_sym x y e)))
+    elim (one_of_lem (x ≟ y) (member x l) h) [
+      | inl e ↦ T_not (member y (l ++ x ∷ m)) n (any_right_lem (λ u. y ≟ u) l (x ∷ m) (left_of_lem (y ≟ x) (member y m) (==_sym x y e)))
       | inr k ↦ not_distinct l m x k r
     ]
 

@@ -9,7 +9,7 @@ use mathlib.Core.List.{List, [], ◌∷◌, ◌++◌, map, append_assoc}
 use lib.Dec.{T, T_not}
 use lib.ListN.{length, take, drop, length-append, length-drop}
 use lib.Seq.{take_at, drop_at, take_all}
-use Rattle.language.specs.Text.{Text, if◌then◌else◌, ◌==◌, all, member, distinct, joined, decimal}
+use Rattle.language.specs.Text.{Text, when◌then◌else◌, ◌≟◌, all, member, distinct, joined, decimal}
 use Rattle.language.specs.Syntax.{Name}
 use Rattle.language.specs.State.{Principal, Store, last_count}
 use Rattle.language.specs.Encode.{tab, newline, principal_line, principal_text, principals_text}
@@ -40,15 +40,15 @@ raised k = record { name = k.name; password = k.password; count = counted k.coun
 untouched : (p : Name) (ks : List Principal) → ¬ T (member p (names ks)) → map (counts p) ks ≡ ks
 untouched p [] h = refl
 untouched p (k ∷ ks) h =
-    let n : ¬ T (member p (names ks)) = λ m. h (right_of (p == k.name) (member p (names ks)) m) in
-    let e : counts p k ≡ k = go (k.name == p) (λ m. h (here (p == k.name) (==_sym k.name p m))) in
+    let n : ¬ T (member p (names ks)) = λ m. h (right_of (p ≟ k.name) (member p (names ks)) m) in
+    let e : counts p k ≡ k = go (k.name ≟ p) (λ m. h (here (p ≟ k.name) (==_sym k.name p m))) in
     (λ i. e i ∷ untouched p ks n i)
   where
     here : (b : Bool) → T b → T (b || member p (names ks))
     here true t = tt
     here false t = absurd t
 
-    go : (b : Bool) → ¬ T b → record { name = k.name; password = k.password; count = if b then counted k.count else k.count } ≡ k
+    go : (b : Bool) → ¬ T b → record { name = k.name; password = k.password; count = when b then counted k.count else k.count } ≡ k
     go true f = absurd (f tt)
     go false f = refl
 
@@ -65,9 +65,9 @@ parted : (p : Name) (ks : List Principal) → T (member p (names ks)) → T (dis
 parted p [] m d = absurd m
 parted p (k ∷ ks) m d =
     let (x, y) = both (not (member k.name (names ks))) (distinct (names ks)) d in
-    go (k.name == p) refl (==→≡ k.name p) (T_not (member k.name (names ks)) x) (λ n. parted p ks n y)
+    go (k.name ≟ p) refl (==→≡ k.name p) (T_not (member k.name (names ks)) x) (λ n. parted p ks n y)
   where
-    go : (b : Bool) → (k.name == p) ≡ b → (T b → k.name ≡ p) → ¬ T (member k.name (names ks)) → (T (member p (names ks)) → Parted p ks) → Parted p (k ∷ ks)
+    go : (b : Bool) → (k.name ≟ p) ≡ b → (T b → k.name ≡ p) → ¬ T (member k.name (names ks)) → (T (member p (names ks)) → Parted p ks) → Parted p (k ∷ ks)
     go true e f n r =
         let u : map (counts p) ks ≡ ks = untouched p ks (subst (λ (q : Name). ¬ T (member q (names ks))) (f tt) n) in
         record {
@@ -75,18 +75,18 @@ parted p (k ∷ ks) m d =
           mine = k;
           back = ks;
           are = refl;
-          one_raised = λ i. record { name = k.name; password = k.password; count = if e i then counted k.count else k.count } ∷ u i;
-          number = ap (λ (b : Bool). if b then 0 else suc (position (names ks) p)) e;
+          one_raised = λ i. record { name = k.name; password = k.password; count = when e i then counted k.count else k.count } ∷ u i;
+          number = ap (λ (b : Bool). when b then 0 else suc (position (names ks) p)) e;
         }
     go false e f n r =
-        let R = r (there (p == k.name) (λ t. subst T e (==_sym p k.name t)) m) in
+        let R = r (there (p ≟ k.name) (λ t. subst T e (==_sym p k.name t)) m) in
         record {
           front = k ∷ R.front;
           mine = R.mine;
           back = R.back;
           are = ap (λ (l : List Principal). k ∷ l) R.are;
-          one_raised = λ i. record { name = k.name; password = k.password; count = if e i then counted k.count else k.count } ∷ R.one_raised i;
-          number = ap (λ (b : Bool). if b then 0 else suc (position (names ks) p)) e ∙ ap suc R.number;
+          one_raised = λ i. record { name = k.name; password = k.password; count = when e i then counted k.count else k.count } ∷ R.one_raised i;
+          number = ap (λ (b : Bool). when b then 0 else suc (position (names ks) p)) e ∙ ap suc R.number;
         }
       where
         there : (b : Bool) → ¬ T b → T (b || member p (names ks)) → T (member p (names ks))

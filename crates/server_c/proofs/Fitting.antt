@@ -8,7 +8,7 @@ use mathlib.Core.Bool.{Bool, true, false, not}
 use mathlib.Core.Option.{Option, none, some}
 use lib.Dec.{T, leb}
 use lib.ListN.{length, length-map}
-use Rattle.language.specs.Text.{Text, if◌then◌else◌, present}
+use Rattle.language.specs.Text.{Text, when◌then◌else◌, present}
 use Rattle.language.specs.Syntax.{Name, Right}
 use Rattle.language.specs.Identifiers.{is_string}
 use Rattle.language.specs.State.{Principal, Store, named, value_in}
@@ -66,12 +66,12 @@ module _ (s : Store) (v : T (valid_store s)) (p x : Name) where
   question_fits : (o : Option Right) → Fits (question s p x o)
   question_fits none = go (present (named s.principals p))
     where
-      go : (b : Bool) → Fits (if b then wrong 7 else wrong 6)
+      go : (b : Bool) → Fits (when b then wrong 7 else wrong 6)
       go true = tt
       go false = tt
   question_fits (some r) = go (present (named s.principals p)) (present (value_in s.variables x))
     where
-      go : (a b : Bool) → Fits (if not a then wrong 6 else if not b then wrong 7 else length_answer (chain_length s r x p))
+      go : (a b : Bool) → Fits (when not a then wrong 6 else when not b then wrong 7 else length_answer (chain_length s r x p))
       go false b = tt
       go true false = tt
       go true true = chain_fits r (chain_length s r x p) refl

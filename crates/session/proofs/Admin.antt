@@ -10,7 +10,7 @@ use mathlib.Core.List.{List, [], ◌∷◌, map}
 use borrow.Author.Tests.{eq-eqb, eqb-true, lt-ltb, le-ltb}
 use lib.Dec.{T, eqb, ltb}
 use lib.ListN.{length, get_or}
-use Rattle.language.specs.Text.{◌==◌, all, member, present}
+use Rattle.language.specs.Text.{◌≟◌, all, member, present}
 use Rattle.language.specs.Syntax.{Name}
 use Rattle.language.specs.State.{Principal, Variable, admin, anyone, named, value_in}
 use Rattle.language.specs.Valid.{has_password, valid_order}
@@ -25,9 +25,9 @@ use Rattle.session.specs.Sessions.{Slices, Running}
 use Rattle.session.proofs.Scoping.{sender_known}
 
 -- a name that is there, and any other: the same where their places are
-pub same_number : (l : List Name) (x y : Name) → T (member x l) → (x == y) ≡ eqb (position l x) (position l y)
-same_number l x y m = go (x == y) (eqb (position l x) (position l y)) (λ t. eq-eqb (position l x) (position l y) (ap (position l) (==→≡ x y t)))
-    (λ e. subst (λ (z : Name). T (x == z)) (apart (eqb-true (position l x) (position l y) e)) (==_refl x))
+pub same_number : (l : List Name) (x y : Name) → T (member x l) → (x ≟ y) ≡ eqb (position l x) (position l y)
+same_number l x y m = go (x ≟ y) (eqb (position l x) (position l y)) (λ t. eq-eqb (position l x) (position l y) (ap (position l) (==→≡ x y t)))
+    (λ e. subst (λ (z : Name). T (x ≟ z)) (apart (eqb-true (position l x) (position l y) e)) (==_refl x))
   where
     apart : position l x ≡ position l y → x ≡ y
     apart e =
@@ -43,8 +43,8 @@ first_admin : (ks : List Principal) → T (valid_order ks) → position (map (λ
 first_admin [] o = absurd o
 first_admin (k ∷ []) o = absurd o
 first_admin (k ∷ m ∷ ks) o =
-    let (h, r) = both ((k.name == admin) && has_password k && (m.name == anyone)) (all has_password ks) o in
-    let e : (k.name == admin) ≡ true = true_of (k.name == admin) (three (k.name == admin) (has_password k) (m.name == anyone) h).0 in
+    let (h, r) = both ((k.name ≟ admin) && has_password k && (m.name ≟ anyone)) (all has_password ks) o in
+    let e : (k.name ≟ admin) ≡ true = true_of (k.name ≟ admin) (three (k.name ≟ admin) (has_password k) (m.name ≟ anyone) h).0 in
     rw e
 
 -- a name is there where its place is below the length
@@ -69,12 +69,12 @@ module _ (s : Session) (l : Layout) (b : Slices) (R : Running s l b) where
   admin_first = first_admin s.store.principals R.ready.is_good.store_shape.order
 
   -- the sender is q where the numbers are equal
-  pub sender_is : (q : Name) → (s.sender == q) ≡ eqb l.sender (position (principals_of s.store) q)
+  pub sender_is : (q : Name) → (s.sender ≟ q) ≡ eqb l.sender (position (principals_of s.store) q)
   sender_is q =
       same_number (principals_of s.store) s.sender q (sender_known s l b R)
       ∙ ap (λ (n : ℕ). eqb n (position (principals_of s.store) q)) (sym R.sender)
 
-  pub sender_admin : (s.sender == admin) ≡ eqb l.sender 0
+  pub sender_admin : (s.sender ≟ admin) ≡ eqb l.sender 0
   sender_admin = sender_is admin ∙ ap (eqb l.sender) admin_first
 
   pub principal_exists : (p : Name) → is_principal s p ≡ ltb (position (principals_of s.store) p) l.principals

@@ -6,7 +6,7 @@ use mathlib.Core.List.{[], ◌∷◌}
 use Prim.Native.Nat.{ℕ}
 use borrow.Author.Tests.{eq-eqb, ne_eqb}
 use lib.Dec.{eqb}
-use Rattle.language.specs.Text.{◌==◌}
+use Rattle.language.specs.Text.{◌≟◌}
 use Rattle.language.specs.Syntax.{Name}
 use Rattle.language.specs.State.{admin}
 use Rattle.language.specs.Values.{Session}
@@ -33,18 +33,18 @@ right_true false = refl
 module _ (s : Session) (l : Layout) (b : Slices) (R : Running s l b) where
   -- reserved to admin
   pub others_denied : (l.sender ≡ 0 → ⊥) → is_none s (admin ∷ []) || false ≡ true
-  others_denied h = one (s.sender == admin) ∙ ap not (sender_admin s l b R ∙ ne_eqb l.sender 0 h)
+  others_denied h = one (s.sender ≟ admin) ∙ ap not (sender_admin s l b R ∙ ne_eqb l.sender 0 h)
 
   pub admin_may : l.sender ≡ 0 → is_none s (admin ∷ []) || false ≡ false
-  admin_may h = one (s.sender == admin) ∙ ap not (sender_admin s l b R ∙ eq-eqb l.sender 0 h)
+  admin_may h = one (s.sender ≟ admin) ∙ ap not (sender_admin s l b R ∙ eq-eqb l.sender 0 h)
 
   -- reserved to admin and to p, whose number is k
   module _ (p : Name) (k : ℕ) (e : k ≡ position (principals_of s.store) p) where
-    sends : (s.sender == p) ≡ eqb l.sender k
+    sends : (s.sender ≟ p) ≡ eqb l.sender k
     sends = sender_is s l b R p ∙ ap (eqb l.sender) (sym e)
 
     either : is_none s (admin ∷ p ∷ []) || false ≡ not (eqb l.sender 0 || eqb l.sender k)
-    either = two (s.sender == admin) (s.sender == p) ∙ (λ i. not (sender_admin s l b R i || sends i))
+    either = two (s.sender ≟ admin) (s.sender ≟ p) ∙ (λ i. not (sender_admin s l b R i || sends i))
 
     pub strangers_denied : (l.sender ≡ 0 → ⊥) → (l.sender ≡ k → ⊥) → is_none s (admin ∷ p ∷ []) || false ≡ true
     strangers_denied h g = either ∙ (λ i. not (ne_eqb l.sender 0 h i || ne_eqb l.sender k g i))

@@ -9,7 +9,7 @@ use mathlib.Core.Option.{Option, none, some}
 use mathlib.Core.List.{List, [], ◌∷◌, ◌++◌, map}
 use lib.Dec.{T, T_not, leb}
 use lib.ListN.{length, length-append}
-use Rattle.language.specs.Text.{Text, ◌==◌, all, sum, member, distinct, decimal}
+use Rattle.language.specs.Text.{Text, ◌≟◌, all, sum, member, distinct, decimal}
 use Rattle.language.specs.Syntax.{Name}
 use Rattle.language.specs.State.{Principal, last_count, admin, anyone}
 use Rattle.language.specs.Identifiers.{is_name}
@@ -40,11 +40,11 @@ longer k ks = omega (arith, length-append (principal_text k) (principals_text ks
 
 -- ---- the others
 
-other : (x y : Name) (ns : List Name) → ¬ T (member x (y ∷ ns)) → (y == x) ≡ false
-other x y ns h = go (y == x) (==_sym y x)
+other : (x y : Name) (ns : List Name) → ¬ T (member x (y ∷ ns)) → (y ≟ x) ≡ false
+other x y ns h = go (y ≟ x) (==_sym y x)
   where
-    go : (b : Bool) → (T b → T (x == y)) → b ≡ false
-    go true f = absurd (h (left_of_lem (x == y) (member x ns) (f tt)))
+    go : (b : Bool) → (T b → T (x ≟ y)) → b ≡ false
+    go true f = absurd (h (left_of_lem (x ≟ y) (member x ns) (f tt)))
     go false f = refl
 
 others : (ks : List Principal) → T (all valid_principal ks) → ¬ T (member admin (names ks)) → ¬ T (member anyone (names ks))
@@ -55,7 +55,7 @@ others (k ∷ ks) h a b =
     let n : 1 ≤ length k.name = (name_length k.name (three (is_name k.name) (valid_password k.password) (leb k.count last_count) v).0).0 in
     let w : name_weight k.name ≡ length k.name = weighs_all k.name (other admin k.name (names ks) a) (other anyone k.name (names ks) b) in
     let m : 3 * length (principals_text ks) ≤ 4 * sum principal_weight ks =
-    others ks r (λ t. a (right_of (admin == k.name) (member admin (names ks)) t)) (λ t. b (right_of (anyone == k.name) (member anyone (names ks)) t)) in
+    others ks r (λ t. a (right_of (admin ≟ k.name) (member admin (names ks)) t)) (λ t. b (right_of (anyone ≟ k.name) (member anyone (names ks)) t)) in
     omega (arith, longer k ks)
 
 -- ---- with admin and anyone
@@ -65,8 +65,8 @@ pub principals_text_lem : (ks : List Principal) → T (valid_order ks) → T (al
 principals_text_lem [] o h d = absurd o
 principals_text_lem (k ∷ []) o h d = absurd o
 principals_text_lem (k ∷ l ∷ ks) o h d =
-    let (f, z) = both ((k.name == admin) && has_password k && (l.name == anyone)) (all has_password ks) o in
-    let (a, w, b) = three (k.name == admin) (has_password k) (l.name == anyone) f in
+    let (f, z) = both ((k.name ≟ admin) && has_password k && (l.name ≟ anyone)) (all has_password ks) o in
+    let (a, w, b) = three (k.name ≟ admin) (has_password k) (l.name ≟ anyone) f in
     let e : k.name ≡ admin = ==→≡ k.name admin a in
     let g : l.name ≡ anyone = ==→≡ l.name anyone b in
     let (v, r) = both (valid_principal k) (all valid_principal (l ∷ ks)) h in
@@ -74,7 +74,7 @@ principals_text_lem (k ∷ l ∷ ks) o h d =
     let (x, y) = both (not (member k.name (names (l ∷ ks)))) (distinct (names (l ∷ ks))) d in
     let (s, t) = both (not (member l.name (names ks))) (distinct (names ks)) y in
     let no-admin : ¬ T (member admin (names ks)) =
-    λ i. subst (λ (n : Name). ¬ T (member n (names (l ∷ ks)))) e (T_not (member k.name (names (l ∷ ks))) x) (right_of (admin == l.name) (member admin (names ks)) i) in
+    λ i. subst (λ (n : Name). ¬ T (member n (names (l ∷ ks)))) e (T_not (member k.name (names (l ∷ ks))) x) (right_of (admin ≟ l.name) (member admin (names ks)) i) in
     let no-anyone : ¬ T (member anyone (names ks)) = subst (λ (n : Name). ¬ T (member n (names ks))) g (T_not (member l.name (names ks)) s) in
     let m : 3 * length (principals_text ks) ≤ 4 * sum principal_weight ks = others ks q no-admin no-anyone in
     let first : (length k.name ≡ 5) × (name_weight k.name ≡ 1) = (ap length e, ap name_weight e) in

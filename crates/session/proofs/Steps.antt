@@ -2,7 +2,7 @@
 use mathlib.Core.Path.{◌≡◌, subst, ap, ◌∙◌}
 use mathlib.Core.Bool.{Bool, true, false}
 use lib.Dec.{T}
-use Rattle.language.specs.Text.{if◌then◌else◌}
+use Rattle.language.specs.Text.{when◌then◌else◌}
 use Rattle.language.specs.Syntax.{Command}
 use Rattle.language.specs.Outcomes.{Outcome, gives, fails, fills}
 use Rattle.language.specs.Values.{Session}
@@ -21,14 +21,14 @@ module _ (s : Session) (c : Command) where
   pub is_filled : denied s c ≡ false → effect s c ≡ fills → step s c ≡ refused FULL
   is_filled h e = ap (λ (b : Bool). verdict b (effect s c)) h ∙ ap (λ (o : Outcome Effect). verdict false o) e
 
-  judged : (f : Effect) → denied s c ≡ false → effect s c ≡ gives f → step s c ≡ (if heavy f then refused FULL else went f)
+  judged : (f : Effect) → denied s c ≡ false → effect s c ≡ gives f → step s c ≡ (when heavy f then refused FULL else went f)
   judged f h e = ap (λ (b : Bool). verdict b (effect s c)) h ∙ ap (λ (o : Outcome Effect). verdict false o) e
 
   pub is_full : (f : Effect) → denied s c ≡ false → effect s c ≡ gives f → heavy f ≡ true → step s c ≡ refused FULL
-  is_full f h e k = judged f h e ∙ ap (λ (b : Bool). if◌then◌else◌ {A = Step} b (refused FULL) (went f)) k
+  is_full f h e k = judged f h e ∙ ap (λ (b : Bool). when◌then◌else◌ {A = Step} b (refused FULL) (went f)) k
 
   pub is_done : (f : Effect) → denied s c ≡ false → effect s c ≡ gives f → heavy f ≡ false → step s c ≡ went f
-  is_done f h e k = judged f h e ∙ ap (λ (b : Bool). if◌then◌else◌ {A = Step} b (refused FULL) (went f)) k
+  is_done f h e k = judged f h e ∙ ap (λ (b : Bool). when◌then◌else◌ {A = Step} b (refused FULL) (went f)) k
 
   -- a command that is done leaves a session ready for the next
   pub after_ready : (f : Effect) → Ready s → T (valid_command c) → step s c ≡ went f → Ready f.after

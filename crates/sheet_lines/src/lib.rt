@@ -2,7 +2,7 @@
 #![tactic(auto)]
 
 ghost use Rattle.std.specs.Prelude.{[], ◌∷◌, ◌+◌, ◌≤◌, ◌<◌, length, replicate};
-ghost use Rattle.language.specs.Text.{if◌then◌else◌};
+ghost use Rattle.language.specs.Text.{when◌then◌else◌};
 ghost use Rattle.language.specs.Sheet.{space, shown_name, shown_line};
 ghost use Rattle.value_text.specs.Writing.{Written};
 ghost use Rattle.sheet_lines.specs.Rights.{had_by};
@@ -48,7 +48,7 @@ pub fn put_name(out: &mut [u8], at: usize, name: &[u8]) -> usize
 // A right's letter, or a point where it is missing.
 fn put_right(out: &mut [u8], at: usize, had: bool, letter: u8) -> usize
     requires { at < length out.old }
-    ensures { Written out.old at ((if had then letter else 46) ∷ []) result out.new }
+    ensures { Written out.old at ((when had then letter else 46) ∷ []) result out.new }
 {
     if had {
         return put_byte(out, at, letter);

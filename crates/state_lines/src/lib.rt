@@ -2,7 +2,7 @@
 #![tactic(auto)]
 
 ghost use Rattle.std.specs.Prelude.{◌≡◌, [], ◌∷◌, ◌++◌, ◌+◌, ◌-◌, ◌≤◌, length, take, replicate};
-ghost use Rattle.language.specs.Text.{bytes, if◌then◌else◌};
+ghost use Rattle.language.specs.Text.{bytes, when◌then◌else◌};
 ghost use Rattle.language.specs.Encode.{head_text, delegator_text};
 ghost use Rattle.value_text.specs.Writing.{Written};
 ghost use Rattle.state_lines.specs.Lines.{assertion_line};
@@ -10,7 +10,7 @@ ghost use Rattle.state_lines.specs.Lines.{assertion_line};
 use value_text::{copy_in, put_byte};
 
 fn open_letter(is_open: bool) -> u8
-    ensures { result ∷ [] ≡ (if is_open then bytes "O" else bytes "C") }
+    ensures { result ∷ [] ≡ (when is_open then bytes "O" else bytes "C") }
 {
     if is_open {
         return b'O';

@@ -8,7 +8,7 @@ use Prim.Native.Nat.{ℕ, ◌+◌, ◌≤◌, ◌<◌}
 use native.Mathlib.Omega.{arith}
 use borrow.Author.Tests.{lt-ltb, le-ltb}
 use lib.ListN.{length, get_or, length-map, get_or-map}
-use Rattle.language.specs.Text.{Text, if◌then◌else◌}
+use Rattle.language.specs.Text.{Text, when◌then◌else◌}
 use Rattle.language.specs.Syntax.{Name}
 use Rattle.language.specs.State.{Principal, Variable}
 use Rattle.text.specs.Parts.{part}
@@ -68,11 +68,11 @@ module _ (rows : List Row) (n : ℕ) where
   count_names = length-map rows (λ (r : Row). r.name)
 
   pub name_gone : length rows ≤ n → name_of (row_names rows) n ≡ missing
-  name_gone h = ap (λ (b : Bool). if b then found n (get_or (row_names rows) n []) else missing) (le-ltb n (length (row_names rows)) (omega (arith, count_names)))
+  name_gone h = ap (λ (b : Bool). when b then found n (get_or (row_names rows) n []) else missing) (le-ltb n (length (row_names rows)) (omega (arith, count_names)))
 
   pub name_here : (t : Text) (count : ℕ) (slots : List ℕ) → Rows rows t count slots → n < count → (p : Place) → Placed rows n p
       → name_of (row_names rows) n ≡ found n (part t (p.start + 2) p.mid)
   name_here t count slots H h p P =
-      ap (λ (b : Bool). if b then found n (get_or (row_names rows) n []) else missing) (lt-ltb n (length (row_names rows)) (omega (arith, count_names, H.counted)))
+      ap (λ (b : Bool). when b then found n (get_or (row_names rows) n []) else missing) (lt-ltb n (length (row_names rows)) (omega (arith, count_names, H.counted)))
       ∙ ap (found n) (get_or-map (λ (r : Row). r.name) rows n no_row ∙ sym (name_part rows t count slots H n h p.mid P.name_ends))
       ∙ ap (λ (m : ℕ). found n (part t (m + 2) p.mid)) (sym P.starts)

@@ -1,7 +1,7 @@
 -- What a look-up in a state's text says: one number, and what it writes in the room that it is lent.
 use Rattle.std.specs.Prelude.{◌≡◌, List, [], ◌++◌, map, ℕ, ◌+◌, ◌*◌, ltb, length, drop, get_or}
 use Rattle.std.proofs.Math.Option.{Option, none, some}
-use Rattle.language.specs.Text.{Text, if◌then◌else◌}
+use Rattle.language.specs.Text.{Text, when◌then◌else◌}
 use Rattle.language.specs.Syntax.{Name}
 use Rattle.language.specs.State.{Value, Principal, Variable, named, value_in}
 use Rattle.language.specs.Encode.{value_text}
@@ -36,7 +36,7 @@ pub record Says (l : Look) (old new : List ℕ) (r : ℕ) : Type 0 where
 
 -- the n-th name
 abbrev pub name_of : List Name → ℕ → Look
-name_of names n = if ltb n (length names) then found n (get_or names n []) else missing
+name_of names n = when ltb n (length names) then found n (get_or names n []) else missing
 
 abbrev pub password : ℕ → Option Text → Look
 password k none = unkept k

@@ -10,7 +10,7 @@ use native.Mathlib.Omega.{arith}
 use borrow.Author.Tests.{ltb-true, ltb-false}
 use lib.Dec.{T, ltb}
 use lib.ListN.{length, get_or, length-map, get_or-map}
-use Rattle.language.specs.Text.{Text, ◌==◌, if◌then◌else◌}
+use Rattle.language.specs.Text.{Text, ◌≟◌, when◌then◌else◌}
 use Rattle.language.specs.Syntax.{Name}
 use Rattle.language.specs.State.{list, Principal, Variable, named, value_in}
 use Rattle.language.specs.Former.{Form, current, former}
@@ -44,7 +44,7 @@ answered rows x k s e q = go (ltb (position (row_names rows) x) (length rows)) r
     n : ℕ
     n = position (row_names rows) x
 
-    go : (b : Bool) → ltb n (length rows) ≡ b → At k s e ≡ (if b then At n (start_of rows n) (start_of rows (suc n)) else Missing) → Answered rows x k s e
+    go : (b : Bool) → ltb n (length rows) ≡ b → At k s e ≡ (when b then At n (start_of rows n) (start_of rows (suc n)) else Missing) → Answered rows x k s e
     go true h q =
         let en : k ≡ n = cc in
         let es : s ≡ start_of rows n = cc in
@@ -63,17 +63,17 @@ unanswered rows x q = go (ltb (position (row_names rows) x) (length rows)) refl 
     n : ℕ
     n = position (row_names rows) x
 
-    go : (b : Bool) → ltb n (length rows) ≡ b → Missing ≡ (if b then At n (start_of rows n) (start_of rows (suc n)) else Missing) → length rows ≤ n
+    go : (b : Bool) → ltb n (length rows) ≡ b → Missing ≡ (when b then At n (start_of rows n) (start_of rows (suc n)) else Missing) → length rows ≤ n
     go true h q = absurd (let z : ◌≡◌ {A = ℕ} 0 1 = cc in omega arith)
     go false h q = ltb-false n (length rows) h
 
 -- the name at its place
 pub position_name : (l : List Name) (x : Name) → position l x < length l → get_or l (position l x) [] ≡ x
 position_name [] x h = absurd (not-suc-le-zero h)
-position_name (y ∷ l) x h = go (y == x) refl h (position_name l x)
+position_name (y ∷ l) x h = go (y ≟ x) refl h (position_name l x)
   where
-    go : (b : Bool) → (y == x) ≡ b → (if b then 0 else suc (position l x)) < suc (length l) → (position l x < length l → get_or l (position l x) [] ≡ x)
-        → get_or (y ∷ l) (if b then 0 else suc (position l x)) [] ≡ x
+    go : (b : Bool) → (y ≟ x) ≡ b → (when b then 0 else suc (position l x)) < suc (length l) → (position l x < length l → get_or l (position l x) [] ≡ x)
+        → get_or (y ∷ l) (when b then 0 else suc (position l x)) [] ≡ x
     go true e h f = ==→≡ y x (subst T (sym e) tt)
     go false e h f = f (le_of_suc-le-suc h)
 
@@ -93,48 +93,48 @@ principal_names_lem = names_in current
 pub value_at : (vs : List Variable) (x : Name) → position (map (λ v. v.name) vs) x < length vs
     → value_in vs x ≡ some (variable_at vs (position (map (λ v. v.name) vs) x)).value
 value_at [] x h = absurd (not-suc-le-zero h)
-value_at (v ∷ vs) x h = go (v.name == x) h (value_at vs x)
+value_at (v ∷ vs) x h = go (v.name ≟ x) h (value_at vs x)
   where
     n : ℕ
     n = position (map (λ v. v.name) vs) x
 
-    go : (b : Bool) → (if b then 0 else suc n) < suc (length vs) → (n < length vs → value_in vs x ≡ some (variable_at vs n).value)
-        → (if b then some v.value else value_in vs x) ≡ some (variable_at (v ∷ vs) (if b then 0 else suc n)).value
+    go : (b : Bool) → (when b then 0 else suc n) < suc (length vs) → (n < length vs → value_in vs x ≡ some (variable_at vs n).value)
+        → (when b then some v.value else value_in vs x) ≡ some (variable_at (v ∷ vs) (when b then 0 else suc n)).value
     go true h f = refl
     go false h f = f (le_of_suc-le-suc h)
 
 pub value_none : (vs : List Variable) (x : Name) → length vs ≤ position (map (λ v. v.name) vs) x → value_in vs x ≡ none
 value_none [] x h = refl
-value_none (v ∷ vs) x h = go (v.name == x) h (value_none vs x)
+value_none (v ∷ vs) x h = go (v.name ≟ x) h (value_none vs x)
   where
     n : ℕ
     n = position (map (λ v. v.name) vs) x
 
-    go : (b : Bool) → suc (length vs) ≤ (if b then 0 else suc n) → (length vs ≤ n → value_in vs x ≡ none) → (if b then some v.value else value_in vs x) ≡ none
+    go : (b : Bool) → suc (length vs) ≤ (when b then 0 else suc n) → (length vs ≤ n → value_in vs x ≡ none) → (when b then some v.value else value_in vs x) ≡ none
     go true h f = absurd (not-suc-le-zero h)
     go false h f = f (le_of_suc-le-suc h)
 
 pub principal_at_lem : (ks : List Principal) (p : Name) → position (map (λ k. k.name) ks) p < length ks
     → named ks p ≡ some (principal_at ks (position (map (λ k. k.name) ks) p))
 principal_at_lem [] p h = absurd (not-suc-le-zero h)
-principal_at_lem (k ∷ ks) p h = go (k.name == p) h (principal_at_lem ks p)
+principal_at_lem (k ∷ ks) p h = go (k.name ≟ p) h (principal_at_lem ks p)
   where
     n : ℕ
     n = position (map (λ k. k.name) ks) p
 
-    go : (b : Bool) → (if b then 0 else suc n) < suc (length ks) → (n < length ks → named ks p ≡ some (principal_at ks n))
-        → (if b then some k else named ks p) ≡ some (principal_at (k ∷ ks) (if b then 0 else suc n))
+    go : (b : Bool) → (when b then 0 else suc n) < suc (length ks) → (n < length ks → named ks p ≡ some (principal_at ks n))
+        → (when b then some k else named ks p) ≡ some (principal_at (k ∷ ks) (when b then 0 else suc n))
     go true h f = refl
     go false h f = f (le_of_suc-le-suc h)
 
 pub principal_none : (ks : List Principal) (p : Name) → length ks ≤ position (map (λ k. k.name) ks) p → named ks p ≡ none
 principal_none [] p h = refl
-principal_none (k ∷ ks) p h = go (k.name == p) h (principal_none ks p)
+principal_none (k ∷ ks) p h = go (k.name ≟ p) h (principal_none ks p)
   where
     n : ℕ
     n = position (map (λ k. k.name) ks) p
 
-    go : (b : Bool) → suc (length ks) ≤ (if b then 0 else suc n) → (length ks ≤ n → named ks p ≡ none) → (if b then some k else named ks p) ≡ none
+    go : (b : Bool) → suc (length ks) ≤ (when b then 0 else suc n) → (length ks ≤ n → named ks p ≡ none) → (when b then some k else named ks p) ≡ none
     go true h f = absurd (not-suc-le-zero h)
     go false h f = f (le_of_suc-le-suc h)
 

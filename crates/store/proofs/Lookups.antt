@@ -9,7 +9,7 @@ use native.Mathlib.Numerals.{add-one}
 use native.Mathlib.Omega.{arith}
 use borrow.Author.Tests.{lt-ltb, le-ltb}
 use lib.ListN.{length, get_or, drop, length-map, get_or-map}
-use Rattle.language.specs.Text.{Text, ◌==◌, front}
+use Rattle.language.specs.Text.{Text, ◌≟◌, front}
 use Rattle.language.specs.Syntax.{Name}
 use Rattle.language.specs.Bytes.{word_byte}
 use Rattle.language.proofs.Logic.Tests.{==→≡, false_of}
@@ -48,10 +48,10 @@ module _ (rows : List Row) (t : Text) (count : ℕ) (slots : List ℕ) (H : Rows
 
 -- none of the first i rows has the name
 abbrev pub Passed : List Row → Name → ℕ → Type 0
-Passed rows x i = (j : ℕ) → j < i → ((row_at rows j).name == x) ≡ false
+Passed rows x i = (j : ℕ) → j < i → ((row_at rows j).name ≟ x) ≡ false
 
-hashes_differ : (y x : Name) → (hash y ≡ hash x → ⊥) → (y == x) ≡ false
-hashes_differ y x n = false_of (y == x) (λ h. n (ap hash (==→≡ y x h)))
+hashes_differ : (y x : Name) → (hash y ≡ hash x → ⊥) → (y ≟ x) ≡ false
+hashes_differ y x n = false_of (y ≟ x) (λ h. n (ap hash (==→≡ y x h)))
 
 pub passed_on : (rows : List Row) (t : Text) (count : ℕ) (slots : List ℕ) → Rows rows t count slots → (x : Name) (i p k : ℕ)
     → p ≡ hash x → FirstHit slots i count p k → Passed rows x i → Passed rows x k
@@ -65,17 +65,17 @@ passed_on rows t count slots H x i p k e F P j l = elim (dec_le (suc j) i) [
 name_of : (rows : List Row) (j : ℕ) → get_or (row_names rows) j [] ≡ (row_at rows j).name
 name_of rows j = get_or-map (λ (r : Row). r.name) rows j no_row
 
-passed_names : (rows : List Row) (x : Name) (k : ℕ) → Passed rows x k → (j : ℕ) → j < k → (get_or (row_names rows) j [] == x) ≡ false
-passed_names rows x k P j h = ap (λ (y : Name). y == x) (name_of rows j) ∙ P j h
+passed_names : (rows : List Row) (x : Name) (k : ℕ) → Passed rows x k → (j : ℕ) → j < k → (get_or (row_names rows) j [] ≟ x) ≡ false
+passed_names rows x k P j h = ap (λ (y : Name). y ≟ x) (name_of rows j) ∙ P j h
 
 names_count : (rows : List Row) → length (row_names rows) ≡ length rows
 names_count rows = length-map rows (λ (r : Row). r.name)
 
-pub placed_at : (rows : List Row) (x : Name) (k : ℕ) → k < length rows → Passed rows x k → ((row_at rows k).name == x) ≡ true
+pub placed_at : (rows : List Row) (x : Name) (k : ℕ) → k < length rows → Passed rows x k → ((row_at rows k).name ≟ x) ≡ true
     → At k (start_of rows k) (start_of rows (suc k)) ≡ place rows x
 placed_at rows x k h P e =
     let q : position (row_names rows) x ≡ k =
-    position_at (row_names rows) x k (omega (arith, names_count rows)) (passed_names rows x k P) (ap (λ (y : Name). y == x) (name_of rows k) ∙ e) in
+    position_at (row_names rows) x k (omega (arith, names_count rows)) (passed_names rows x k P) (ap (λ (y : Name). y ≟ x) (name_of rows k) ∙ e) in
     rw (q, lt-ltb k (length rows) h)
 
 pub placed_none : (rows : List Row) (x : Name) (count : ℕ) → count ≡ length rows → Passed rows x count → Missing ≡ place rows x

@@ -7,7 +7,7 @@ use Prim.Native.Nat.{ℕ, ◌+◌, ◌≤◌, ◌<◌}
 use native.Mathlib.Omega.{arith}
 use lib.Dec.{T}
 use lib.ListN.{length}
-use Rattle.language.specs.Text.{Text, if◌then◌else◌, ◌==◌}
+use Rattle.language.specs.Text.{Text, when◌then◌else◌, ◌≟◌}
 use Rattle.language.specs.Identifiers.{is_name}
 use Rattle.language.specs.State.{admin, anyone}
 use Rattle.language.specs.Weight.{name_weight}
@@ -17,16 +17,16 @@ use Rattle.store.specs.Rows.{Row, Rows, row_at, start_of, Placed}
 use Rattle.store.specs.declared.index.Place.{Place}
 use Rattle.store.proofs.Records.{name_part, name_valid}
 
-pub weighs_one : (x : Text) → ((x == admin) || (x == anyone)) ≡ true → name_weight x ≡ 1
-weighs_one x e = ap (λ (b : Bool). if b then 1 else length x) e
+pub weighs_one : (x : Text) → ((x ≟ admin) || (x ≟ anyone)) ≡ true → name_weight x ≡ 1
+weighs_one x e = ap (λ (b : Bool). when b then 1 else length x) e
 
-pub weighs_all : (x : Text) → (x == admin) ≡ false → (x == anyone) ≡ false → name_weight x ≡ length x
-weighs_all x e f = ap (λ (b : Bool). if b || (x == anyone) then 1 else length x) e ∙ ap (λ (b : Bool). if b then 1 else length x) f
+pub weighs_all : (x : Text) → (x ≟ admin) ≡ false → (x ≟ anyone) ≡ false → name_weight x ≡ length x
+weighs_all x e f = ap (λ (b : Bool). when b || (x ≟ anyone) then 1 else length x) e ∙ ap (λ (b : Bool). when b then 1 else length x) f
 
 pub name_light : (x : Text) → T (is_name x) → (1 ≤ name_weight x) × (name_weight x ≤ 255)
-name_light x h = go ((x == admin) || (x == anyone)) (name_length x h)
+name_light x h = go ((x ≟ admin) || (x ≟ anyone)) (name_length x h)
   where
-    go : (b : Bool) → (1 ≤ length x) × (length x ≤ 255) → (1 ≤ (if b then 1 else length x)) × ((if b then 1 else length x) ≤ 255)
+    go : (b : Bool) → (1 ≤ length x) × (length x ≤ 255) → (1 ≤ (when b then 1 else length x)) × ((when b then 1 else length x) ≤ 255)
     go true l = (omega arith, omega arith)
     go false l = l
 

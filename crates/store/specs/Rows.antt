@@ -2,7 +2,7 @@
 -- more. The look-ups are stated of such rows, once for both.
 use Rattle.std.specs.Prelude.{◌≡◌, ℕ, suc, ◌+◌, List, [], ◌∷◌, ◌++◌, map, ltb, length, take, get_or}
 use Rattle.std.proofs.Math.Option.{Option, none, some}
-use Rattle.language.specs.Text.{Text, joined, decimal, if◌then◌else◌, ◌==◌}
+use Rattle.language.specs.Text.{Text, joined, decimal, when◌then◌else◌, ◌≟◌}
 use Rattle.language.specs.Syntax.{Name}
 use Rattle.language.specs.State.{Principal, Variable}
 use Rattle.language.specs.Encode.{tab, newline, value_text}
@@ -69,7 +69,7 @@ variable_row v = record { letter = 86; name = v.name; body = some (value_text v.
 -- the place of a name in a list of names, or the length where it is not there
 abbrev pub position : List Name → Name → ℕ
 position [] x = 0
-position (y ∷ rest) x = if y == x then 0 else suc (position rest x)
+position (y ∷ rest) x = when y ≟ x then 0 else suc (position rest x)
 
 abbrev pub row_names : List Row → List Name
 row_names rows = map (λ r. r.name) rows
@@ -89,7 +89,7 @@ start_of rows k = length (joined row_text (take k rows))
 abbrev pub place : List Row → Name → Found
 place rows x =
     let k = position (row_names rows) x in
-    if ltb k (length rows) then At k (start_of rows k) (start_of rows (suc k)) else Missing
+    when ltb k (length rows) then At k (start_of rows k) (start_of rows (suc k)) else Missing
 
 -- the place of a number's row: where it starts, where its name ends, where it ends
 pub record Placed (rows : List Row) (k : ℕ) (p : Place) : Type 0 where

@@ -1,7 +1,7 @@
 // Records by name and by number. A slot is the hash of the record's name (15 bits) times 131,072 plus the place where the record starts
 // (17 bits), so that a name is looked for among numbers, and bytes are compared only where the hashes are equal.
 ghost use Rattle.std.specs.Prelude.{◌≡◌, List, ℕ, ◌+◌, ◌-◌, ◌/◌, ◌%◌, ◌≤◌, ◌<◌, length, get_or};
-ghost use Rattle.language.specs.Text.{◌==◌};
+ghost use Rattle.language.specs.Text.{◌≟◌};
 ghost use Rattle.store.specs.Held.{hash, places};
 ghost use Rattle.text.specs.Parts.{part};
 ghost use Rattle.store.specs.Rows.{Row, Rows, SomeRows, place, Placed};
@@ -133,7 +133,7 @@ pub fn nth(text: &[u8], slots: &[u32], count: usize, number: usize) -> Place
 // Whether the bytes from `from` up to `to` are the name.
 fn is_named(text: &[u8], from: usize, to: usize, name: &[u8]) -> bool
     requires { (from ≤ to) × (to ≤ length text.now) }
-    ensures { result ≡ (part text.now from to == name.now) }
+    ensures { result ≡ (part text.now from to ≟ name.now) }
 {
     text::same_bytes(&text[from..to], name)
 }

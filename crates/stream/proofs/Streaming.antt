@@ -9,21 +9,21 @@ use native.Mathlib.Omega.{arith}
 use lib.Dec.{T, eqb, eqb→eq, eqb_refl}
 use lib.ListN.{length, take, set, replicate, length-append, length-replicate, length-set}
 use lib.Seq.{take_all, take-append-le, take-suc-set}
-use Rattle.language.specs.Text.{Text, bytes, if◌then◌else◌, ◌==◌}
+use Rattle.language.specs.Text.{Text, bytes, when◌then◌else◌, ◌≟◌}
 use Rattle.language.proofs.Logic.Tests.{true_of, ==→≡}
 use Rattle.stream.specs.Stream.{Stars, line_after, last_line}
 
 -- ---- the last line
 
-pub line_more : (line stream : Text) (b : ℕ) → line_after line (stream ++ (b ∷ [])) ≡ (if eqb b 10 then [] else line_after line stream ++ (b ∷ []))
+pub line_more : (line stream : Text) (b : ℕ) → line_after line (stream ++ (b ∷ [])) ≡ (when eqb b 10 then [] else line_after line stream ++ (b ∷ []))
 line_more line [] b = refl
-line_more line (a ∷ stream) b = line_more (if eqb a 10 then [] else line ++ (a ∷ [])) stream b
+line_more line (a ∷ stream) b = line_more (when eqb a 10 then [] else line ++ (a ∷ [])) stream b
 
-new_line : (t : Bool) (l : Text) → t ≡ true → (if t then [] else l) ≡ []
+new_line : (t : Bool) (l : Text) → t ≡ true → (when t then [] else l) ≡ []
 new_line true l h = refl
 new_line false l h = let z : ◌≡◌ {A = ℕ} 0 1 = cc in absurd (omega arith)
 
-same_line : (t : Bool) (l : Text) → t ≡ false → (if t then [] else l) ≡ l
+same_line : (t : Bool) (l : Text) → t ≡ false → (when t then [] else l) ≡ l
 same_line true l h = let z : ◌≡◌ {A = ℕ} 0 1 = cc in absurd (omega arith)
 same_line false l h = refl
 
@@ -102,17 +102,17 @@ star_many stream b n d e s h =
     subst (λ l. Stars l 4) (ap (λ m. last_line stream ++ (m ∷ [])) (sym e) ∙ sym (elsewhere stream b d)) (stars_many (last_line stream) n s h)
 
 -- three stars are the last line
-pub three_stars : (line : Text) (n : ℕ) → Stars line n → eqb n 3 ≡ (line == bytes "***")
-three_stars line n s = settle (eqb n 3) (line == bytes "***") refl refl
+pub three_stars : (line : Text) (n : ℕ) → Stars line n → eqb n 3 ≡ (line ≟ bytes "***")
+three_stars line n s = settle (eqb n 3) (line ≟ bytes "***") refl refl
   where
-    settle : (a b : Bool) → eqb n 3 ≡ a → (line == bytes "***") ≡ b → a ≡ b
+    settle : (a b : Bool) → eqb n 3 ≡ a → (line ≟ bytes "***") ≡ b → a ≡ b
     settle true true h k = refl
     settle false false h k = refl
     settle true false h k =
         let e : n ≡ 3 = eqb→eq n 3 (subst T (sym h) tt) in
         let l : line ≡ replicate n 42 = s.shows (omega arith) in
         let l : line ≡ bytes "***" = l ∙ ap (λ m. replicate m 42) e in
-        let t : T (line == bytes "***") = subst (λ m. T (m == bytes "***")) (sym l) tt in
+        let t : T (line ≟ bytes "***") = subst (λ m. T (m ≟ bytes "***")) (sym l) tt in
         absurd (subst T k t)
     settle false true h k =
         let l : line ≡ bytes "***" = ==→≡ line (bytes "***") (subst T (sym k) tt) in

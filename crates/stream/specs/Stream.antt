@@ -1,19 +1,19 @@
 -- A stream of bytes so far, and where a program ends in it: at a line that says `***`.
 use Rattle.std.specs.Prelude.{ℕ, ◌≤◌, min, ◌≡◌, Bool, [], ◌∷◌, ◌++◌, eqb, length, take, replicate}
-use Rattle.language.specs.Text.{Text, bytes, if◌then◌else◌, ◌==◌}
+use Rattle.language.specs.Text.{Text, bytes, when◌then◌else◌, ◌≟◌}
 use Rattle.stream.specs.declared.Reading.{Reading}
 
 -- the last line of a text, where `line` stands before it
 abbrev pub line_after : Text → Text → Text
 line_after line [] = line
-line_after line (b ∷ rest) = line_after (if eqb b 10 then [] else line ++ (b ∷ [])) rest
+line_after line (b ∷ rest) = line_after (when eqb b 10 then [] else line ++ (b ∷ [])) rest
 
 -- what stands after the last newline
 abbrev pub last_line : Text → Text
 last_line stream = line_after [] stream
 
 abbrev pub is_last : Text → Bool
-is_last stream = last_line stream == bytes "***"
+is_last stream = last_line stream ≟ bytes "***"
 
 -- a line of up to three stars and nothing else is counted; any other has a higher number
 pub record Stars (line : Text) (n : ℕ) : Type 0 where

@@ -8,7 +8,7 @@ use Prim.Native.Nat.{ℕ, zero, suc, ◌+◌, ◌-◌, ◌≤◌, ◌<◌}
 use native.Mathlib.Omega.{arith}
 use lib.ListN.{length}
 use native.Mathlib.Nat.{add-zero, add-suc}
-use Rattle.language.specs.Text.{Text, if◌then◌else◌, bytes, ◌==◌, ◌or_else◌}
+use Rattle.language.specs.Text.{Text, when◌then◌else◌, bytes, ◌≟◌, ◌or_else◌}
 use Rattle.language.specs.Tokens.{Token, sign, ident, text, wrong}
 use Rattle.language.specs.Syntax.{Binding, name, dot, quoted}
 use Rattle.language.specs.Grammar.{Reader, then_read, ◌>>=◌, ◌>>◌, ◌∣◌, give, the_sign, the, any_name, any_string, any_operand, field_or_variable, any_fields}
@@ -26,9 +26,9 @@ rest_is {A} {a} {b} {us} {vs} e = let p : ◌≡◌ {A = A × List Token} (a, us
 
 pub sign_shorter : (s : Text) → Shorter (the_sign s)
 sign_shorter s [] us a e = no_some e
-sign_shorter s (sign w ∷ ts) us a e = go (w == s) e
+sign_shorter s (sign w ∷ ts) us a e = go (w ≟ s) e
   where
-    go : (t : Bool) → if◌then◌else◌ {A = Option (Unit {0} × List Token)} t (some (tt, ts)) none ≡ some (a, us) → length us < suc (length ts)
+    go : (t : Bool) → when◌then◌else◌ {A = Option (Unit {0} × List Token)} t (some (tt, ts)) none ≡ some (a, us) → length us < suc (length ts)
     go true q = omega (arith, ap length (rest_is q))
     go false q = no_some q
 sign_shorter s (ident w ∷ ts) us a e = no_some e

@@ -6,7 +6,7 @@ use mathlib.Core.List.{List, ◌∷◌}
 use mathlib.Core.Bool.{true}
 use Prim.Native.Nat.{ℕ, ◌<◌}
 use native.Mathlib.Omega.{arith}
-use Rattle.language.specs.Text.{Text, bytes, ◌==◌, ◌>>=◌, present}
+use Rattle.language.specs.Text.{Text, bytes, ◌≟◌, ◌>>=◌, present}
 use Rattle.language.specs.Tokens.{Token, sign, ident}
 use Rattle.language.specs.Syntax.{Operand, Binding, single, nothing, fields}
 use Rattle.language.specs.Grammar.{then_read, give, field_or_variable, any_term}
@@ -23,14 +23,14 @@ fields_there (some r) e = refl
 
 -- ---- past a mark
 module _ (w : Text) (us : List Token) where
-  pub empty_list : (w == bytes "[]") ≡ true → any_term (sign w ∷ us) ≡ some (nothing, us)
+  pub empty_list : (w ≟ bytes "[]") ≡ true → any_term (sign w ∷ us) ≡ some (nothing, us)
   empty_list q = ap (λ (v : Text). any_term (sign v ∷ us)) (same_true w (bytes "[]") q)
 
-  opened : (w == bytes "{") ≡ true → any_term (sign w ∷ us) ≡ then_read (all_fields us) (λ fs. give (fields fs))
+  opened : (w ≟ bytes "{") ≡ true → any_term (sign w ∷ us) ≡ then_read (all_fields us) (λ fs. give (fields fs))
   opened q =
       ap (λ (v : Text). any_term (sign v ∷ us)) (same_true w (bytes "{") q) ∙ or_else_none (then_read (all_fields us) (λ fs. give (fields fs)))
 
-  pub no_record : (w == bytes "{") ≡ true → skipped (all_fields us) ≡ none → any_term (sign w ∷ us) ≡ none
+  pub no_record : (w ≟ bytes "{") ≡ true → skipped (all_fields us) ≡ none → any_term (sign w ∷ us) ≡ none
   no_record q f = opened q ∙ go (all_fields us) f
     where
       go : (o : Option (List Binding × List Token)) → skipped o ≡ none → then_read o (λ fs. give (fields fs)) ≡ none
@@ -39,7 +39,7 @@ module _ (w : Text) (us : List Token) where
 
   pub one_record :
       {vs : List Token}
-      → (w == bytes "{") ≡ true
+      → (w ≟ bytes "{") ≡ true
       → skipped (all_fields us) ≡ some (tt, vs)
       → any_term (sign w ∷ us) ≡ ((all_fields us >>= λ r. some (fields r.0)) >>= λ x. some (x, vs))
   one_record {vs} q f = opened q ∙ go (all_fields us) f

@@ -8,7 +8,7 @@ use native.Mathlib.Omega.{arith}
 use native.Mathlib.Numerals.{add-one}
 use lib.ListN.{length, get_or, take, drop, drop_of_length-le}
 use lib.Seq.{drop-cons, drop-drop}
-use Rattle.language.specs.Text.{if◌then◌else◌, front, past}
+use Rattle.language.specs.Text.{when◌then◌else◌, front, past}
 
 module _ (p : ℕ → Bool) (xs : List ℕ) (i : ℕ) where
   pub run_on : i < length xs → p (get_or xs i 0) ≡ true → front p (drop i xs) ≡ get_or xs i 0 ∷ front p (drop (i + 1) xs)
@@ -25,7 +25,7 @@ pub run_le : (p : ℕ → Bool) (xs : List ℕ) → length (front p xs) ≤ leng
 run_le p [] = omega arith
 run_le p (x ∷ xs) = go (p x) (run_le p xs)
   where
-    go : (t : Bool) → length (front p xs) ≤ length xs → length (if t then x ∷ front p xs else []) ≤ suc (length xs)
+    go : (t : Bool) → length (front p xs) ≤ length xs → length (when t then x ∷ front p xs else []) ≤ suc (length xs)
     go true h = omega arith
     go false h = omega arith
 
@@ -33,7 +33,7 @@ pub take_run : (p : ℕ → Bool) (xs : List ℕ) → take (length (front p xs))
 take_run p [] = refl
 take_run p (x ∷ xs) = go (p x) (take_run p xs)
   where
-    go : (t : Bool) → take (length (front p xs)) xs ≡ front p xs → take (length (if t then x ∷ front p xs else [])) (x ∷ xs) ≡ (if t then x ∷ front p xs else [])
+    go : (t : Bool) → take (length (front p xs)) xs ≡ front p xs → take (length (when t then x ∷ front p xs else [])) (x ∷ xs) ≡ (when t then x ∷ front p xs else [])
     go true e = ap (λ (l : List ℕ). x ∷ l) e
     go false e = refl
 
@@ -41,7 +41,7 @@ pub drop_run : (p : ℕ → Bool) (xs : List ℕ) → drop (length (front p xs))
 drop_run p [] = refl
 drop_run p (x ∷ xs) = go (p x) (drop_run p xs)
   where
-    go : (t : Bool) → drop (length (front p xs)) xs ≡ past p xs → drop (length (if t then x ∷ front p xs else [])) (x ∷ xs) ≡ (if t then past p xs else x ∷ xs)
+    go : (t : Bool) → drop (length (front p xs)) xs ≡ past p xs → drop (length (when t then x ∷ front p xs else [])) (x ∷ xs) ≡ (when t then past p xs else x ∷ xs)
     go true e = e
     go false e = refl
 

@@ -11,31 +11,31 @@ use lib.ListN.{length, get_or, take, drop, drop_of_length-le}
 use lib.Seq.{drop-cons, drop-drop}
 use borrow.Author.Tests.{eqb-true, leb-true, leb-false, le-leb}
 use Rattle.text.proofs.Runs.{take_run, drop_run}
-use Rattle.language.specs.Text.{if◌then◌else◌, front, past, ◌==◌, parts, to_first}
+use Rattle.language.specs.Text.{when◌then◌else◌, front, past, ◌≟◌, parts, to_first}
 use Rattle.text.specs.Meaning.{is_not}
 use Rattle.language.proofs.Logic.Tests.{and_false}
 
 -- ---- equal texts
 module _ (a b : List ℕ) (i : ℕ) where
-  pub same_step : i < length a → i < length b → (drop i a == drop i b) ≡ (eqb (get_or a i 0) (get_or b i 0) && (drop (i + 1) a == drop (i + 1) b))
+  pub same_step : i < length a → i < length b → (drop i a ≟ drop i b) ≡ (eqb (get_or a i 0) (get_or b i 0) && (drop (i + 1) a ≟ drop (i + 1) b))
   same_step h k = rw (add-one, drop-cons a i 0 h, drop-cons b i 0 k)
 
-  pub same_none : length a ≤ i → length b ≤ i → (drop i a == drop i b) ≡ true
+  pub same_none : length a ≤ i → length b ≤ i → (drop i a ≟ drop i b) ≡ true
   same_none h k = rw (drop_of_length-le a {i = i} h, drop_of_length-le b {i = i} k)
 
-pub same_length : (a b : List ℕ) → (length a ≡ length b → ⊥) → (a == b) ≡ false
+pub same_length : (a b : List ℕ) → (length a ≡ length b → ⊥) → (a ≟ b) ≡ false
 same_length [] [] n = absurd (n refl)
 same_length [] (y ∷ ys) n = refl
 same_length (x ∷ xs) [] n = refl
 same_length (x ∷ xs) (y ∷ ys) n = rw (same_length xs ys (λ e. n (ap suc e))) (and_false (eqb x y))
 
-pub same_true : (a b : List ℕ) → (a == b) ≡ true → a ≡ b
+pub same_true : (a b : List ℕ) → (a ≟ b) ≡ true → a ≡ b
 same_true [] [] e = refl
 same_true [] (y ∷ ys) e = cc
 same_true (x ∷ xs) [] e = cc
 same_true (x ∷ xs) (y ∷ ys) e = go (eqb x y) refl e (same_true xs ys)
   where
-    go : (t : Bool) → eqb x y ≡ t → (t && (xs == ys)) ≡ true → ((xs == ys) ≡ true → xs ≡ ys) → x ∷ xs ≡ y ∷ ys
+    go : (t : Bool) → eqb x y ≡ t → (t && (xs ≟ ys)) ≡ true → ((xs ≟ ys) ≡ true → xs ≡ ys) → x ∷ xs ≡ y ∷ ys
     go true q e ih = rw (eqb-true x y q, ih e)
     go false q e ih = cc
 
@@ -49,19 +49,19 @@ split_run c [] = refl
 split_run c (x ∷ xs) = go (eqb x c) (split_run c xs)
   where
     go : (t : Bool) → parts c xs ≡ front (is_not c) xs ∷ next c (past (is_not c) xs)
-        → (if t then [] ∷ parts c xs else to_first x (parts c xs))
-        ≡ (if not t then x ∷ front (is_not c) xs else []) ∷ next c (if not t then past (is_not c) xs else x ∷ xs)
+        → (when t then [] ∷ parts c xs else to_first x (parts c xs))
+        ≡ (when not t then x ∷ front (is_not c) xs else []) ∷ next c (when not t then past (is_not c) xs else x ∷ xs)
     go true e = refl
     go false e = ap (to_first x) e
 
 -- the parts from place p on; none past the end
 abbrev pub parts_from : ℕ → ℕ → List ℕ → List (List ℕ)
-parts_from c p xs = if leb p (length xs) then parts c (drop p xs) else []
+parts_from c p xs = when leb p (length xs) then parts c (drop p xs) else []
 
 next_parts : (c e : ℕ) (xs : List ℕ) → next c (drop e xs) ≡ parts_from c (e + 1) xs
 next_parts c e xs = go (leb (e + 1) (length xs)) refl
   where
-    go : (t : Bool) → leb (e + 1) (length xs) ≡ t → next c (drop e xs) ≡ (if t then parts c (drop (e + 1) xs) else [])
+    go : (t : Bool) → leb (e + 1) (length xs) ≡ t → next c (drop e xs) ≡ (when t then parts c (drop (e + 1) xs) else [])
     go true q = rw (add-one, drop-cons xs e 0 (omega (arith, leb-true (e + 1) (length xs) q)))
     go false q = rw (drop_of_length-le xs {i = e} (omega (arith, leb-false (e + 1) (length xs) q)))
 

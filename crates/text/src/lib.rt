@@ -2,7 +2,7 @@
 #![tactic(auto)]
 
 ghost use Rattle.std.specs.Prelude.{◌≡◌, ◌+◌, ◌≤◌, length, drop};
-ghost use Rattle.language.specs.Text.{◌==◌, front};
+ghost use Rattle.language.specs.Text.{◌≟◌, front};
 ghost use Rattle.language.specs.Bytes.{class, word_byte, string_byte, comment_byte};
 ghost use Rattle.text.specs.Meaning.{class_meant, in_alphabet, is_not};
 
@@ -137,7 +137,7 @@ pub fn until(text: &[u8], at: usize, stop: u8) -> usize
 
 // Two texts are the same.
 pub fn same_bytes(a: &[u8], b: &[u8]) -> bool
-    ensures { result ≡ (a.now == b.now) }
+    ensures { result ≡ (a.now ≟ b.now) }
 {
     if a.len() != b.len() {
         return false;

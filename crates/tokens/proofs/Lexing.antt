@@ -9,7 +9,7 @@ use native.Mathlib.Numerals.{add-one}
 use borrow.Author.Tests.{le-leb, lt-leb, eq-eqb, ne_eqb}
 use lib.ListN.{length, get_or, drop, drop_of_length-le}
 use lib.Seq.{drop-cons, drop-drop}
-use Rattle.language.specs.Text.{Text, if◌then◌else◌, bytes, member, front}
+use Rattle.language.specs.Text.{Text, when◌then◌else◌, bytes, member, front}
 use Rattle.language.specs.Bytes.{◌is◌, ◌∈◌, between, Class, class, letter, digit, space, newline, mark, foreign, marks, word_byte, string_byte, comment_byte}
 use Rattle.language.specs.Identifiers.{keywords}
 use Rattle.language.specs.Tokens.{Token, token, bad, sign, ident, text, wrong, tokens, lex, lead, lexeme, word, quoted_by, comment, pair}
@@ -159,7 +159,7 @@ module _ (t : List ℕ) (i : ℕ) (h : i < length t) where
 pub class_mark : (b m : ℕ) → class b ≡ mark m → m ≡ b
 class_mark b m q = go (between "a" "z" b || between "A" "Z" b) (between "0" "9" b) (b is " ") (b is "\n") (b ∈ marks) q
   where
-    go : (l d s n k : Bool) → (if l then letter else if d then digit else if s then space else if n then newline else if k then mark b else foreign) ≡ mark m → m ≡ b
+    go : (l d s n k : Bool) → (when l then letter else when d then digit else when s then space else when n then newline else when k then mark b else foreign) ≡ mark m → m ≡ b
     go true d s n k e = cc
     go false true s n k e = cc
     go false false true n k e = cc

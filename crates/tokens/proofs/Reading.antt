@@ -7,7 +7,7 @@ use Prim.Native.Nat.{ℕ}
 use native.Mathlib.Omega.{arith}
 use lib.ListN.{drop}
 use mathlib.Core.Bool.{Bool, true, false}
-use Rattle.language.specs.Text.{Text, if◌then◌else◌, ◌==◌, ◌or_else◌}
+use Rattle.language.specs.Text.{Text, when◌then◌else◌, ◌≟◌, ◌or_else◌}
 use Rattle.text.proofs.Words.{same_true}
 use Rattle.language.specs.Tokens as Tokens
 use Rattle.language.specs.Syntax.{name, dot}
@@ -57,18 +57,18 @@ sign_is (Tokens.wrong ∷ ts) e = no_some e
 
 -- ---- the keyword or mark v that was read, compared with w
 module _ (w : Text) (ts : List Tokens.Token) {v : Text} {us : List Tokens.Token} (e : any_sign ts ≡ some (v, us)) where
-  pub sign_same : (v == w) ≡ true → the_sign w ts ≡ some (tt, us)
+  pub sign_same : (v ≟ w) ≡ true → the_sign w ts ≡ some (tt, us)
   sign_same q = ap (the_sign w) (sign_is ts e) ∙ rw q
 
-  pub sign_other : (v == w) ≡ false → the_sign w ts ≡ none
+  pub sign_other : (v ≟ w) ≡ false → the_sign w ts ≡ none
   sign_other q = ap (the_sign w) (sign_is ts e) ∙ rw q
 
 -- the keyword or mark that was read stands there
 pub the_is : (w : Text) (ts : List Tokens.Token) {us : List Tokens.Token} → the_sign w ts ≡ some (tt, us) → ts ≡ Tokens.sign w ∷ us
 the_is w [] e = no_some e
-the_is w (Tokens.sign v ∷ ts) {us} e = go (v == w) refl e
+the_is w (Tokens.sign v ∷ ts) {us} e = go (v ≟ w) refl e
   where
-    go : (t : Bool) → (v == w) ≡ t → if◌then◌else◌ {A = Option (Unit {0} × List Tokens.Token)} t (some (tt, ts)) none ≡ some (tt, us) → Tokens.sign v ∷ ts ≡ Tokens.sign w ∷ us
+    go : (t : Bool) → (v ≟ w) ≡ t → when◌then◌else◌ {A = Option (Unit {0} × List Tokens.Token)} t (some (tt, ts)) none ≡ some (tt, us) → Tokens.sign v ∷ ts ≡ Tokens.sign w ∷ us
     go true q e =
         let p : ◌≡◌ {A = Unit {0} × List Tokens.Token} (tt, ts) (tt, us) = cc in
         let y : ts ≡ us = ap (λ (q : Unit {0} × List Tokens.Token). q.1) p in
@@ -94,5 +94,5 @@ module _ (w : Text) (ts : List Tokens.Token) where
   no_dot d = rw d
 
 -- a keyword or mark that is w
-pub spelled : {ts us : List Tokens.Token} {v : Text} (w : Text) → ts ≡ Tokens.sign v ∷ us → (v == w) ≡ true → ts ≡ Tokens.sign w ∷ us
+pub spelled : {ts us : List Tokens.Token} {v : Text} (w : Text) → ts ≡ Tokens.sign v ∷ us → (v ≟ w) ≡ true → ts ≡ Tokens.sign w ∷ us
 spelled {ts} {us} {v} w e q = e ∙ ap (λ (x : Text). Tokens.sign x ∷ us) (same_true v w q)

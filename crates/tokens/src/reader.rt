@@ -1,6 +1,6 @@
 // Readers of one token. A reader starts at a place of the text and, where it reads, gives the place past what it read.
 ghost use Rattle.std.specs.Prelude.{◌≡◌, ◌≤◌, length, drop};
-ghost use Rattle.language.specs.Text.{◌==◌};
+ghost use Rattle.language.specs.Text.{◌≟◌};
 ghost use Rattle.language.specs.Tokens.{lex};
 ghost use Rattle.language.specs.Grammar.{the_sign, any_name, any_string};
 ghost use Rattle.text.specs.Meaning.{part, Within};
@@ -74,7 +74,7 @@ pub fn string_at(text: &[u8], at: usize) -> Found
 // Whether what was read at `place` is `word`.
 pub fn is_sign(text: &[u8], place: Span, word: &[u8]) -> bool
     requires { Within text.now place }
-    ensures { result ≡ (part text.now place == word.now) }
+    ensures { result ≡ (part text.now place ≟ word.now) }
 {
     let start = place.start;
     let end = place.end;

@@ -8,7 +8,7 @@ use mathlib.Core.Option.{none, some}
 use mathlib.Core.List.{List, [], ◌∷◌, ◌++◌, append-nil}
 use lib.Dec.{T}
 use lib.ListN.{length, get_or, take, drop, length-drop}
-use Rattle.language.specs.Text.{Text, if◌then◌else◌, ◌==◌, joined}
+use Rattle.language.specs.Text.{Text, when◌then◌else◌, ◌≟◌, joined}
 use Rattle.language.specs.Syntax.{Name}
 use Rattle.language.specs.State.{Field, string, fields, Value, single, list}
 use Rattle.language.specs.Values.{text_of}
@@ -86,17 +86,17 @@ module _ (t : Text) (y : Name) (v : Value) (at : ℕ) (C : Candidate t y v at) w
   some_field = record { field = C.field; rest = rest_of; stands = candidate_at }
 
   module _ (r : Ends) (E : EndsOf t at C.field rest_of r) where
-    pub matched : (take (r.label - (at + 2)) (drop (at + 2) t) == y) ≡ true
+    pub matched : (take (r.label - (at + 2)) (drop (at + 2) t) ≟ y) ≡ true
         → some (part t (record { start = r.label + 1; end = r.text })) ≡ field_of v y
     matched b =
-        let q : (C.field.label == y) ≡ true = ap (λ l. l == y) (sym E.Label-is) ∙ b in
-        sym (C.answer ∙ ap (λ b. if b then some C.field.text else text_of C.more y) q ∙ ap some (sym E.text_is))
+        let q : (C.field.label ≟ y) ≡ true = ap (λ l. l ≟ y) (sym E.Label-is) ∙ b in
+        sym (C.answer ∙ ap (λ b. when b then some C.field.text else text_of C.more y) q ∙ ap some (sym E.text_is))
 
-    pub unmatched : (take (r.label - (at + 2)) (drop (at + 2) t) == y) ≡ false → Unseen t y v (r.text + 1)
+    pub unmatched : (take (r.label - (at + 2)) (drop (at + 2) t) ≟ y) ≡ false → Unseen t y v (r.text + 1)
     unmatched b =
-        let q : (C.field.label == y) ≡ false = ap (λ l. l == y) (sym E.Label-is) ∙ b in
+        let q : (C.field.label ≟ y) ≡ false = ap (λ l. l ≟ y) (sym E.Label-is) ∙ b in
         record {
           left = C.more;
           stand = fields_tail t at C.field C.more [] (r.text + 1) (omega (arith, E.label_end, E.text_end, field_length C.field)) C.stand;
-          answer = C.answer ∙ ap (λ b. if b then some C.field.text else text_of C.more y) q;
+          answer = C.answer ∙ ap (λ b. when b then some C.field.text else text_of C.more y) q;
         }

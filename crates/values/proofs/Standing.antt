@@ -8,7 +8,7 @@ use mathlib.Core.List.{List, [], ◌∷◌, ◌++◌, append_assoc, map}
 use lib.Dec.{T, eqb, ltb, eqb_refl}
 use lib.ListN.{length, take, drop, length-append, length-drop}
 use lib.Seq.{drop-drop, drop-append_seam, take-append_seam}
-use Rattle.language.specs.Text.{Text, if◌then◌else◌, all, distinct, front}
+use Rattle.language.specs.Text.{Text, when◌then◌else◌, all, distinct, front}
 use Rattle.language.specs.State.{Field}
 use Rattle.language.specs.Encode.{field_text}
 use Rattle.language.specs.Identifiers.{is_name, is_string}
@@ -42,14 +42,14 @@ free_newline = all_map _ _ (λ b h. (both (not (eqb b 9)) (not (eqb b 10)) h).1)
 front_free : (m : ℕ) (a r : Text) → Free m a → front (is_not m) (a ++ m ∷ r) ≡ a
 front_free m [] r h = go (eqb m m) (eqb_refl m)
   where
-    go : (c : Bool) → T c → (if not c then m ∷ front (is_not m) r else []) ≡ []
+    go : (c : Bool) → T c → (when not c then m ∷ front (is_not m) r else []) ≡ []
     go true k = refl
     go false k = absurd k
 front_free m (b ∷ a) r h =
     let (h₁, h₂) = both (not (eqb b m)) (all (λ b. not (eqb b m)) a) h in
     go (not (eqb b m)) h₁ (front_free m a r h₂)
   where
-    go : (c : Bool) → T c → front (is_not m) (a ++ m ∷ r) ≡ a → (if c then b ∷ front (is_not m) (a ++ m ∷ r) else []) ≡ b ∷ a
+    go : (c : Bool) → T c → front (is_not m) (a ++ m ∷ r) ≡ a → (when c then b ∷ front (is_not m) (a ++ m ∷ r) else []) ≡ b ∷ a
     go true k e = ap (λ l. b ∷ l) e
     go false k e = absurd k
 

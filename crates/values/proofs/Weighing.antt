@@ -9,7 +9,7 @@ use mathlib.Core.List.{List, [], ◌∷◌, ◌++◌}
 use lib.Dec.{T, eqb}
 use lib.ListN.{length, get_or, drop, length-append}
 use lib.Seq.{drop-cons}
-use Rattle.language.specs.Text.{Text, if◌then◌else◌, all, sum, joined}
+use Rattle.language.specs.Text.{Text, when◌then◌else◌, all, sum, joined}
 use Rattle.language.specs.State.{Field, Element, string, fields, Value, single, list}
 use Rattle.language.specs.Weight.{element_weight, value_weight}
 use Rattle.language.specs.Encode.{field_text, element_text, value_text}
@@ -32,7 +32,7 @@ breaks_clean (b ∷ t) h =
     let (k₁, k₂) = both (not (eqb b 9)) (not (eqb b 10)) h₁ in
     go (eqb b 9) (eqb b 10) k₁ k₂ (breaks_clean t h₂)
   where
-    go : (c d : Bool) → T (not c) → T (not d) → breaks t ≡ 0 → (if c then 1 else if d then 1 else 0) + breaks t ≡ 0
+    go : (c d : Bool) → T (not c) → T (not d) → breaks t ≡ 0 → (when c then 1 else when d then 1 else 0) + breaks t ≡ 0
     go true d k m e = absurd k
     go false true k m e = absurd m
     go false false k m e = omega arith

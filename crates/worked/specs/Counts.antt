@@ -2,7 +2,7 @@
 use Rattle.std.specs.Prelude.{◌≡◌, refl, ℕ, true, false, ◌&&◌, List, [], ◌∷◌, ◌++◌, map, replicate}
 use Prim.Native.String.{String}
 use Rattle.std.proofs.Math.Option.{Option, none, some}
-use Rattle.language.specs.Text.{Text, bytes, parts, ◌>>=◌, ◌>>◌, given, ◌==◌}
+use Rattle.language.specs.Text.{Text, bytes, parts, ◌>>=◌, ◌>>◌, given, ◌≟◌}
 use Rattle.language.specs.State.{string, single, Store, fresh}
 use Rattle.language.specs.Weight.{store_weight}
 use Rattle.language.specs.Encode.{newline, state_text, buffer_size}
@@ -137,7 +137,7 @@ state_texts_right = refl
 
 -- as `decode_former` of the buffer, with the zero bytes left out to spare the time
 abbrev pub former : Text → Option Store
-former t = read_lines (parts newline t) >>= λ b. given (valid_former b.count b.store && (former_text b.count b.store == t)) >> some b.store
+former t = read_lines (parts newline t) >>= λ b. given (valid_former b.count b.store && (former_text b.count b.store ≟ t)) >> some b.store
 
 -- what bringing such a text over answers, and the text that it leaves
 abbrev pub brings : Text → Answer

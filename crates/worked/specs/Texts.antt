@@ -1,7 +1,7 @@
 -- State texts that are not well formed, and programs that do not parse.
 use Rattle.std.specs.Prelude.{◌≡◌, refl, Bool, true, false, ◌&&◌, List, [], ◌∷◌, ◌++◌, map}
 use Prim.Native.String.{String}
-use Rattle.language.specs.Text.{Text, bytes, parts, present, ◌>>=◌, given, ◌==◌}
+use Rattle.language.specs.Text.{Text, bytes, parts, present, ◌>>=◌, given, ◌≟◌}
 use Rattle.language.specs.Valid.{valid_store}
 use Rattle.language.specs.Encode.{newline, state_text, padded}
 use Rattle.language.specs.Decode.{read_lines, decode}
@@ -17,7 +17,7 @@ pub record Judged : Type 0 where
 
 -- as `decode` of the buffer, with the zero bytes left out to spare the time
 abbrev pub accepted : Text → Bool
-accepted t = present (read_lines (parts newline t) >>= λ b. given (valid_store b.store && (state_text b.store == t)))
+accepted t = present (read_lines (parts newline t) >>= λ b. given (valid_store b.store && (state_text b.store ≟ t)))
 
 abbrev pub well_formed : List String → Bool
 well_formed ls = accepted (page ls)

@@ -12,14 +12,14 @@ use lib.IntN.{ℤ, pos, nat_abs, ◌*ℤ◌}
 use mir.Syntax.{w64}
 use mir.Val.{to_z, of_z}
 use mir.Facts.{to_z-of_z}
-use Rattle.language.specs.Text.{if◌then◌else◌}
+use Rattle.language.specs.Text.{when◌then◌else◌}
 use Rattle.language.specs.Prices as Prices
 use Rattle.amounts.proofs.Fitting.{again, product_small}
 use Rattle.amounts.proofs.per.Goals as goal
 
 -- what is answered, by the test of the divisor
 abbrev answered : ℤ → ℤ → Bool → Option ℤ
-answered a b z = if z then none else Prices.ranged (Prices.rounded (a *ℤ pos 100) b)
+answered a b z = when z then none else Prices.ranged (Prices.rounded (a *ℤ pos 100) b)
 
 pub returns-then-magnitude-eq0 : goal.returns-then-magnitude-eq0
 returns-then-magnitude-eq0 c =

@@ -9,7 +9,7 @@ use Prim.Native.Nat.{ℕ, ◌+◌, ◌-◌, ◌≤◌}
 use native.Mathlib.Omega.{arith}
 use borrow.Author.Tests.{lt-leb}
 use lib.ListN.{length, drop, take}
-use Rattle.language.specs.Text.{◌==◌, parts, member}
+use Rattle.language.specs.Text.{◌≟◌, parts, member}
 use Rattle.text.proofs.Words.{parts_from, parts_step}
 use Rattle.keywords.proofs.among.Goals as goal
 
@@ -21,7 +21,7 @@ returns-then-same_bytes c =
     let a = c.args in
     let p = c.loop-p.p in
     let h : p ≤ length a.words.now = omega arith in
-    let first : (a.w.now == take (c.until-e.result - p) (drop p a.words.now)) ≡ true = sym c.same_bytes.ensures ∙ c.if-same_bytes.true in
+    let first : (a.w.now ≟ take (c.until-e.result - p) (drop p a.words.now)) ≡ true = sym c.same_bytes.ensures ∙ c.if-same_bytes.true in
     let q = c.loop-p.invariant.1 ∙ ap (λ (l : List (List ℕ)). member a.w.now l) (parts_step 32 p c.until-e.result a.words.now h c.until-e.ensures.ends) in
     sym (q ∙ rw first)
 
@@ -30,7 +30,7 @@ loop-p-preserved c =
     let a = c.args in
     let p = c.loop-p.p in
     let h : p ≤ length a.words.now = omega arith in
-    let first : (a.w.now == take (c.until-e.result - p) (drop p a.words.now)) ≡ false = sym c.same_bytes.ensures ∙ c.if-same_bytes.false in
+    let first : (a.w.now ≟ take (c.until-e.result - p) (drop p a.words.now)) ≡ false = sym c.same_bytes.ensures ∙ c.if-same_bytes.false in
     let q = c.loop-p.invariant.1 ∙ ap (λ (l : List (List ℕ)). member a.w.now l) (parts_step 32 p c.until-e.result a.words.now h c.until-e.ensures.ends) in
     (search rules, q ∙ rw first)
 

@@ -7,7 +7,7 @@ use Prim.Native.Nat.{ℕ, ◌+◌, ◌-◌, ◌≤◌}
 use native.Mathlib.Omega.{arith}
 use borrow.Author.Tests.{lt-leb}
 use lib.ListN.{length, drop, take}
-use Rattle.language.specs.Text.{◌==◌, parts, member}
+use Rattle.language.specs.Text.{◌≟◌, parts, member}
 use Rattle.text.proofs.Words.{parts_from, parts_step}
 use Rattle.keywords.proofs.among.Given as goal
 

@@ -2,7 +2,7 @@
 -- Assumes nothing.
 use mathlib.Core.Path.{sym, ap, ◌∙◌}
 use mathlib.Core.Bool.{Bool, ◌||◌}
-use Rattle.language.specs.Text.{Text, ◌==◌, member}
+use Rattle.language.specs.Text.{Text, ◌≟◌, member}
 use Rattle.language.specs.Identifiers.{base_keywords, price_keywords}
 use Rattle.language.proofs.Logic.Lists.{any_joined}
 use borrow.Author.Rules.{rules}
@@ -11,12 +11,12 @@ use Rattle.keywords.proofs.is_keyword.Goals as goal
 pub returns-then-is_base_keyword : goal.returns-then-is_base_keyword
 returns-then-is_base_keyword c =
     let w = c.args.w.now in
-    sym (any_joined (λ (u : Text). w == u) base_keywords price_keywords
+    sym (any_joined (λ (u : Text). w ≟ u) base_keywords price_keywords
     ∙ ap (λ (b : Bool). b || member w price_keywords) (sym c.is_base_keyword.ensures ∙ c.if-is_base_keyword.true))
 
 pub returns : goal.returns
 returns c =
     let w = c.args.w.now in
     c.is_price_keyword.ensures
-    ∙ sym (any_joined (λ (u : Text). w == u) base_keywords price_keywords
+    ∙ sym (any_joined (λ (u : Text). w ≟ u) base_keywords price_keywords
     ∙ ap (λ (b : Bool). b || member w price_keywords) (sym c.is_base_keyword.ensures ∙ c.if-is_base_keyword.false))

@@ -7,7 +7,7 @@ use native.Mathlib.Omega.{arith}
 use mathlib.Core.Bool.{Bool, true, false, not}
 use mathlib.Core.Option.{Option, none, some}
 use lib.Dec.{T, leb}
-use Rattle.language.specs.Text.{Text, if◌then◌else◌, present}
+use Rattle.language.specs.Text.{Text, when◌then◌else◌, present}
 use Rattle.language.specs.Syntax.{Name, Right}
 use Rattle.language.specs.State.{named, value_in}
 use Rattle.language.specs.Weight.{limit, store_weight}
@@ -39,7 +39,7 @@ denied_result e = (λ h. go e (same_kind h), λ h. ap (λ k. ended (result k)) h
     same_kind : ended (result e) ≡ ended (result (refusal DENIED)) → kind_of e ≡ stopped DENIED
     same_kind h = let r : result e ≡ result (refusal DENIED) = cc in ap (λ k. k.kind) r
 
-    open_kind : (b : Bool) → (if b then returned else exited) ≡ stopped DENIED → ⊥
+    open_kind : (b : Bool) → (when b then returned else exited) ≡ stopped DENIED → ⊥
     open_kind true h = let z : ◌≡◌ {A = ℕ} 0 1 = cc in omega arith
     open_kind false h = let z : ◌≡◌ {A = ℕ} 0 1 = cc in omega arith
 
@@ -162,7 +162,7 @@ module _ (buffer : Text) (b : Book) (m : Holds buffer b) where
       ∙ go (present (named b.principals p)) (present (value_in b.variables x)) (present (right_byte byte)) h
     where
       go : (k l i : Bool) → T (not (present (ask_fault k l i)))
-          → (if not k then wrong 6 else if not l then wrong 7 else length_answer (chain_length b r x p)) ≡ length_answer (chain_length b r x p)
+          → (when not k then wrong 6 else when not l then wrong 7 else length_answer (chain_length b r x p)) ≡ length_answer (chain_length b r x p)
       go false l i h = absurd h
       go true false i h = absurd h
       go true true false h = absurd h

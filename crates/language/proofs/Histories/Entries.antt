@@ -4,7 +4,7 @@ use mathlib.Core.Bool.{Bool, true, false, ◌&&◌, ◌||◌, not}
 use mathlib.Core.Option.{Option, none, some}
 use mathlib.Core.List.{List, [], ◌∷◌, ◌++◌, map}
 use lib.Dec.{T}
-use Rattle.language.specs.Text.{Text, if◌then◌else◌, ◌or_else◌, all, present}
+use Rattle.language.specs.Text.{Text, when◌then◌else◌, ◌or_else◌, all, present}
 use Rattle.language.specs.Syntax.{Name, rights, Command, create_principal, change_password, set, append_to, local, foreach, filtereach, set_delegation, delete_delegation, default_delegator, exit, return, Program}
 use Rattle.language.specs.State.{Value, list, Assertion, value_in, put}
 use Rattle.language.specs.Outcomes.{each_of}
@@ -50,13 +50,13 @@ lookup_defined s x = go (value_in s.locals x) (value_in s.store.variables x)
 
 -- what a set enters
 assign_enters : (s : Session) (x : Name) (v : Value)
-    → (assign s x v).store.assertions ≡ after_events s.store.assertions (if is_defined s x then [] else map enters (granted s x))
+    → (assign s x v).store.assertions ≡ after_events s.store.assertions (when is_defined s x then [] else map enters (granted s x))
 assign_enters s x v = go (is_local s x) (is_shared s x)
   where
-    go : (b c : Bool) → (if b then with_locals s (put x v s.locals)
-        else if c then with_store s (with_variables s.store (put x v s.store.variables))
+    go : (b c : Bool) → (when b then with_locals s (put x v s.locals)
+        else when c then with_store s (with_variables s.store (put x v s.store.variables))
         else with_store s (enter_all (with_variables s.store (put x v s.store.variables)) (granted s x))).store.assertions
-        ≡ after_events s.store.assertions (if b || c then [] else map enters (granted s x))
+        ≡ after_events s.store.assertions (when b || c then [] else map enters (granted s x))
     go true c = refl
     go false true = refl
     go false false = after_entering s.store.assertions (granted s x)
@@ -64,7 +64,7 @@ assign_enters s x v = go (is_local s x) (is_shared s x)
 -- a defined variable's new value enters nothing
 assign_defined : (s : Session) (x : Name) (v : Value) → T (is_defined s x) → (assign s x v).store.assertions ≡ s.store.assertions
 assign_defined s x v d =
-    assign_enters s x v ∙ ap (λ b. after_events s.store.assertions (if b then [] else map enters (granted s x))) (true_of (is_defined s x) d)
+    assign_enters s x v ∙ ap (λ b. after_events s.store.assertions (when b then [] else map enters (granted s x))) (true_of (is_defined s x) d)
 
 listed : (s : Session) (x : Name) → Where (λ es. T (is_defined s x)) (list_of s x)
 listed s x = bind_where (λ v. T (is_defined s x)) (λ es. T (is_defined s x)) (lookup s x) as_list (lookup_defined s x) as_list_lem
@@ -158,7 +158,7 @@ run_enters b (some p) = go (login b p)
 call_enters : (b : Book) (c : Call) → (entered b c).assertions ≡ after_events b.assertions (call_events b c)
 call_enters b (send o w t) = go (is_wrong b (send o w t))
   where
-    go : (k : Bool) → (if k then b else left b (run b (parse t))).assertions ≡ after_events b.assertions (if k then [] else program_events b (parse t))
+    go : (k : Bool) → (when k then b else left b (run b (parse t))).assertions ≡ after_events b.assertions (when k then [] else program_events b (parse t))
     go true = refl
     go false = run_enters b (parse t)
 call_enters b (ask p x r) = refl

@@ -6,7 +6,7 @@ use native.Mathlib.Omega.{arith}
 use mathlib.Core.Bool.{Bool, true, false, not}
 use mathlib.Core.List.{List, [], ◌∷◌, ◌++◌}
 use lib.Dec.{T, T_not}
-use Rattle.language.specs.Text.{if◌then◌else◌}
+use Rattle.language.specs.Text.{when◌then◌else◌}
 use Rattle.language.specs.State.{Assertion, same_assertion, stands, enter, withdraw}
 use Rattle.language.specs.Valid.{unrepeated}
 use Rattle.language.specs.Events.{Event, enters, withdraws, after_event, after_events, In, first, later, Stands}
@@ -18,21 +18,21 @@ use Rattle.language.proofs.Meaning.Standing.{same_assertion_lem, same_self, ente
 entered_stands : (l : List Assertion) (a : Assertion) → T (stands (enter l a) a)
 entered_stands l a = go (stands l a) refl
   where
-    go : (b : Bool) → stands l a ≡ b → T (stands (if b then l else l ++ (a ∷ [])) a)
+    go : (b : Bool) → stands l a ≡ b → T (stands (when b then l else l ++ (a ∷ [])) a)
     go true e = subst T (sym e) tt
     go false e = any_right_lem (same_assertion a) l (a ∷ []) (left_of_lem (same_assertion a a) false (same_self a))
 
 enter_keeps : (l : List Assertion) (b a : Assertion) → T (stands l a) → T (stands (enter l b) a)
 enter_keeps l b a h = go (stands l b)
   where
-    go : (c : Bool) → T (stands (if c then l else l ++ (b ∷ [])) a)
+    go : (c : Bool) → T (stands (when c then l else l ++ (b ∷ [])) a)
     go true = h
     go false = any_left (same_assertion a) l (b ∷ []) h
 
 enter_only : (l : List Assertion) (b a : Assertion) → T (stands (enter l b) a) → T (stands l a) ⊎ (a ≡ b)
 enter_only l b a = go (stands l b)
   where
-    go : (c : Bool) → T (stands (if c then l else l ++ (b ∷ [])) a) → T (stands l a) ⊎ (a ≡ b)
+    go : (c : Bool) → T (stands (when c then l else l ++ (b ∷ [])) a) → T (stands l a) ⊎ (a ≡ b)
     go true h = inl h
     go false h = elim (any_append (same_assertion a) l (b ∷ []) h) [
       | inl t ↦ inl t
@@ -44,7 +44,7 @@ withdraw_keeps [] b a n h = h
 withdraw_keeps (c ∷ l) b a n h = go (same_assertion b c) (same_assertion_lem b c) (one_of_lem (same_assertion a c) (stands l a) h) (withdraw_keeps l b a n)
   where
     go : (k : Bool) → (T k → b ≡ c) → T (same_assertion a c) ⊎ T (stands l a) → (T (stands l a) → T (stands (withdraw l b) a))
-        → T (stands (if k then l else c ∷ withdraw l b) a)
+        → T (stands (when k then l else c ∷ withdraw l b) a)
     go true e (inl t) i = absurd (n (subst (λ d. a ≡ d) (sym (e tt)) (same_assertion_lem a c t)))
     go true e (inr t) i = t
     go false e (inl t) i = left_of_lem (same_assertion a c) (stands (withdraw l b) a) t
@@ -56,7 +56,7 @@ withdrawn_gone (c ∷ l) a u t =
     let (u₁, u₂) = both (not (stands l c)) (unrepeated l) u in
     go (same_assertion a c) refl u₁ (withdrawn_gone l a u₂) t
   where
-    go : (k : Bool) → same_assertion a c ≡ k → T (not (stands l c)) → ¬ T (stands (withdraw l a) a) → ¬ T (stands (if k then l else c ∷ withdraw l a) a)
+    go : (k : Bool) → same_assertion a c ≡ k → T (not (stands l c)) → ¬ T (stands (withdraw l a) a) → ¬ T (stands (when k then l else c ∷ withdraw l a) a)
     go true e u i t = T_not (stands l c) u (subst (λ d. T (stands l d)) (same_assertion_lem a c (subst T (sym e) tt)) t)
     go false e u i t = elim (one_of_lem (same_assertion a c) (stands (withdraw l a) a) t) [
       | inl k ↦ subst T e k

@@ -7,7 +7,7 @@ use mathlib.Core.Option.{some}
 use mathlib.Core.List.{List, [], ◌∷◌}
 use lib.ListN.{length}
 use lib.Dec.{T, eqb, eqb_refl}
-use Rattle.language.specs.Text.{Text, if◌then◌else◌, present}
+use Rattle.language.specs.Text.{Text, when◌then◌else◌, present}
 use Rattle.language.specs.Syntax.{Name}
 use Rattle.language.specs.State.{Store, value_in}
 use Rattle.language.specs.Valid.{valid_store}
@@ -111,7 +111,7 @@ holds_next buffer b m (send o w t) =
     l = lent_for buffer o w
 
     go : (p q r : Bool) (e : End) → EndsValid e
-        → Holds (state_of (checked l p 1 (checked l q 3 (checked l r 5 (end_reply l e))))).lent (if present (run_fault p q r) then b else left b e)
+        → Holds (state_of (checked l p 1 (checked l q 3 (checked l r 5 (end_reply l e))))).lent (when present (run_fault p q r) then b else left b e)
     go false q r e k = m
     go true false r e k = m
     go true true false e k = m

@@ -11,7 +11,7 @@ use lib.Seq.{length-take-le, take_at, drop-append-add}
 use lib.Dec.{T, leb, leb→le}
 use borrow.Author.Tests.{leb-true, leb-false}
 use Rattle.language.specs.Chains.{Chain, has}
-use Rattle.language.specs.Text.{Text, bytes, if◌then◌else◌, joined}
+use Rattle.language.specs.Text.{Text, bytes, when◌then◌else◌, joined}
 use Rattle.language.specs.Syntax.{Name, Right, read, write, append, delegate}
 use Rattle.language.specs.State.{Principal, Store}
 use Rattle.language.specs.Weight.{limit, store_weight}
@@ -30,7 +30,7 @@ use Rattle.language.proofs.Histories.Offences.{right_is_chain}
 pub shown_name_lem : (p : Name) → length (shown_name p) ≡ 34
 shown_name_lem p = go (leb (length p) 34) refl
   where
-    go : (b : Bool) → leb (length p) 34 ≡ b → length (if b then p ++ replicate (34 - length p) space else take 33 p ++ bytes "~") ≡ 34
+    go : (b : Bool) → leb (length p) 34 ≡ b → length (when b then p ++ replicate (34 - length p) space else take 33 p ++ bytes "~") ≡ 34
     go true e = omega (arith, length-append p (replicate (34 - length p) space), length-replicate {A = ℕ} (34 - length p) space, leb-true (length p) 34 e)
     go false e = omega (arith, length-append (take 33 p) (bytes "~"), length-take-le 33 p (omega (arith, leb-false (length p) 34 e)))
 

@@ -6,7 +6,7 @@ use mathlib.Core.Bool.{Bool, true, false, not}
 use mathlib.Core.List.{List, [], ◌∷◌, ◌++◌, map, append-nil, append_assoc}
 use lib.ListN.{length}
 use lib.Dec.{T, T_not, leb, leb→le}
-use Rattle.language.specs.Text.{Text, if◌then◌else◌}
+use Rattle.language.specs.Text.{Text, when◌then◌else◌}
 use Rattle.language.specs.State.{Store, fresh, Assertion, same_assertion, stands, enter}
 use Rattle.language.specs.Weight.{limit, store_weight}
 use Rattle.language.specs.Valid.{well_formed, valid_store, unrepeated}
@@ -67,7 +67,7 @@ entered_again l (a ∷ m) u apart =
     ∙ append_assoc l (a ∷ []) m
   where
     last : (l : List Assertion) (a : Assertion) → ¬ T (stands l a) → enter l a ≡ l ++ (a ∷ [])
-    last l a h = ap (λ b. if b then l else l ++ (a ∷ [])) (is_false (stands l a) h)
+    last l a h = ap (λ b. when b then l else l ++ (a ∷ [])) (is_false (stands l a) h)
       where
         is_false : (b : Bool) → ¬ T b → b ≡ false
         is_false true k = absurd (k tt)

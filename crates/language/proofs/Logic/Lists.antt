@@ -6,7 +6,7 @@ use mathlib.Core.Bool.{Bool, true, false, ◌||◌}
 use mathlib.Core.Option.{some}
 use mathlib.Core.List.{List, [], ◌∷◌, ◌++◌, map, append_assoc}
 use lib.ListN.{length, get_or}
-use Rattle.language.specs.Text.{Text, if◌then◌else◌, any, keep, sum}
+use Rattle.language.specs.Text.{Text, when◌then◌else◌, any, keep, sum}
 use Rattle.language.proofs.Logic.Tests.{or_false}
 
 pub map_append : {A B : Type 0} (f : A → B) (l m : List A) → map f (l ++ m) ≡ map f l ++ map f m
@@ -31,7 +31,7 @@ pub keep_append : {A : Type 0} (f : A → Bool) (l m : List A) → keep f (l ++ 
 keep_append f [] m = refl
 keep_append f (a ∷ l) m = go (f a) (keep_append f l m)
   where
-    go : (b : Bool) → keep f (l ++ m) ≡ keep f l ++ keep f m → (if b then a ∷ keep f (l ++ m) else keep f (l ++ m)) ≡ (if b then a ∷ keep f l else keep f l) ++ keep f m
+    go : (b : Bool) → keep f (l ++ m) ≡ keep f l ++ keep f m → (when b then a ∷ keep f (l ++ m) else keep f (l ++ m)) ≡ (when b then a ∷ keep f l else keep f l) ++ keep f m
     go true e = ap (λ k. a ∷ k) e
     go false e = e
 

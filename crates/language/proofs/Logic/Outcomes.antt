@@ -6,7 +6,7 @@ use Prim.Native.Nat.{suc}
 use lib.ListN.{length}
 use mathlib.Core.Path.{◌≡◌, refl, ap}
 use lib.Dec.{T}
-use Rattle.language.specs.Text.{if◌then◌else◌, ◌>>=◌, ◌>>◌, given, ◌or_else◌, all, each}
+use Rattle.language.specs.Text.{when◌then◌else◌, ◌>>=◌, ◌>>◌, given, ◌or_else◌, all, each}
 use Rattle.language.proofs.Logic.Tests.{both, and}
 
 -- P holds of what is there
@@ -33,7 +33,7 @@ given_where Q true o f = f tt
 given_where Q false o f = tt
 
 pub if_where : {A : Type 0} (Q : A → Type 0) (b : Bool) (o p : Option A)
-    → (T b → Where Q o) → (T (not b) → Where Q p) → Where Q (if b then o else p)
+    → (T b → Where Q o) → (T (not b) → Where Q p) → Where Q (when b then o else p)
 if_where Q true o p f g = f tt
 if_where Q false o p f g = g tt
 

@@ -6,7 +6,7 @@ use mathlib.Core.List.{List, [], ◌∷◌, ◌++◌, map}
 use Prim.Native.Nat.{ℕ, zero, suc}
 use lib.ListN.{take, drop}
 use lib.Dec.{T, T_not, not_T, eqb, eqb→eq, eqb_refl}
-use Rattle.language.specs.Text.{Text, ◌==◌, any, all, member, distinct}
+use Rattle.language.specs.Text.{Text, ◌≟◌, any, all, member, distinct}
 use Rattle.language.specs.Syntax.{Right, same}
 
 -- ---- tests
@@ -28,12 +28,12 @@ right_of true b t = tt
 right_of false b t = t
 
 -- texts that compare equal are equal
-pub ==→≡ : (s t : Text) → T (s == t) → s ≡ t
+pub ==→≡ : (s t : Text) → T (s ≟ t) → s ≡ t
 ==→≡ [] [] h = refl
 ==→≡ [] (b ∷ t) h = absurd h
 ==→≡ (a ∷ s) [] h = absurd h
 ==→≡ (a ∷ s) (b ∷ t) h =
-    let (h₁, h₂) = both (eqb a b) (s == t) h in
+    let (h₁, h₂) = both (eqb a b) (s ≟ t) h in
     ap₂ ◌∷◌ (eqb→eq a b h₁) (==→≡ s t h₂)
 
 pub true_of : (b : Bool) → T b → b ≡ true
@@ -94,12 +94,12 @@ four a b c d h =
     let (p, q, r) = three a b c h in
     (p, q, r, t)
 
-pub ==_refl : (s : Text) → T (s == s)
+pub ==_refl : (s : Text) → T (s ≟ s)
 ==_refl [] = tt
-==_refl (a ∷ s) = and (eqb a a) (s == s) (eqb_refl a) (==_refl s)
+==_refl (a ∷ s) = and (eqb a a) (s ≟ s) (eqb_refl a) (==_refl s)
 
-pub ==_sym : (s t : Text) → T (s == t) → T (t == s)
-==_sym s t h = subst (λ u. T (u == s)) (==→≡ s t h) (==_refl s)
+pub ==_sym : (s t : Text) → T (s ≟ t) → T (t ≟ s)
+==_sym s t h = subst (λ u. T (u ≟ s)) (==→≡ s t h) (==_refl s)
 
 pub same_refl : (r : Right) → T (same r r)
 same_refl Right.read = tt
@@ -184,8 +184,8 @@ distinct_last [] t d n = tt
 distinct_last (u ∷ l) t d n =
     let (d₁, d₂) = both (not (member u l)) (distinct l) d in
     and (not (member u (l ++ (t ∷ [])))) (distinct (l ++ (t ∷ [])))
-    (not_T (member u (l ++ (t ∷ []))) (λ m. elim (any_append (λ v. u == v) l (t ∷ []) m) [
+    (not_T (member u (l ++ (t ∷ []))) (λ m. elim (any_append (λ v. u ≟ v) l (t ∷ []) m) [
       | inl k ↦ T_not (member u l) d₁ k
-      | inr k ↦ n (left_of_lem (t == u) (member t l) (==_sym u t (elim (one_of_lem (u == t) false k) [ inl e ↦ e | inr e ↦ absurd e ])))
+      | inr k ↦ n (left_of_lem (t ≟ u) (member t l) (==_sym u t (elim (one_of_lem (u ≟ t) false k) [ inl e ↦ e | inr e ↦ absurd e ])))
     ]))
-    (distinct_last l t d₂ (λ m. n (right_of (t == u) (member t l) m)))
+    (distinct_last l t d₂ (λ m. n (right_of (t ≟ u) (member t l) m)))

@@ -5,7 +5,7 @@ use native.Mathlib.Omega.{arith}
 use mathlib.Core.Bool.{Bool, true, false, ◌&&◌}
 use mathlib.Core.List.{List, [], ◌∷◌, map}
 use lib.Dec.{T, leb, leb→le, le→leb, ltb, ltb→lt}
-use Rattle.language.specs.Text.{if◌then◌else◌, ◌==◌, all, sum, member, distinct, present}
+use Rattle.language.specs.Text.{when◌then◌else◌, ◌≟◌, all, sum, member, distinct, present}
 use Rattle.language.specs.Syntax.{Name}
 use Rattle.language.specs.State.{Principal, Store, last_count, admin, anyone, named}
 use Rattle.language.specs.Weight.{limit, principal_weight, store_weight}
@@ -18,7 +18,7 @@ use Rattle.language.proofs.StateText.Shape.{Shape, shape, formed}
 use Rattle.language.proofs.Meaning.Stores.{principals_shape}
 
 -- a count that may be raised, or not
-either_fits : (b : Bool) (m n : ℕ) → (T b → m ≤ last_count) → n ≤ last_count → T (leb (if b then m else n) last_count)
+either_fits : (b : Bool) (m n : ℕ) → (T b → m ≤ last_count) → n ≤ last_count → T (leb (when b then m else n) last_count)
 either_fits true m n h k = le→leb m last_count (h tt)
 either_fits false m n h k = le→leb n last_count k
 
@@ -29,7 +29,7 @@ counts_valid : (p : Name) (k : Principal) → T (valid_principal k) → T (valid
 counts_valid p k h =
     let (n, w, c) = three (is_name k.name) (valid_password k.password) (leb k.count last_count) h in
     and_three (is_name k.name) (valid_password k.password) (leb (counts p k).count last_count) n w
-    (either_fits (k.name == p) _ _ (λ t. leb→le (counted k.count) last_count (counted_fits k.count c)) (leb→le k.count last_count c))
+    (either_fits (k.name ≟ p) _ _ (λ t. leb→le (counted k.count) last_count (counted_fits k.count c)) (leb→le k.count last_count c))
 
 counts_names : (p : Name) (ks : List Principal) → principal_names (map (counts p) ks) ≡ principal_names ks
 counts_names p [] = refl
@@ -42,9 +42,9 @@ counts_order : (p : Name) (ks : List Principal) → T (valid_order ks) → T (va
 counts_order p [] o = o
 counts_order p (a ∷ []) o = o
 counts_order p (a ∷ b ∷ ks) o =
-    let (n, h, m, r) = four (a.name == admin) (has_password a) (b.name == anyone) (all has_password ks) o in
-    and ((a.name == admin) && has_password a && (b.name == anyone)) (all has_password (map (counts p) ks))
-    (and_three (a.name == admin) (has_password a) (b.name == anyone) n h m) (map_all has_password has_password (counts p) (λ k t. t) ks r)
+    let (n, h, m, r) = four (a.name ≟ admin) (has_password a) (b.name ≟ anyone) (all has_password ks) o in
+    and ((a.name ≟ admin) && has_password a && (b.name ≟ anyone)) (all has_password (map (counts p) ks))
+    (and_three (a.name ≟ admin) (has_password a) (b.name ≟ anyone) n h m) (map_all has_password has_password (counts p) (λ k t. t) ks r)
 
 counts_weight : (p : Name) (ks : List Principal) → sum principal_weight (map (counts p) ks) ≡ sum principal_weight ks
 counts_weight p [] = refl

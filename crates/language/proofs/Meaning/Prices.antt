@@ -10,7 +10,7 @@ use lib.IntN.{ℤ, pos, negsuc, nat_abs, ◌+ℤ◌, ◌-ℤ◌, ◌*ℤ◌}
 use lib.Dec.{T, leb→le, ltb}
 use lib.ListN.{length, length-append}
 use borrow.Author.Tests.{ne_eqb}
-use Rattle.language.specs.Text.{Text, bytes, if◌then◌else◌, ◌==◌, all, keep, digits, decimal}
+use Rattle.language.specs.Text.{Text, bytes, when◌then◌else◌, ◌≟◌, all, keep, digits, decimal}
 use Rattle.language.specs.Bytes.{◌is◌, ◌∈◌, between, letter, digit, space, newline, foreign, mark, marks, in_string, string_byte}
 use Rattle.language.specs.Identifiers.{is_string}
 use Rattle.language.specs.Decode.{number}
@@ -30,7 +30,7 @@ in_range_lem a h = leb→le (nat_abs a) greatest h
 digit_string : (b : ℕ) → T (between "0" "9" b) → T (string_byte b)
 digit_string b h = go (between "a" "z" b || between "A" "Z" b) (between "0" "9" b) (b is " ") (b is "\n") (b ∈ marks) h
   where
-    go : (l d s n m : Bool) → T d → T (in_string (if l then letter else if d then digit else if s then space else if n then newline else if m then mark b else foreign))
+    go : (l d s n m : Bool) → T d → T (in_string (when l then letter else when d then digit else when s then space else when n then newline else when m then mark b else foreign))
     go true d s n m h = tt
     go false true s n m h = tt
     go false false s n m h = absurd h
@@ -71,14 +71,14 @@ price_length (negsuc n) h = let l : length (amount_text (suc n)) ≤ 10 = amount
 -- ---- a text that is a price
 
 -- the test that a text passes, where it has an amount
-passed : {a : ℤ} (b : Bool) (r : ℤ) → (if b then some r else none) ≡ some a → T b × (r ≡ a)
+passed : {a : ℤ} (b : Bool) (r : ℤ) → (when b then some r else none) ≡ some a → T b × (r ≡ a)
 passed true r e = (tt, cc)
 passed false r e = let z : ◌≡◌ {A = ℕ} 0 1 = cc in absurd (omega arith)
 
 price_read : (t : Text) (a : ℤ) → price t ≡ some a → T (in_range a) × (t ≡ price_text a)
 price_read t a e =
-    let (h, q) = passed (in_range (reading t) && (price_text (reading t) == t)) (reading t) e in
-    let (r, s) = both (in_range (reading t)) (price_text (reading t) == t) h in
+    let (h, q) = passed (in_range (reading t) && (price_text (reading t) ≟ t)) (reading t) e in
+    let (r, s) = both (in_range (reading t)) (price_text (reading t) ≟ t) h in
     (subst (λ (x : ℤ). T (in_range x)) q r, sym (==→≡ (price_text (reading t)) t s) ∙ ap price_text q)
 
 pub price_in_range : (t : Text) (a : ℤ) → price t ≡ some a → T (in_range a)
@@ -89,9 +89,9 @@ price_is_text t a e = (price_read t a e).1
 
 -- a longer text is none
 pub long_none : (t : Text) → 11 < length t → price t ≡ none
-long_none t h = go (in_range (reading t) && (price_text (reading t) == t)) (λ k. both (in_range (reading t)) (price_text (reading t) == t) k)
+long_none t h = go (in_range (reading t) && (price_text (reading t) ≟ t)) (λ k. both (in_range (reading t)) (price_text (reading t) ≟ t) k)
   where
-    go : (b : Bool) → (T b → T (in_range (reading t)) × T (price_text (reading t) == t)) → (if b then some (reading t) else none) ≡ none
+    go : (b : Bool) → (T b → T (in_range (reading t)) × T (price_text (reading t) ≟ t)) → (when b then some (reading t) else none) ≡ none
     go true f =
         let (r, s) = f tt in
         let l : length (price_text (reading t)) ≤ 11 = price_length (reading t) r in
@@ -104,7 +104,7 @@ keep_all : (f : ℕ → Bool) (t : Text) → T (all f t) → keep f t ≡ t
 keep_all f [] h = refl
 keep_all f (b ∷ t) h =
     let (p, q) = both (f b) (all f t) h in
-    ap (λ (c : Bool). if c then b ∷ keep f t else keep f t) (true_of (f b) p) ∙ ap (λ (u : Text). b ∷ u) (keep_all f t q)
+    ap (λ (c : Bool). when c then b ∷ keep f t else keep f t) (true_of (f b) p) ∙ ap (λ (u : Text). b ∷ u) (keep_all f t q)
 
 -- its digits, the point passed over, and what they make
 amount_kept : (n : ℕ) → n ≤ greatest → keep (between "0" "9") (amount_text n) ≡ decimal (n / 100) ++ hundredths n
@@ -134,7 +134,7 @@ amount_plain n = digits_plain 9 (n / 100) (bytes ".") (hundredths n)
     digits_plain (suc k) m p q = go (ltb m 10) (digits_plain k (m / 10) ((48 + m % 10) ∷ p) q)
       where
         go : (c : Bool) → starts_minus (digits k (m / 10) ++ ((48 + m % 10) ∷ p) ++ q) ≡ false
-            → starts_minus ((if c then (48 + m) ∷ [] else digits k (m / 10) ++ ((48 + m % 10) ∷ [])) ++ p ++ q) ≡ false
+            → starts_minus ((when c then (48 + m) ∷ [] else digits k (m / 10) ++ ((48 + m % 10) ∷ [])) ++ p ++ q) ≡ false
         go true e = low m
         go false e = ap (λ (u : Text). starts_minus (u ++ q)) (append_assoc (digits k (m / 10)) ((48 + m % 10) ∷ []) p) ∙ e
 
@@ -144,8 +144,8 @@ price_reading (negsuc n) h = let l = in_range_lem (negsuc n) h in ap (signed tru
 
 pub price_again : (a : ℤ) → T (in_range a) → price (price_text a) ≡ some a
 price_again a h =
-    ap (λ (r : ℤ). if in_range r && (price_text r == price_text a) then some r else none) (price_reading a h)
-    ∙ ap (λ (b : Bool). if b then some a else none) (true_of (in_range a && (price_text a == price_text a)) (and (in_range a) (price_text a == price_text a) h (==_refl (price_text a))))
+    ap (λ (r : ℤ). when in_range r && (price_text r ≟ price_text a) then some r else none) (price_reading a h)
+    ∙ ap (λ (b : Bool). when b then some a else none) (true_of (in_range a && (price_text a ≟ price_text a)) (and (in_range a) (price_text a ≟ price_text a) h (==_refl (price_text a))))
 
 -- ---- what an operation gives is in range
 

@@ -8,7 +8,7 @@ use mathlib.Core.Bool.{Bool, true, false, ◌&&◌, not}
 use mathlib.Core.List.{List, [], ◌∷◌, ◌++◌, map}
 use lib.ListN.{length}
 use lib.Dec.{T, ltb, eqb}
-use Rattle.language.specs.Text.{Text, bytes, if◌then◌else◌, all, distinct}
+use Rattle.language.specs.Text.{Text, bytes, when◌then◌else◌, all, distinct}
 use Rattle.language.specs.Syntax.{Command, create_principal, change_password, set, append_to, local, foreach, filtereach, set_delegation, delete_delegation, default_delegator, exit, return}
 use Rattle.language.specs.Identifiers.{is_name, is_string}
 use Rattle.language.specs.State.{Field, Element, string, fields, Value, single, list}
@@ -30,13 +30,13 @@ use Rattle.language.proofs.Meaning.ValidRuns.{Went, verdict_went}
 -- ---- how many lines
 
 pub count_append : (t u : Text) → line_count (t ++ u) ≡ line_count t + line_count u
-count_append = sum_append (λ b. if eqb b 10 then 1 else 0)
+count_append = sum_append (λ b. when eqb b 10 then 1 else 0)
 
 pub few_lines : (t : Text) → line_count t ≤ length t
 few_lines [] = le_refl 0
 few_lines (b ∷ t) = go (eqb b 10) (few_lines t)
   where
-    go : (c : Bool) → line_count t ≤ length t → (if c then 1 else 0) + line_count t ≤ suc (length t)
+    go : (c : Bool) → line_count t ≤ length t → (when c then 1 else 0) + line_count t ≤ suc (length t)
     go true h = omega arith
     go false h = omega arith
 
@@ -46,7 +46,7 @@ clean_quiet (b ∷ t) h =
     let (h₁, h₂) = both (not (eqb b 9) && not (eqb b 10)) (is_clean t) h in
     go (eqb b 10) (both (not (eqb b 9)) (not (eqb b 10)) h₁).1 (clean_quiet t h₂)
   where
-    go : (c : Bool) → T (not c) → line_count t ≡ 0 → (if c then 1 else 0) + line_count t ≡ 0
+    go : (c : Bool) → T (not c) → line_count t ≡ 0 → (when c then 1 else 0) + line_count t ≡ 0
     go true h e = absurd h
     go false h e = omega (arith, e)
 

@@ -12,7 +12,7 @@ use borrow.Author.Tests.{ltb-true, ltb-false}
 use lib.Dec.{ltb, eqb, lit<}
 use lib.IntN.{ℤ, pos, negsuc, neg_ℤ, nat_abs, ◌+ℤ◌, ◌-ℤ◌, ◌*ℤ◌, neg_ℤ-+ℤ, neg_ℤ-neg_ℤ}
 use lib.Signed.{non_neg}
-use Rattle.language.specs.Text.{if◌then◌else◌}
+use Rattle.language.specs.Text.{when◌then◌else◌}
 use Rattle.language.specs.Syntax.{times, per}
 use Rattle.language.specs.Prices.{in_range, signed, differ, nearest, rounded, Nearest, is_zero, ranged, reckoned}
 use Rattle.language.proofs.Logic.Integers.{abs_minus, abs_between}
@@ -33,7 +33,7 @@ nearest_up t d p = by_rest (ltb (2 * (t % d)) d) refl
     small : t % d < d
     small = mod-lt t p
 
-    by_rest : (b : Bool) → ltb (2 * (t % d)) d ≡ b → Up t d (if b then t / d else t / d + 1)
+    by_rest : (b : Bool) → ltb (2 * (t % d)) d ≡ b → Up t d (when b then t / d else t / d + 1)
     by_rest true e =
         let k = ltb-true (2 * (t % d)) d e in
         record { low = omega (arith, parted, small, k); high = omega (arith, parted, small, k) }
@@ -162,7 +162,7 @@ nearest_only t d q p h =
 ranged_same : {c : ℤ} (z : ℤ) → ranged z ≡ some c → z ≡ c
 ranged_same {c} z e = go (in_range z) e
   where
-    go : (b : Bool) → (if b then some z else none) ≡ some c → z ≡ c
+    go : (b : Bool) → (when b then some z else none) ≡ some c → z ≡ c
     go true e = cc
     go false e = absurd (let z : ◌≡◌ {A = ℕ} 0 1 = cc in omega arith)
 
@@ -173,7 +173,7 @@ product_nearest a b c e =
 pub quotient_nearest : (a b c : ℤ) → reckoned per a b ≡ some c → Nearest (a *ℤ pos 100) b c
 quotient_nearest a b c e = go (is_zero b) refl e
   where
-    go : (z : Bool) → is_zero b ≡ z → (if z then none else ranged (rounded (a *ℤ pos 100) b)) ≡ some c → Nearest (a *ℤ pos 100) b c
+    go : (z : Bool) → is_zero b ≡ z → (when z then none else ranged (rounded (a *ℤ pos 100) b)) ≡ some c → Nearest (a *ℤ pos 100) b c
     go true q e = absurd (let z : ◌≡◌ {A = ℕ} 0 1 = cc in omega arith)
     go false q e =
         let p : 0 < nat_abs b = pos_of_ne-zero (λ n. true≢false (sym (ap (λ (m : ℕ). eqb m 0) n) ∙ q)) in

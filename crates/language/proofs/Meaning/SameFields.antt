@@ -7,7 +7,7 @@ use mathlib.Core.Bool.{Bool, true, false, ◌&&◌, ◌||◌, not}
 use mathlib.Core.Option.{Option, none, some}
 use mathlib.Core.List.{List, [], ◌∷◌}
 use lib.Dec.{T, T_not}
-use Rattle.language.specs.Text.{Text, if◌then◌else◌, ◌==◌, any, sum, member, distinct}
+use Rattle.language.specs.Text.{Text, when◌then◌else◌, ◌≟◌, any, sum, member, distinct}
 use Rattle.language.specs.State.{Field, labels}
 use Rattle.language.specs.Values.{text_of}
 use Rattle.language.specs.Functions.{same_field, holds_all, same_fields}
@@ -17,13 +17,13 @@ use Rattle.language.proofs.Logic.Tests.{both, and, one_of_lem, left_of_lem, righ
 
 pub same_field_lem : (f g : Field) → T (same_field f g) → f ≡ g
 same_field_lem f g h =
-    let (x, y) = both (f.label == g.label) (f.text == g.text) h in
+    let (x, y) = both (f.label ≟ g.label) (f.text ≟ g.text) h in
     let e = ==→≡ f.label g.label x in
     let k = ==→≡ f.text g.text y in
     λ i. record { label = e i; text = k i }
 
 pub field_self : (f : Field) → T (same_field f f)
-field_self f = and (f.label == f.label) (f.text == f.text) (==_refl f.label) (==_refl f.text)
+field_self f = and (f.label ≟ f.label) (f.text ≟ f.text) (==_refl f.label) (==_refl f.text)
 
 field_sym : (f g : Field) → T (same_field f g) → T (same_field g f)
 field_sym f g h = subst (λ k. T (same_field k f)) (same_field_lem f g h) (field_self f)
@@ -31,49 +31,49 @@ field_sym f g h = subst (λ k. T (same_field k f)) (same_field_lem f g h) (field
 held_label : (g : Field) (fs : List Field) → T (any (same_field g) fs) → T (member g.label (labels fs))
 held_label g [] h = absurd h
 held_label g (f ∷ fs) h = elim (one_of_lem (same_field g f) (any (same_field g) fs) h) [
-  | inl e ↦ left_of_lem (g.label == f.label) (member g.label (labels fs)) (both (g.label == f.label) (g.text == f.text) e).0
-  | inr k ↦ right_of (g.label == f.label) (member g.label (labels fs)) (held_label g fs k)
+  | inl e ↦ left_of_lem (g.label ≟ f.label) (member g.label (labels fs)) (both (g.label ≟ f.label) (g.text ≟ f.text) e).0
+  | inr k ↦ right_of (g.label ≟ f.label) (member g.label (labels fs)) (held_label g fs k)
 ]
 
 -- ---- a field is held where its label has its text
 
 abbrev pub is_text : Option Text → Text → Bool
 is_text none t = false
-is_text (some u) t = u == t
+is_text (some u) t = u ≟ t
 
 pub held_text : (g : Field) (fs : List Field) → T (distinct (labels fs)) → any (same_field g) fs ≡ is_text (text_of fs g.label) g.text
 held_text g [] d = refl
 held_text g (f ∷ fs) d =
     let (n, r) = both (not (member f.label (labels fs))) (distinct (labels fs)) d in
-    go (f.label == g.label) refl (T_not (member f.label (labels fs)) n) (held_text g fs r)
+    go (f.label ≟ g.label) refl (T_not (member f.label (labels fs)) n) (held_text g fs r)
   where
-    go : (b : Bool) → (f.label == g.label) ≡ b → ¬ T (member f.label (labels fs)) → any (same_field g) fs ≡ is_text (text_of fs g.label) g.text
-        → (same_field g f || any (same_field g) fs) ≡ is_text (if b then some f.text else text_of fs g.label) g.text
+    go : (b : Bool) → (f.label ≟ g.label) ≡ b → ¬ T (member f.label (labels fs)) → any (same_field g) fs ≡ is_text (text_of fs g.label) g.text
+        → (same_field g f || any (same_field g) fs) ≡ is_text (when b then some f.text else text_of fs g.label) g.text
     go true e n ih =
         let l : f.label ≡ g.label = ==→≡ f.label g.label (subst T (sym e) tt) in
         let k : any (same_field g) fs ≡ false = false_of (any (same_field g) fs) (λ h. n (subst (λ x. T (member x (labels fs))) (sym l) (held_label g fs h))) in
         ap (λ c. same_field g f || c) k
         ∙ or_false (same_field g f)
-        ∙ same_test (same_field g f) (f.text == g.text)
-        (λ h. ==_sym g.text f.text (both (g.label == f.label) (g.text == f.text) h).1)
-        (λ h. and (g.label == f.label) (g.text == f.text) (==_sym f.label g.label (subst T (sym e) tt)) (==_sym f.text g.text h))
+        ∙ same_test (same_field g f) (f.text ≟ g.text)
+        (λ h. ==_sym g.text f.text (both (g.label ≟ f.label) (g.text ≟ f.text) h).1)
+        (λ h. and (g.label ≟ f.label) (g.text ≟ f.text) (==_sym f.label g.label (subst T (sym e) tt)) (==_sym f.text g.text h))
     go false e n ih =
         let k : same_field g f ≡ false = false_of (same_field g f)
-        (λ h. subst T e (==_sym g.label f.label (both (g.label == f.label) (g.text == f.text) h).0)) in
+        (λ h. subst T e (==_sym g.label f.label (both (g.label ≟ f.label) (g.text ≟ f.text) h).0)) in
         ap (λ c. c || any (same_field g) fs) k ∙ ih
 
 -- ---- a field taken out
 
 abbrev without : Field → List Field → List Field
 without g [] = []
-without g (f ∷ fs) = if same_field g f then fs else f ∷ without g fs
+without g (f ∷ fs) = when same_field g f then fs else f ∷ without g fs
 
 without_holds : (g h : Field) → ¬ T (same_field h g) → (fs : List Field) → T (any (same_field h) fs) → T (any (same_field h) (without g fs))
 without_holds g h n [] k = absurd k
 without_holds g h n (f ∷ fs) k = go (same_field g f) refl (one_of_lem (same_field h f) (any (same_field h) fs) k) (without_holds g h n fs)
   where
     go : (b : Bool) → same_field g f ≡ b → T (same_field h f) ⊎ T (any (same_field h) fs) → (T (any (same_field h) fs) → T (any (same_field h) (without g fs)))
-        → T (any (same_field h) (if b then fs else f ∷ without g fs))
+        → T (any (same_field h) (when b then fs else f ∷ without g fs))
     go true e (inl s) ih = absurd (n (subst (λ x. T (same_field h x)) (sym (same_field_lem g f (subst T (sym e) tt))) s))
     go true e (inr s) ih = s
     go false e (inl s) ih = left_of_lem (same_field h f) (any (same_field h) (without g fs)) s
@@ -85,8 +85,8 @@ without_all g [] fs n h = tt
 without_all g (k ∷ gs) fs n h =
     let (h₁, h₂) = both (any (same_field k) fs) (holds_all fs gs) h in
     and (any (same_field k) (without g fs)) (holds_all (without g fs) gs)
-    (without_holds g k (λ s. n (left_of_lem (g.label == k.label) (member g.label (labels gs)) (==_sym k.label g.label (both (k.label == g.label) (k.text == g.text) s).0))) fs h₁)
-    (without_all g gs fs (λ m. n (right_of (g.label == k.label) (member g.label (labels gs)) m)) h₂)
+    (without_holds g k (λ s. n (left_of_lem (g.label ≟ k.label) (member g.label (labels gs)) (==_sym k.label g.label (both (k.label ≟ g.label) (k.text ≟ g.text) s).0))) fs h₁)
+    (without_all g gs fs (λ m. n (right_of (g.label ≟ k.label) (member g.label (labels gs)) m)) h₂)
 
 -- what is held without g is held with it
 with_all : (g : Field) (gs fs : List Field) → T (holds_all gs fs) → T (holds_all (g ∷ gs) fs)
@@ -96,7 +96,7 @@ put_back : (g : Field) (gs fs : List Field) → T (holds_all gs (without g fs)) 
 put_back g gs [] h = tt
 put_back g gs (f ∷ fs) h = go (same_field g f) refl h (put_back g gs fs)
   where
-    go : (b : Bool) → same_field g f ≡ b → T (holds_all gs (if b then fs else f ∷ without g fs)) → (T (holds_all gs (without g fs)) → T (holds_all (g ∷ gs) fs))
+    go : (b : Bool) → same_field g f ≡ b → T (holds_all gs (when b then fs else f ∷ without g fs)) → (T (holds_all gs (without g fs)) → T (holds_all (g ∷ gs) fs))
         → T (any (same_field f) (g ∷ gs) && holds_all (g ∷ gs) fs)
     go true e h ih =
         and (any (same_field f) (g ∷ gs)) (holds_all (g ∷ gs) fs)
@@ -114,7 +114,7 @@ module _ (size : Field → ℕ) (some_size : (f : Field) → 0 < size f) where
   without_sum g (f ∷ fs) h = go (same_field g f) refl h (without_sum g fs)
     where
       go : (b : Bool) → same_field g f ≡ b → T (b || any (same_field g) fs) → (T (any (same_field g) fs) → sum size fs ≡ size g + sum size (without g fs))
-          → size f + sum size fs ≡ size g + sum size (if b then fs else f ∷ without g fs)
+          → size f + sum size fs ≡ size g + sum size (when b then fs else f ∷ without g fs)
       go true e h ih = omega (arith, ap size (same_field_lem g f (subst T (sym e) tt)))
       go false e h ih = omega (arith, ih h)
 

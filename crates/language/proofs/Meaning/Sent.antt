@@ -4,7 +4,7 @@ use mathlib.Core.Bool.{Bool, true, false, not, ◌&&◌}
 use mathlib.Core.Option.{none, some}
 use mathlib.Core.List.{List, [], ◌∷◌, ◌++◌, map}
 use lib.Dec.{T}
-use Rattle.language.specs.Text.{Text, if◌then◌else◌, ◌==◌, all, present}
+use Rattle.language.specs.Text.{Text, when◌then◌else◌, ◌≟◌, all, present}
 use Rattle.language.specs.Syntax.{Name, Command, create_principal, change_password, set, append_to, local, foreach, filtereach, set_delegation, delete_delegation, default_delegator, exit, return}
 use Rattle.language.specs.State.{Value, list, Principal, named, put}
 use Rattle.language.specs.Outcomes.{each_of}
@@ -21,24 +21,24 @@ use Rattle.language.proofs.Meaning.ValidRuns.{Ready, Done, Went, verdict_went, s
 
 -- a new principal's count is 0, which is what a missing one has
 added_count : (ks : List Principal) (k : Principal) (p : Name) → k.count ≡ 0 → count_in (named (ks ++ (k ∷ [])) p) ≡ count_in (named ks p)
-added_count [] k p z = go (k.name == p)
+added_count [] k p z = go (k.name ≟ p)
   where
-    go : (b : Bool) → count_in (if b then some k else none) ≡ 0
+    go : (b : Bool) → count_in (when b then some k else none) ≡ 0
     go true = z
     go false = refl
-added_count (l ∷ ks) k p z = go (l.name == p) (added_count ks k p z)
+added_count (l ∷ ks) k p z = go (l.name ≟ p) (added_count ks k p z)
   where
     go : (b : Bool) → count_in (named (ks ++ (k ∷ [])) p) ≡ count_in (named ks p)
-        → count_in (if b then some l else named (ks ++ (k ∷ [])) p) ≡ count_in (if b then some l else named ks p)
+        → count_in (when b then some l else named (ks ++ (k ∷ [])) p) ≡ count_in (when b then some l else named ks p)
     go true e = refl
     go false e = e
 
 changed_count : (q : Name) (t : Text) (ks : List Principal) (p : Name) → count_in (named (map (changed q t) ks) p) ≡ count_in (named ks p)
 changed_count q t [] p = refl
-changed_count q t (k ∷ ks) p = go (k.name == p) (changed_count q t ks p)
+changed_count q t (k ∷ ks) p = go (k.name ≟ p) (changed_count q t ks p)
   where
     go : (b : Bool) → count_in (named (map (changed q t) ks) p) ≡ count_in (named ks p)
-        → count_in (if b then some (changed q t k) else named (map (changed q t) ks) p) ≡ count_in (if b then some k else named ks p)
+        → count_in (when b then some (changed q t k) else named (map (changed q t) ks) p) ≡ count_in (when b then some k else named ks p)
     go true e = refl
     go false e = e
 
@@ -57,8 +57,8 @@ module _ (s : Session) where
   assign_same : (x : Name) (v : Value) → Same (assign s x v)
   assign_same x v = go (is_local s x) (is_shared s x)
     where
-      go : (b c : Bool) → Same (if b then with_locals s (put x v s.locals)
-          else if c then with_store s (with_variables s.store (put x v s.store.variables))
+      go : (b c : Bool) → Same (when b then with_locals s (put x v s.locals)
+          else when c then with_store s (with_variables s.store (put x v s.store.variables))
           else with_store s (enter_all (with_variables s.store (put x v s.store.variables)) (granted s x)))
       go true c = record { sender = refl; counts = λ p. refl }
       go false true = record { sender = refl; counts = λ p. refl }

@@ -4,7 +4,7 @@ use mathlib.Core.Logic.{inl, inr}
 use mathlib.Core.Bool.{Bool, true, false, ◌&&◌, not}
 use mathlib.Core.List.{List, [], ◌∷◌, ◌++◌}
 use lib.Dec.{T, T_not, not_T}
-use Rattle.language.specs.Text.{if◌then◌else◌, ◌==◌, any, all}
+use Rattle.language.specs.Text.{when◌then◌else◌, ◌≟◌, any, all}
 use Rattle.language.specs.Syntax.{same}
 use Rattle.language.specs.State.{Assertion, same_assertion, stands, enter, withdraw}
 use Rattle.language.specs.Valid.{unrepeated}
@@ -13,7 +13,7 @@ use Rattle.language.proofs.Logic.Tests.{both, and, four, and_three, one_of_lem, 
 
 pub same_assertion_lem : (a b : Assertion) → T (same_assertion a b) → a ≡ b
 same_assertion_lem a b h =
-    let (x, q, r, p) = four (a.variable == b.variable) (a.from == b.from) (same a.right b.right) (a.to == b.to) h in
+    let (x, q, r, p) = four (a.variable ≟ b.variable) (a.from ≟ b.from) (same a.right b.right) (a.to ≟ b.to) h in
     let e = ==→≡ a.variable b.variable x in
     let f = ==→≡ a.from b.from q in
     let g = same→≡ a.right b.right r in
@@ -22,8 +22,8 @@ same_assertion_lem a b h =
 
 pub same_self : (a : Assertion) → T (same_assertion a a)
 same_self a =
-    and (a.variable == a.variable && (a.from == a.from) && same a.right a.right) (a.to == a.to)
-    (and_three (a.variable == a.variable) (a.from == a.from) (same a.right a.right) (==_refl a.variable) (==_refl a.from) (same_refl a.right))
+    and (a.variable ≟ a.variable && (a.from ≟ a.from) && same a.right a.right) (a.to ≟ a.to)
+    (and_three (a.variable ≟ a.variable) (a.from ≟ a.from) (same a.right a.right) (==_refl a.variable) (==_refl a.from) (same_refl a.right))
     (==_refl a.to)
 
 same_sym : (a b : Assertion) → T (same_assertion a b) → T (same_assertion b a)
@@ -43,7 +43,7 @@ unrepeated_last (b ∷ l) a u n =
 pub enter_unrepeated : (l : List Assertion) (a : Assertion) → T (unrepeated l) → T (unrepeated (enter l a))
 enter_unrepeated l a u = go (stands l a) refl
   where
-    go : (b : Bool) → stands l a ≡ b → T (unrepeated (if b then l else l ++ (a ∷ [])))
+    go : (b : Bool) → stands l a ≡ b → T (unrepeated (when b then l else l ++ (a ∷ [])))
     go true e = u
     go false e = unrepeated_last l a u (λ t. subst T e t)
 
@@ -55,7 +55,7 @@ pub record Fit (f : Assertion → Bool) (l : List Assertion) : Type 0 where
 enter_fit : (f : Assertion → Bool) (l : List Assertion) (a : Assertion) → Fit f l → T (f a) → Fit f (enter l a)
 enter_fit f l a h k = record { each_fits = go (stands l a); none_twice = enter_unrepeated l a h.none_twice }
   where
-    go : (b : Bool) → T (all f (if b then l else l ++ (a ∷ [])))
+    go : (b : Bool) → T (all f (when b then l else l ++ (a ∷ [])))
     go true = h.each_fits
     go false = all_append f l (a ∷ []) h.each_fits (and (f a) true k tt)
 
@@ -72,7 +72,7 @@ withdraw_all_lem f (b ∷ l) a h =
     let (h₁, h₂) = both (f b) (all f l) h in
     go (same_assertion a b) h₁ h₂ (withdraw_all_lem f l a h₂)
   where
-    go : (c : Bool) → T (f b) → T (all f l) → T (all f (withdraw l a)) → T (all f (if c then l else b ∷ withdraw l a))
+    go : (c : Bool) → T (f b) → T (all f l) → T (all f (withdraw l a)) → T (all f (when c then l else b ∷ withdraw l a))
     go true h₁ h₂ k = h₂
     go false h₁ h₂ k = and (f b) (all f (withdraw l a)) h₁ k
 
@@ -80,7 +80,7 @@ pub withdraw_any : (f : Assertion → Bool) (l : List Assertion) (a : Assertion)
 withdraw_any f [] a t = t
 withdraw_any f (b ∷ l) a t = go (same_assertion a b) (withdraw_any f l a) t
   where
-    go : (c : Bool) → (T (any f (withdraw l a)) → T (any f l)) → T (any f (if c then l else b ∷ withdraw l a)) → T (any f (b ∷ l))
+    go : (c : Bool) → (T (any f (withdraw l a)) → T (any f l)) → T (any f (when c then l else b ∷ withdraw l a)) → T (any f (b ∷ l))
     go true ih t = right_of (f b) (any f l) t
     go false ih t = elim (one_of_lem (f b) (any f (withdraw l a)) t) [
       | inl u ↦ left_of_lem (f b) (any f l) u
@@ -93,7 +93,7 @@ withdraw_unrepeated (b ∷ l) a h =
     let (h₁, h₂) = both (not (stands l b)) (unrepeated l) h in
     go (same_assertion a b) h₁ h₂ (withdraw_unrepeated l a h₂)
   where
-    go : (c : Bool) → T (not (stands l b)) → T (unrepeated l) → T (unrepeated (withdraw l a)) → T (unrepeated (if c then l else b ∷ withdraw l a))
+    go : (c : Bool) → T (not (stands l b)) → T (unrepeated l) → T (unrepeated (withdraw l a)) → T (unrepeated (when c then l else b ∷ withdraw l a))
     go true h₁ h₂ k = h₂
     go false h₁ h₂ k =
         and (not (stands (withdraw l a) b)) (unrepeated (withdraw l a))

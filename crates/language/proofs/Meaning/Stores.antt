@@ -4,7 +4,7 @@ use mathlib.Core.Bool.{Bool, true, false, ◌&&◌}
 use mathlib.Core.Option.{some}
 use mathlib.Core.List.{List, [], ◌∷◌, ◌++◌, map}
 use lib.Dec.{T}
-use Rattle.language.specs.Text.{Text, if◌then◌else◌, ◌==◌, all, keep, member, distinct, present}
+use Rattle.language.specs.Text.{Text, when◌then◌else◌, ◌≟◌, all, keep, member, distinct, present}
 use Rattle.language.specs.Syntax.{Name, Right, rights, delegate}
 use Rattle.language.specs.State.{Value, Principal, Variable, Assertion, Store, named, value_in, put}
 use Rattle.language.specs.Chains.{has}
@@ -137,11 +137,11 @@ keep_there : (f : Name → Bool) (vs all_of : List Variable) → ((x : Name) →
     → T (all (λ x. present (value_in all_of x)) (keep f (variable_names vs)))
 keep_there f [] a h = tt
 keep_there f (v ∷ vs) a h =
-    go (f v.name) (h v.name (left_of_lem (v.name == v.name) (member v.name (variable_names vs)) (==_refl v.name)))
-    (keep_there f vs a (λ x m. h x (right_of (x == v.name) (member x (variable_names vs)) m)))
+    go (f v.name) (h v.name (left_of_lem (v.name ≟ v.name) (member v.name (variable_names vs)) (==_refl v.name)))
+    (keep_there f vs a (λ x m. h x (right_of (x ≟ v.name) (member x (variable_names vs)) m)))
   where
     go : (b : Bool) → T (present (value_in a v.name)) → T (all (λ x. present (value_in a x)) (keep f (variable_names vs)))
-        → T (all (λ x. present (value_in a x)) (if b then v.name ∷ keep f (variable_names vs) else keep f (variable_names vs)))
+        → T (all (λ x. present (value_in a x)) (when b then v.name ∷ keep f (variable_names vs) else keep f (variable_names vs)))
     go true t ih = and (present (value_in a v.name)) (all (λ x. present (value_in a x)) (keep f (variable_names vs))) t ih
     go false t ih = ih
 

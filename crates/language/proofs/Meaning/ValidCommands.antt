@@ -3,7 +3,7 @@ use mathlib.Core.Bool.{Bool, true, false, ◌&&◌, not}
 use mathlib.Core.Option.{none, some}
 use mathlib.Core.List.{List, [], ◌∷◌, map}
 use lib.Dec.{T, T_not}
-use Rattle.language.specs.Text.{if◌then◌else◌, ◌==◌, all, present}
+use Rattle.language.specs.Text.{when◌then◌else◌, ◌≟◌, all, present}
 use Rattle.language.specs.Syntax.{Name, Right, rights, Command, create_principal, change_password, set, append_to, local, foreach, filtereach, set_delegation, delete_delegation, default_delegator, exit, return}
 use Rattle.language.specs.State.{Element, Value, single, list, Principal, Variable, Assertion, Store, admin, anyone, named, value_in, put}
 use Rattle.language.specs.Identifiers.{is_identifier, is_name, is_string}
@@ -29,10 +29,10 @@ pub admin_known : (ks : List Principal) → T (valid_order ks) → T (present (n
 admin_known [] o = absurd o
 admin_known (k ∷ []) o = absurd o
 admin_known (k ∷ l ∷ ks) o =
-    let (h, r) = both ((k.name == admin) && has_password k && (l.name == anyone)) (all has_password ks) o in
-    go (k.name == admin) (three (k.name == admin) (has_password k) (l.name == anyone) h).0
+    let (h, r) = both ((k.name ≟ admin) && has_password k && (l.name ≟ anyone)) (all has_password ks) o in
+    go (k.name ≟ admin) (three (k.name ≟ admin) (has_password k) (l.name ≟ anyone) h).0
   where
-    go : (b : Bool) → T b → T (present (if b then some k else named (l ∷ ks) admin))
+    go : (b : Bool) → T b → T (present (when b then some k else named (l ∷ ks) admin))
     go true t = tt
     go false t = absurd t
 
@@ -53,10 +53,10 @@ module _ (s : Session) (g : Good s) where
   put_local x v h = record { store_shape = g.store_shape; locals_valid = put_all holding x v s.locals h g.locals_valid; sender_known = g.sender_known }
 
   granted_valid : (x : Name) (vs : List Variable) → T (present (value_in vs x)) → T (all (valid_assertion (with_variables s.store vs)) (granted s x))
-  granted_valid x vs h = go (s.sender == admin)
+  granted_valid x vs h = go (s.sender ≟ admin)
     where
       go : (b : Bool) → T (all (valid_assertion (with_variables s.store vs))
-          (if b then [] else map (λ r. record { variable = x; from = admin; right = r; to = s.sender }) rights))
+          (when b then [] else map (λ r. record { variable = x; from = admin; right = r; to = s.sender }) rights))
       go true = tt
       go false = map_valid (valid_assertion (with_variables s.store vs)) (λ r. record { variable = x; from = admin; right = r; to = s.sender })
           (λ r. and_three (present (value_in vs x)) (present (named s.store.principals admin)) (present (named s.store.principals s.sender))
@@ -65,8 +65,8 @@ module _ (s : Session) (g : Good s) where
   assign_good : (x : Name) (v : Value) → T (is_name x) → IsValid v → Good (assign s x v)
   assign_good x v h k = go (is_local s x) (is_shared s x)
     where
-      go : (b c : Bool) → Good (if b then with_locals s (put x v s.locals)
-          else if c then with_store s (with_variables s.store (put x v s.store.variables))
+      go : (b c : Bool) → Good (when b then with_locals s (put x v s.locals)
+          else when c then with_store s (with_variables s.store (put x v s.store.variables))
           else with_store s (enter_all (with_variables s.store (put x v s.store.variables)) (granted s x)))
       go true c = put_local x v k
       go false true = with_store_lem (with_variables s.store (put x v s.store.variables)) (put_shape s.store g.store_shape x v h k) g.sender_known

@@ -7,7 +7,7 @@ use mathlib.Core.Option.{Option, none, some}
 use mathlib.Core.List.{List, [], ◌∷◌}
 use lib.ListN.{length}
 use lib.Dec.{T, T_not, not_T, leb, leb→le, le→leb, ltb, nltb→le}
-use Rattle.language.specs.Text.{Text, if◌then◌else◌, all, present}
+use Rattle.language.specs.Text.{Text, when◌then◌else◌, all, present}
 use Rattle.language.specs.Syntax.{Name, Command, Program}
 use Rattle.language.specs.State.{Principal, Store, named, fresh}
 use Rattle.language.specs.Weight.{limit, store_weight}
@@ -56,7 +56,7 @@ verdict_went P false fails h = tt
 verdict_went P false fills h = tt
 verdict_went P false (gives f) h = go (heavy f) refl
   where
-    go : (b : Bool) → heavy f ≡ b → Went P (if b then refused FULL else went f)
+    go : (b : Bool) → heavy f ≡ b → Went P (when b then refused FULL else went f)
     go true e = tt
     go false e = (h, subst (λ c. T (not c)) (sym e) tt)
 

@@ -8,7 +8,7 @@ use mathlib.Core.List.{List, [], ◌∷◌, map}
 use lib.ListN.{length, take, drop}
 use lib.Dec.{T, leb, leb→le, le→leb, ltb, nltb→le, lit≤}
 use Rattle.language.specs.Syntax as E
-use Rattle.language.specs.Text.{Text, if◌then◌else◌, ◌==◌, any, all, each, distinct, present}
+use Rattle.language.specs.Text.{Text, when◌then◌else◌, ◌≟◌, any, all, each, distinct, present}
 use Rattle.language.specs.Bytes.{◌is◌, ◌∈◌, between, letter, digit, space, newline, foreign, mark, marks, in_string, string_byte}
 use Rattle.language.specs.Syntax.{Name, Operand, name, dot, quoted, Binding, Operation, Function, split, concat, arithmetic, Comparison, Term, nothing, Expr, term, let_in}
 use Rattle.language.specs.State.{Field, Element, string, fields, Value, single, list, Variable, named, value_in}
@@ -45,7 +45,7 @@ value_found : (vs : List Variable) (x : Name) → T (all holding vs) → Where I
 value_found [] x h = tt
 value_found (v ∷ vs) x h =
     let (h₁, h₂) = both (holding v) (all holding vs) h in
-    if_where IsValid (v.name == x) (some v.value) (value_in vs x) (λ t. h₁) (λ t. value_found vs x h₂)
+    if_where IsValid (v.name ≟ x) (some v.value) (value_in vs x) (λ t. h₁) (λ t. value_found vs x h₂)
 
 shared_valid : (vs : List Variable) → T (all valid_variable vs) → T (all holding vs)
 shared_valid = all_map valid_variable holding (λ v h. (both (is_name v.name) (holding v) h).1)
@@ -72,7 +72,7 @@ text_valid : (fs : List Field) (y : Name) → T (all valid_field fs) → Where (
 text_valid [] y h = tt
 text_valid (f ∷ fs) y h =
     let (h₁, h₂) = both (valid_field f) (all valid_field fs) h in
-    if_where (λ t. T (is_string t)) (f.label == y) (some f.text) (text_of fs y)
+    if_where (λ t. T (is_string t)) (f.label ≟ y) (some f.text) (text_of fs y)
     (λ t. (both (is_name f.label) (is_string f.text) h₁).1) (λ t. text_valid fs y h₂)
 
 -- ---- functions
@@ -80,15 +80,15 @@ text_valid (f ∷ fs) y h =
 small_string : (b : ℕ) → T (between "a" "z" b) → T (string_byte b)
 small_string b h = go (between "a" "z" b) h
   where
-    go : (c : Bool) → T c → T (in_string (if c || between "A" "Z" b then letter
-        else if between "0" "9" b then digit else if b is " " then space else if b is "\n" then newline else if b ∈ marks then mark b else foreign))
+    go : (c : Bool) → T c → T (in_string (when c || between "A" "Z" b then letter
+        else when between "0" "9" b then digit else when b is " " then space else when b is "\n" then newline else when b ∈ marks then mark b else foreign))
     go true t = tt
     go false t = absurd t
 
 lower_string : (b : ℕ) → T (string_byte b) → T (string_byte (lower_byte b))
 lower_string b h = go (between "A" "Z" b) refl
   where
-    go : (c : Bool) → between "A" "Z" b ≡ c → T (string_byte (if c then b + 32 else b))
+    go : (c : Bool) → between "A" "Z" b ≡ c → T (string_byte (when c then b + 32 else b))
     go true e =
         let (l, u) = both (leb 65 b) (leb b 90) (subst T (sym e) tt) in
         small_string (b + 32) (and (leb 97 (b + 32)) (leb (b + 32) 122) (le→leb 97 (b + 32) (omega (arith, leb→le 65 b l))) (le→leb (b + 32) 122 (omega (arith, leb→le b 90 u))))
@@ -144,7 +144,7 @@ Fits v = IsValid v × (value_weight v ≤ limit)
 weighed_fits : (vs : List Value) (v : Value) → IsValid v → Giving Fits (weighed vs v)
 weighed_fits vs v h = go (is_heavy v) refl (any is_heavy vs)
   where
-    go : (b : Bool) → is_heavy v ≡ b → (c : Bool) → Giving Fits (if b || c then fills else gives v)
+    go : (b : Bool) → is_heavy v ≡ b → (c : Bool) → Giving Fits (when b || c then fills else gives v)
     go true e c = tt
     go false e true = tt
     go false e false = (h, nltb→le limit (value_weight v) (subst (λ c. T (not c)) (sym e) tt))
@@ -213,7 +213,7 @@ GoodIn env = Good env.session
 bind_good : (env : Environment) → GoodIn env → (x : Name) (v : Value) → IsValid v → Giving GoodIn (bind env x v)
 bind_good env g x v h = go (ltb limit (bound_with env x v))
   where
-    go : (b : Bool) → Giving GoodIn (if b then fills else gives (record { session = with_name env.session x v; bound = bound_with env x v }))
+    go : (b : Bool) → Giving GoodIn (when b then fills else gives (record { session = with_name env.session x v; bound = bound_with env x v }))
     go true = tt
     go false = with_name_good env.session g x v h
 

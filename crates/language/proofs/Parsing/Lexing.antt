@@ -8,7 +8,7 @@ use mathlib.Core.Bool.{Bool, true, false, ◌&&◌, not}
 use mathlib.Core.List.{List, [], ◌∷◌}
 use lib.ListN.{length, drop}
 use lib.Dec.{T, T_not, not_T, eqb, eqb→eq, leb, lit≤}
-use Rattle.language.specs.Text.{Text, bytes, if◌then◌else◌, ◌==◌, all, member, front, past}
+use Rattle.language.specs.Text.{Text, bytes, when◌then◌else◌, ◌≟◌, all, member, front, past}
 use Rattle.language.specs.Bytes.{◌is◌, ◌∈◌, Class, letter, digit, space, newline, foreign, mark, class, is_letter, in_word, word_byte, string_byte, comment_byte}
 use Rattle.language.specs.Identifiers.{is_string, keywords, is_word, is_identifier}
 use Rattle.language.specs.Tokens.{Token, sign, ident, text, wrong, Lexeme, gap, end, token, bad, word, quoted_by, comment, pair, lexeme, lead, tokens, lex}
@@ -50,7 +50,7 @@ front_all : (f : ℕ → Bool) (t : Text) → T (all f (front f t))
 front_all f [] = tt
 front_all f (b ∷ t) = go (f b) refl (front_all f t)
   where
-    go : (c : Bool) → f b ≡ c → T (all f (front f t)) → T (all f (if c then b ∷ front f t else []))
+    go : (c : Bool) → f b ≡ c → T (all f (front f t)) → T (all f (when c then b ∷ front f t else []))
     go true e h = and (f b) (all f (front f t)) (subst T (sym e) tt) h
     go false e h = tt
 
@@ -59,7 +59,7 @@ front_past f [] = refl
 front_past f (b ∷ t) = go (f b) (front_past f t)
   where
     go : (c : Bool) → length (front f t) + length (past f t) ≡ length t
-        → length (if c then b ∷ front f t else []) + length (if c then past f t else b ∷ t) ≡ suc (length t)
+        → length (when c then b ∷ front f t else []) + length (when c then past f t else b ∷ t) ≡ suc (length t)
     go true h = omega arith
     go false h = omega arith
 
@@ -72,7 +72,7 @@ front_stops : (t : Text) → Stops (drop (length (front word_byte t)) t)
 front_stops [] = tt
 front_stops (b ∷ t) = go (word_byte b) refl (front_stops t)
   where
-    go : (c : Bool) → word_byte b ≡ c → Stops (drop (length (front word_byte t)) t) → Stops (drop (length (if c then b ∷ front word_byte t else [])) (b ∷ t))
+    go : (c : Bool) → word_byte b ≡ c → Stops (drop (length (front word_byte t)) t) → Stops (drop (length (when c then b ∷ front word_byte t else [])) (b ∷ t))
     go true e h = h
     go false e h = not_T (word_byte b) (λ t. subst T e t)
 
@@ -84,13 +84,13 @@ Fine b bs end = Unit {0}
 Fine b bs bad = Unit {0}
 Fine b bs (token t n) = T (valid_token t) × (n ≤ length bs) × (token_size t ≤ suc n) × (T (is_word_token t) → T (word_byte b) × Stops (drop n bs))
 
-if_fine : (b : ℕ) (bs : Text) (c : Bool) (l m : Lexeme) → (T c → Fine b bs l) → (T (not c) → Fine b bs m) → Fine b bs (if c then l else m)
+if_fine : (b : ℕ) (bs : Text) (c : Bool) (l m : Lexeme) → (T c → Fine b bs l) → (T (not c) → Fine b bs m) → Fine b bs (when c then l else m)
 if_fine b bs true l m f g = f tt
 if_fine b bs false l m f g = g tt
 
 word_fine : (b : ℕ) (bs : Text) → class b ≡ letter → Fine b bs (word (b ∷ front word_byte bs) (length (front word_byte bs)))
 word_fine b bs e =
-    if_fine b bs (member w keywords) (token (sign w) n) (if leb (length w) 255 then token (ident w) n else bad)
+    if_fine b bs (member w keywords) (token (sign w) n) (when leb (length w) 255 then token (ident w) n else bad)
     (λ k. (tt, fits, le_refl (suc n), λ t. (is_word_lem, front_stops bs)))
     (λ k. if_fine b bs (leb (length w) 255) (token (ident w) n) bad
     (λ l. (and_three (is_word w) (leb (length w) 255) (not (member w keywords)) spelled l k, fits, le_refl (suc n), λ t. (is_word_lem, front_stops bs)))
@@ -124,9 +124,9 @@ comment_fine b bs (c ∷ t) = if_fine b bs (c is "\n") end bad (λ k. tt) (λ k.
 pair_fine : (b m : ℕ) (bs : Text) → Fine b bs (pair m bs)
 pair_fine b m [] = tt
 pair_fine b m (c ∷ cs) =
-    if_fine b (c ∷ cs) ((m ∷ c ∷ []) == bytes "->") (token (sign (bytes "->")) 1) _ (λ k. (tt, omega arith, lit≤ tt, λ t. absurd t)) (λ k.
-    if_fine b (c ∷ cs) ((m ∷ c ∷ []) == bytes "[]") (token (sign (bytes "[]")) 1) _ (λ k. (tt, omega arith, lit≤ tt, λ t. absurd t)) (λ k.
-    if_fine b (c ∷ cs) ((m ∷ c ∷ []) == bytes "//") (comment (past comment_byte cs)) bad (λ k. comment_fine b (c ∷ cs) (past comment_byte cs)) (λ k. tt)))
+    if_fine b (c ∷ cs) ((m ∷ c ∷ []) ≟ bytes "->") (token (sign (bytes "->")) 1) _ (λ k. (tt, omega arith, lit≤ tt, λ t. absurd t)) (λ k.
+    if_fine b (c ∷ cs) ((m ∷ c ∷ []) ≟ bytes "[]") (token (sign (bytes "[]")) 1) _ (λ k. (tt, omega arith, lit≤ tt, λ t. absurd t)) (λ k.
+    if_fine b (c ∷ cs) ((m ∷ c ∷ []) ≟ bytes "//") (comment (past comment_byte cs)) bad (λ k. comment_fine b (c ∷ cs) (past comment_byte cs)) (λ k. tt)))
 
 -- none of the marks that stand alone goes on a word
 alone : (m : ℕ) → T (m ∈ bytes "=.,{}()") → T (word_byte m) → ⊥

@@ -8,7 +8,7 @@ use mathlib.Core.Option.{Option, none, some}
 use mathlib.Core.List.{List, [], ◌∷◌}
 use lib.ListN.{length}
 use lib.Dec.{T, eqb, leb, leb→le}
-use Rattle.language.specs.Text.{Text, bytes, parts, to_first, if◌then◌else◌, ◌>>=◌, ◌==◌, all, sum}
+use Rattle.language.specs.Text.{Text, bytes, parts, to_first, when◌then◌else◌, ◌>>=◌, ◌≟◌, all, sum}
 use Rattle.language.specs.Tokens.{lex}
 use Rattle.language.specs.Syntax.{Command, Program}
 use Rattle.language.specs.Identifiers.{is_identifier, is_string}
@@ -38,7 +38,7 @@ parts_room : (mark : ℕ) (t : Text) → sum line_room (parts mark t) ≡ length
 parts_room mark [] = refl
 parts_room mark (b ∷ t) = go (eqb b mark) (parts mark t) (parts_room mark t)
   where
-    go : (c : Bool) (ls : List Text) → sum line_room ls ≡ length t + 1 → sum line_room (if c then [] ∷ ls else to_first b ls) ≡ suc (length t) + 1
+    go : (c : Bool) (ls : List Text) → sum line_room ls ≡ length t + 1 → sum line_room (when c then [] ∷ ls else to_first b ls) ≡ suc (length t) + 1
     go true ls h = omega arith
     go false [] h = absurd (empty h)
       where
@@ -48,10 +48,10 @@ parts_room mark (b ∷ t) = go (eqb b mark) (parts mark t) (parts_room mark t)
 
 above_room : (ls : List Text) → Where (λ ms. sum line_room ms + 4 ≤ sum line_room ls) (above ls)
 above_room [] = tt
-above_room (l ∷ ls) = go (l == bytes "***") (==→≡ l (bytes "***")) (above ls) (above_room ls)
+above_room (l ∷ ls) = go (l ≟ bytes "***") (==→≡ l (bytes "***")) (above ls) (above_room ls)
   where
     go : (c : Bool) → (T c → l ≡ bytes "***") → (o : Option (List Text)) → Where (λ ms. sum line_room ms + 4 ≤ sum line_room ls) o
-        → Where (λ ms. sum line_room ms + 4 ≤ sum line_room (l ∷ ls)) (if c then (if ended ls then some [] else none) else (o >>= λ rest. some (l ∷ rest)))
+        → Where (λ ms. sum line_room ms + 4 ≤ sum line_room (l ∷ ls)) (when c then (when ended ls then some [] else none) else (o >>= λ rest. some (l ∷ rest)))
     go true e o h =
         if_where (λ ms. sum line_room ms + 4 ≤ sum line_room (l ∷ ls)) (ended ls) (some []) none
         (λ t. subst (λ y. 0 + 4 ≤ length y + 1 + sum line_room ls) (sym (e tt)) (omega arith)) (λ t. tt)
@@ -62,7 +62,7 @@ written_room : (ls : List Text) → sum line_room (written ls) ≤ sum line_room
 written_room [] = le_refl 0
 written_room (l ∷ ls) = go (is_comment l) (written_room ls)
   where
-    go : (c : Bool) → sum line_room (written ls) ≤ sum line_room ls → sum line_room (if c then written ls else l ∷ written ls) ≤ sum line_room (l ∷ ls)
+    go : (c : Bool) → sum line_room (written ls) ≤ sum line_room ls → sum line_room (when c then written ls else l ∷ written ls) ≤ sum line_room (l ∷ ls)
     go true h = omega arith
     go false h = omega arith
 

@@ -8,7 +8,7 @@ use mathlib.Core.Option.{Option, none, some}
 use mathlib.Core.List.{List, [], ◌∷◌}
 use lib.ListN.{length}
 use lib.Dec.{T}
-use Rattle.language.specs.Text.{Text, if◌then◌else◌, ◌==◌, ◌or_else◌, all}
+use Rattle.language.specs.Text.{Text, when◌then◌else◌, ◌≟◌, ◌or_else◌, all}
 use Rattle.language.specs.Tokens.{Token, sign, ident, text, wrong}
 use Rattle.language.specs.Syntax.{Name}
 use Rattle.language.specs.Identifiers.{is_identifier, is_string}
@@ -67,7 +67,7 @@ the_reads w before after h = record { reads = go }
 
     go : (ts : List Token) → T (all valid_token ts) → Where (Read ts) (the_sign w ts)
     go [] v = tt
-    go (sign u ∷ ts) v = found (u == w) (==→≡ u w)
+    go (sign u ∷ ts) v = found (u ≟ w) (==→≡ u w)
       where
         last : u ≡ w → length w + room after ts ≤ room before (sign u ∷ ts) + 0
         last e = subst (λ y. length w + room after ts ≤ gap_size (before && is_word_token (sign y)) + (length y + room (is_word_token (sign y)) ts) + 0) (sym e)
@@ -78,7 +78,7 @@ the_reads w before after h = record { reads = go }
             shorter true false f = absurd (f tt)
             shorter false b f = (room_after b ts).0
 
-        found : (c : Bool) → (T c → u ≡ w) → Where (Read (sign u ∷ ts)) (if c then some (tt, ts) else none)
+        found : (c : Bool) → (T c → u ≡ w) → Where (Read (sign u ∷ ts)) (when c then some (tt, ts) else none)
         found true e = (tt, v, last (e tt))
         found false e = tt
     go (ident u ∷ ts) v = tt

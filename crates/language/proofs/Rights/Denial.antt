@@ -6,7 +6,7 @@ use mathlib.Core.Bool.{Bool, true, false, not}
 use mathlib.Core.Option.{Option, none, some}
 use mathlib.Core.List.{List, [], ◌∷◌, map}
 use lib.Dec.{T, T_not, not_T}
-use Rattle.language.specs.Text.{if◌then◌else◌, any, member, present}
+use Rattle.language.specs.Text.{when◌then◌else◌, any, member, present}
 use Rattle.language.specs.Syntax.{Name, Right, Command}
 use Rattle.language.specs.State.{Store, admin, stands}
 use Rattle.language.specs.Chains.{Chain, chain_length, has}
@@ -103,7 +103,7 @@ verdict_denied false fails h = absurd h
 verdict_denied false fills h = absurd h
 verdict_denied false (gives f) h = go (heavy f) h
   where
-    go : (b : Bool) → IsDenied (if b then refused FULL else went f) → ⊥
+    go : (b : Bool) → IsDenied (when b then refused FULL else went f) → ⊥
     go true h = h
     go false h = h
 

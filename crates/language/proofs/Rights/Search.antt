@@ -10,7 +10,7 @@ use mathlib.Core.Option.{Option, none, some, some_inj, none-ne-some, some-ne-non
 use mathlib.Core.List.{List, [], ◌∷◌, map}
 use lib.ListN.{length, length-map}
 use lib.Dec.{T}
-use Rattle.language.specs.Text.{if◌then◌else◌, ◌==◌, any, keep, member, present}
+use Rattle.language.specs.Text.{when◌then◌else◌, ◌≟◌, any, keep, member, present}
 use Rattle.language.specs.Syntax.{Name, Right}
 use Rattle.language.specs.State.{Store, Assertion, admin, anyone, stands, named}
 use Rattle.language.specs.Chains.{Chain, start, along, to_all, Shortest, within_step, round, reached, chain_length}
@@ -23,19 +23,19 @@ kept f p [] h = absurd h
 kept f p (q ∷ ps) h = go (f q) refl (kept f p ps) h
   where
     go : (b : Bool) → f q ≡ b → (T (member p (keep f ps)) → T (f p) × T (member p ps))
-        → T (member p (if b then q ∷ keep f ps else keep f ps)) → T (f p) × T (member p (q ∷ ps))
-    go true e ih t = elim (one_of_lem (p == q) (member p (keep f ps)) t) [
-      | inl u ↦ (subst (λ x. T (f x)) (sym (==→≡ p q u)) (subst T (sym e) tt), left_of_lem (p == q) (member p ps) u)
-      | inr u ↦ ((ih u).0, right_of (p == q) (member p ps) (ih u).1)
+        → T (member p (when b then q ∷ keep f ps else keep f ps)) → T (f p) × T (member p (q ∷ ps))
+    go true e ih t = elim (one_of_lem (p ≟ q) (member p (keep f ps)) t) [
+      | inl u ↦ (subst (λ x. T (f x)) (sym (==→≡ p q u)) (subst T (sym e) tt), left_of_lem (p ≟ q) (member p ps) u)
+      | inr u ↦ ((ih u).0, right_of (p ≟ q) (member p ps) (ih u).1)
     ]
-    go false e ih t = ((ih t).0, right_of (p == q) (member p ps) (ih t).1)
+    go false e ih t = ((ih t).0, right_of (p ≟ q) (member p ps) (ih t).1)
 
 -- a member that passes a test
 pub witness : (f : Name → Bool) (l : List Name) → T (any f l) → (q : Name) × T (f q) × T (member q l)
 witness f [] h = absurd h
 witness f (q ∷ l) h = elim (one_of_lem (f q) (any f l) h) [
-  | inl t ↦ (q, t, left_of_lem (q == q) (member q l) (==_refl q))
-  | inr t ↦ ((witness f l t).0, (witness f l t).1, right_of ((witness f l t).0 == q) (member (witness f l t).0 l) (witness f l t).2)
+  | inl t ↦ (q, t, left_of_lem (q ≟ q) (member q l) (==_refl q))
+  | inr t ↦ ((witness f l t).0, (witness f l t).1, right_of ((witness f l t).0 ≟ q) (member (witness f l t).0 l) (witness f l t).2)
 ]
 
 -- what has a chain of at most n steps
@@ -49,12 +49,12 @@ pub round_sound : (s : Store) (r : Right) (x : Name) (n : ℕ) (marked : List Na
 round_sound s r x n marked near p h =
     let found = kept (λ p. any (within_step s r x p) marked) p (map (λ k. k.name) s.principals) h in
     let (q, t, m) = witness (within_step s r x p) marked found.0 in
-    go q (near q m) (is_named p s.principals found.1) (one_of_lem ((q == p) || (q == anyone)) (stands s.assertions (record { variable = x; from = q; right = r; to = p })) t)
+    go q (near q m) (is_named p s.principals found.1) (one_of_lem ((q ≟ p) || (q ≟ anyone)) (stands s.assertions (record { variable = x; from = q; right = r; to = p })) t)
   where
     go : (q : Name) → Near s r x n q → T (present (named s.principals p))
-        → T ((q == p) || (q == anyone)) ⊎ T (stands s.assertions (record { variable = x; from = q; right = r; to = p }))
+        → T ((q ≟ p) || (q ≟ anyone)) ⊎ T (stands s.assertions (record { variable = x; from = q; right = r; to = p }))
         → Near s r x (suc n) p
-    go q (m, l, c) k (inl t) = elim (one_of_lem (q == p) (q == anyone) t) [
+    go q (m, l, c) k (inl t) = elim (one_of_lem (q ≟ p) (q ≟ anyone) t) [
       | inl u ↦ (m, omega arith, subst (Chain s r x m) (==→≡ q p u) c)
       | inr u ↦ (suc m, omega arith, to_all (subst (Chain s r x m) (==→≡ q anyone u) c) k)
     ]
@@ -64,18 +64,18 @@ round_sound s r x n marked near p h =
 
 pub is_kept : (f : Name → Bool) (p : Name) (ps : List Name) → T (f p) → T (member p ps) → T (member p (keep f ps))
 is_kept f p [] t h = absurd h
-is_kept f p (q ∷ ps) t h = go (f q) refl (is_kept f p ps t) (one_of_lem (p == q) (member p ps) h)
+is_kept f p (q ∷ ps) t h = go (f q) refl (is_kept f p ps t) (one_of_lem (p ≟ q) (member p ps) h)
   where
     go : (b : Bool) → f q ≡ b → (T (member p ps) → T (member p (keep f ps)))
-        → T (p == q) ⊎ T (member p ps) → T (member p (if b then q ∷ keep f ps else keep f ps))
-    go true e ih (inl u) = left_of_lem (p == q) (member p (keep f ps)) u
-    go true e ih (inr u) = right_of (p == q) (member p (keep f ps)) (ih u)
+        → T (p ≟ q) ⊎ T (member p ps) → T (member p (when b then q ∷ keep f ps else keep f ps))
+    go true e ih (inl u) = left_of_lem (p ≟ q) (member p (keep f ps)) u
+    go true e ih (inr u) = right_of (p ≟ q) (member p (keep f ps)) (ih u)
     go false e ih (inl u) = absurd (subst T e (subst (λ y. T (f y)) (==→≡ p q u) t))
     go false e ih (inr u) = ih u
 
 pub any_by : (f : Name → Bool) (q : Name) (l : List Name) → T (f q) → T (member q l) → T (any f l)
 any_by f q [] t h = absurd h
-any_by f q (a ∷ l) t h = elim (one_of_lem (q == a) (member q l) h) [
+any_by f q (a ∷ l) t h = elim (one_of_lem (q ≟ a) (member q l) h) [
   | inl u ↦ left_of_lem (f a) (any f l) (subst (λ y. T (f y)) (==→≡ q a u) t)
   | inr u ↦ right_of (f a) (any f l) (any_by f q l t u)
 ]
@@ -87,7 +87,7 @@ keep_le f g [] h = le_refl 0
 keep_le f g (p ∷ ps) h = go (f p) (g p) (h p) (keep_le f g ps h)
   where
     go : (a b : Bool) → (T a → T b) → length (keep f ps) ≤ length (keep g ps)
-        → length (if a then p ∷ keep f ps else keep f ps) ≤ length (if b then p ∷ keep g ps else keep g ps)
+        → length (when a then p ∷ keep f ps else keep f ps) ≤ length (when b then p ∷ keep g ps else keep g ps)
     go true true i ih = suc-le-suc ih
     go true false i ih = absurd (i tt)
     go false true i ih = le_step ih
@@ -101,15 +101,15 @@ grows f g (p ∷ ps) h = go (f p) (g p) refl refl (h p) (grows f g ps h)
     go : (a b : Bool) → f p ≡ a → g p ≡ b → (T a → T b)
         → ((q : Name) → T (member q ps) → T (g q) → T (f q)) ⊎ (length (keep f ps) < length (keep g ps))
         → ((q : Name) → T (member q (p ∷ ps)) → T (g q) → T (f q))
-        ⊎ (length (if a then p ∷ keep f ps else keep f ps) < length (if b then p ∷ keep g ps else keep g ps))
-    go true true ea eb i (inl k) = inl (λ q m t. elim (one_of_lem (q == p) (member q ps) m) [
+        ⊎ (length (when a then p ∷ keep f ps else keep f ps) < length (when b then p ∷ keep g ps else keep g ps))
+    go true true ea eb i (inl k) = inl (λ q m t. elim (one_of_lem (q ≟ p) (member q ps) m) [
       | inl u ↦ subst (λ y. T (f y)) (sym (==→≡ q p u)) (subst T (sym ea) tt)
       | inr u ↦ k q u t
     ])
     go true true ea eb i (inr k) = inr (suc-le-suc k)
     go true false ea eb i k = absurd (i tt)
     go false true ea eb i k = inr (suc-le-suc (keep_le f g ps h))
-    go false false ea eb i (inl k) = inl (λ q m t. elim (one_of_lem (q == p) (member q ps) m) [
+    go false false ea eb i (inl k) = inl (λ q m t. elim (one_of_lem (q ≟ p) (member q ps) m) [
       | inl u ↦ absurd (subst T eb (subst (λ y. T (g y)) (==→≡ q p u) t))
       | inr u ↦ k q u t
     ])
@@ -119,17 +119,17 @@ pub keep_at_most : (f : Name → Bool) (ps : List Name) → length (keep f ps) �
 keep_at_most f [] = le_refl 0
 keep_at_most f (p ∷ ps) = go (f p) (keep_at_most f ps)
   where
-    go : (a : Bool) → length (keep f ps) ≤ length ps → length (if a then p ∷ keep f ps else keep f ps) ≤ suc (length ps)
+    go : (a : Bool) → length (keep f ps) ≤ length ps → length (when a then p ∷ keep f ps else keep f ps) ≤ suc (length ps)
     go true ih = suc-le-suc ih
     go false ih = le_step ih
 
 -- a test that keeps as many names as there are passes all of them
 pub keeps_all : (f : Name → Bool) (ps : List Name) → length ps ≤ length (keep f ps) → (q : Name) → T (member q ps) → T (f q)
 keeps_all f [] l q m = absurd m
-keeps_all f (p ∷ ps) l q m = go (f p) refl (λ k u. keeps_all f ps k q u) l (one_of_lem (q == p) (member q ps) m)
+keeps_all f (p ∷ ps) l q m = go (f p) refl (λ k u. keeps_all f ps k q u) l (one_of_lem (q ≟ p) (member q ps) m)
   where
     go : (a : Bool) → f p ≡ a → (length ps ≤ length (keep f ps) → T (member q ps) → T (f q))
-        → suc (length ps) ≤ length (if a then p ∷ keep f ps else keep f ps) → T (q == p) ⊎ T (member q ps) → T (f q)
+        → suc (length ps) ≤ length (when a then p ∷ keep f ps else keep f ps) → T (q ≟ p) ⊎ T (member q ps) → T (f q)
     go true e ih l (inl u) = subst (λ y. T (f y)) (sym (==→≡ q p u)) (subst T (sym e) tt)
     go true e ih l (inr u) = ih (le_of_suc-le-suc l) u
     go false e ih l u = absurd (not-suc-le_self (length ps) (le_trans l (keep_at_most f ps)))
@@ -150,7 +150,7 @@ module _ (s : Store) (r : Right) (x : Name) where
   marks (suc n) = round s r x (marks n)
 
   pub sound : (n : ℕ) (p : Name) → T (member p (marks n)) → Near s r x n p
-  sound zero p h = elim (one_of_lem (p == admin) false h) [
+  sound zero p h = elim (one_of_lem (p ≟ admin) false h) [
     | inl u ↦ (0, le_refl 0, subst (Chain s r x 0) (sym (==→≡ p admin u)) start)
     | inr u ↦ absurd u
   ]
@@ -169,13 +169,13 @@ module _ (s : Store) (r : Right) (x : Name) where
     chain_named (to_all {p = p} c t) = named_is p s.principals t
 
     pub complete : {n : ℕ} {p : Name} → Chain s r x n p → T (member p (marks n))
-    complete start = left_of_lem (admin == admin) false (==_refl admin)
+    complete start = left_of_lem (admin ≟ admin) false (==_refl admin)
     complete (along {n = n} {q = q} {p = p} c t) =
         round_by (marks n) q p (complete c)
-        (right_of ((q == p) || (q == anyone)) (stands s.assertions (step_to q p)) t) (to_is q p t)
+        (right_of ((q ≟ p) || (q ≟ anyone)) (stands s.assertions (step_to q p)) t) (to_is q p t)
     complete (to_all {n = n} {p = p} c t) =
         round_by (marks n) anyone p (complete c)
-        (left_of_lem ((anyone == p) || (anyone == anyone)) (stands s.assertions (step_to anyone p)) (right_of (anyone == p) (anyone == anyone) (==_refl anyone)))
+        (left_of_lem ((anyone ≟ p) || (anyone ≟ anyone)) (stands s.assertions (step_to anyone p)) (right_of (anyone ≟ p) (anyone ≟ anyone) (==_refl anyone)))
         (named_is p s.principals t)
 
     -- where p is marked after n rounds and after no fewer, n is the length of a shortest chain
@@ -195,14 +195,14 @@ module _ (s : Store) (r : Right) (x : Name) where
         → reached s r x p more used (marks used) ≡ some n → Shortest s r x n p
     found p zero used n before e = go (member p (marks used)) refl e
       where
-        go : (b : Bool) → member p (marks used) ≡ b → (if b then some used else none) ≡ some n → Shortest s r x n p
+        go : (b : Bool) → member p (marks used) ≡ b → (when b then some used else none) ≡ some n → Shortest s r x n p
         go true m e = subst (λ y. Shortest s r x y p) (some_inj.0 e) (shortest used p (subst T (sym m) tt) before)
         go false m e = absurd (none-ne-some n e)
     found p (suc more) used n before e = go (member p (marks used)) refl (found p more (suc used) n) e
       where
         go : (b : Bool) → member p (marks used) ≡ b
             → (((m : ℕ) → m < suc used → ¬ T (member p (marks m))) → reached s r x p more (suc used) (marks (suc used)) ≡ some n → Shortest s r x n p)
-            → (if b then some used else reached s r x p more (suc used) (marks (suc used))) ≡ some n → Shortest s r x n p
+            → (when b then some used else reached s r x p more (suc used) (marks (suc used))) ≡ some n → Shortest s r x n p
         go true m ih e = subst (λ y. Shortest s r x y p) (some_inj.0 e) (shortest used p (subst T (sym m) tt) before)
         go false m ih e = ih before_next e
           where
@@ -220,7 +220,7 @@ module _ (s : Store) (r : Right) (x : Name) where
         same_round : n ≡ used
         same_round = omega arith
 
-        go : (b : Bool) → T b → (if b then some used else none) ≡ none → ⊥
+        go : (b : Bool) → T b → (when b then some used else none) ≡ none → ⊥
         go true t e = some-ne-none used e
         go false t e = t
     missed p (suc more) used n h e t = go (member p (marks used)) (missed p more (suc used) n next_round_lem) e
@@ -229,17 +229,17 @@ module _ (s : Store) (r : Right) (x : Name) where
         next_round_lem = omega arith
 
         go : (b : Bool) → (reached s r x p more (suc used) (marks (suc used)) ≡ none → ¬ T (member p (marks n)))
-            → (if b then some used else reached s r x p more (suc used) (marks (suc used))) ≡ none → ⊥
+            → (when b then some used else reached s r x p more (suc used) (marks (suc used))) ≡ none → ⊥
         go true ih e = some-ne-none used e
         go false ih e = ih e t
 
     -- the test by which round n marks
     abbrev passes : ℕ → Name → Bool
-    passes zero p = p == admin
+    passes zero p = p ≟ admin
     passes (suc n) p = any (within_step s r x p) (marks n)
 
     passed : (n : ℕ) (p : Name) → T (member p names) → T (passes n p) → T (member p (marks n))
-    passed zero p k t = left_of_lem (p == admin) false t
+    passed zero p k t = left_of_lem (p ≟ admin) false t
     passed (suc n) p k t = is_kept (passes (suc n)) p names t k
 
     marked_named : (n : ℕ) (p : Name) → T (member p (marks n)) → T (member p names)
@@ -248,15 +248,15 @@ module _ (s : Store) (r : Right) (x : Name) where
     stays : (n : ℕ) (p : Name) → T (member p (marks n)) → T (member p (marks (suc n)))
     stays n p t =
         round_by (marks n) p p t
-        (left_of_lem ((p == p) || (p == anyone)) (stands s.assertions (step_to p p)) (left_of_lem (p == p) (p == anyone) (==_refl p)))
+        (left_of_lem ((p ≟ p) || (p ≟ anyone)) (stands s.assertions (step_to p p)) (left_of_lem (p ≟ p) (p ≟ anyone) (==_refl p)))
         (marked_named n p t)
 
     passes_on : (n : ℕ) (p : Name) → T (passes n p) → T (passes (suc n) p)
     passes_on zero p t =
         any_by (within_step s r x p) admin (marks 0)
-        (left_of_lem ((admin == p) || (admin == anyone)) (stands s.assertions (step_to admin p))
-        (left_of_lem (admin == p) (admin == anyone) (subst (λ y. T (y == p)) (==→≡ p admin t) (==_refl p))))
-        (left_of_lem (admin == admin) false (==_refl admin))
+        (left_of_lem ((admin ≟ p) || (admin ≟ anyone)) (stands s.assertions (step_to admin p))
+        (left_of_lem (admin ≟ p) (admin ≟ anyone) (subst (λ y. T (y ≟ p)) (==→≡ p admin t) (==_refl p))))
+        (left_of_lem (admin ≟ admin) false (==_refl admin))
     passes_on (suc n) p t =
         let (q, u, m) = witness (within_step s r x p) (marks n) t in
         any_by (within_step s r x p) q (marks (suc n)) u (stays n q m)
@@ -266,11 +266,11 @@ module _ (s : Store) (r : Right) (x : Name) where
     Settled n = (m : ℕ) (p : Name) → T (member p (marks m)) → T (member p (marks n))
 
     admin_marked : (n : ℕ) → T (member admin (marks n))
-    admin_marked zero = left_of_lem (admin == admin) false (==_refl admin)
+    admin_marked zero = left_of_lem (admin ≟ admin) false (==_refl admin)
     admin_marked (suc n) = stays n admin (admin_marked n)
 
     settles : (n : ℕ) → ((p : Name) → T (member p names) → T (passes (suc n) p) → T (passes n p)) → Settled n
-    settles n h zero p t = elim (one_of_lem (p == admin) false t) [
+    settles n h zero p t = elim (one_of_lem (p ≟ admin) false t) [
       | inl u ↦ subst (λ y. T (member y (marks n))) (sym (==→≡ p admin u)) (admin_marked n)
       | inr u ↦ absurd u
     ]
@@ -314,7 +314,7 @@ module _ (s : Store) (r : Right) (x : Name) where
 pub few_rounds : (s : Store) (r : Right) (x p : Name) (n : ℕ) → chain_length s r x p ≡ some n → n ≤ length s.principals - 1
 few_rounds s r x p n e = subst (λ k. n ≤ k) (zero-add (length s.principals - 1)) (go (length s.principals - 1) 0 (admin ∷ []) e)
   where
-    at_once : (b : Bool) (o : Option ℕ) (used more : ℕ) → (o ≡ some n → n ≤ used + more) → (if b then some used else o) ≡ some n → n ≤ used + more
+    at_once : (b : Bool) (o : Option ℕ) (used more : ℕ) → (o ≡ some n → n ≤ used + more) → (when b then some used else o) ≡ some n → n ≤ used + more
     at_once true o used more f e = let k : used ≡ n = cc in omega arith
     at_once false o used more f e = f e
 

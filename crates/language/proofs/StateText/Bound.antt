@@ -7,7 +7,7 @@ use mathlib.Core.Option.{Option, none, some}
 use mathlib.Core.List.{List, [], ◌∷◌, ◌++◌}
 use lib.ListN.{length, replicate, length-append, length-replicate}
 use lib.Dec.{T, eqb, eqb_refl, leb, leb→le, lit≤}
-use Rattle.language.specs.Text.{Text, bytes, if◌then◌else◌, ◌==◌, all, sum, joined, decimal}
+use Rattle.language.specs.Text.{Text, bytes, when◌then◌else◌, ◌≟◌, all, sum, joined, decimal}
 use Rattle.language.specs.Syntax.{Name, Right, read, write, append, delegate}
 use Rattle.language.specs.State.{Field, Element, string, fields, Value, single, list, Principal, Variable, Assertion, Store, last_count, admin, anyone}
 use Rattle.language.specs.Weight.{limit, element_weight, value_weight, name_weight, password_weight, principal_weight, variable_weight, assertion_weight, store_weight}
@@ -78,10 +78,10 @@ variable_bound v h =
 
 -- admin and anyone count 1, and have five letters and six
 name_bound : (p : Name) → T (is_name p) → (1 ≤ name_weight p) × (length p ≤ name_weight p + 5)
-name_bound p h = go (p == admin) (p == anyone) (==→≡ p admin) (==→≡ p anyone) (name_length p h).0
+name_bound p h = go (p ≟ admin) (p ≟ anyone) (==→≡ p admin) (==→≡ p anyone) (name_length p h).0
   where
     go : (b c : Bool) → (T b → p ≡ admin) → (T c → p ≡ anyone) → 1 ≤ length p
-        → (1 ≤ (if b || c then 1 else length p)) × (length p ≤ (if b || c then 1 else length p) + 5)
+        → (1 ≤ (when b || c then 1 else length p)) × (length p ≤ (when b || c then 1 else length p) + 5)
     go true c f g l = (lit≤ tt, subst (λ y. length y ≤ 6) (sym (f tt)) (lit≤ tt))
     go false true f g l = (lit≤ tt, subst (λ y. length y ≤ 6) (sym (g tt)) (lit≤ tt))
     go false false f g l = (l, omega arith)

@@ -8,7 +8,7 @@ use mathlib.Core.Bool.{Bool, true, false, ◌&&◌, ◌||◌, not}
 use mathlib.Core.List.{[], ◌∷◌, ◌++◌}
 use lib.ListN.{length, length-append}
 use lib.Dec.{T, T_not, not_T, eqb, eqb→eq, leb, leb→le, ltb, lit≤}
-use Rattle.language.specs.Text.{Text, if◌then◌else◌, ◌==◌, all, member, digits, decimal}
+use Rattle.language.specs.Text.{Text, when◌then◌else◌, ◌≟◌, all, member, digits, decimal}
 use Rattle.language.specs.Encode.{tab, newline as lineEnd}
 use Rattle.language.specs.Bytes.{◌is◌, ◌∈◌, between, Class, letter, digit, space, newline, foreign, mark, marks, class, is_letter, in_word, in_string, word_byte, string_byte}
 use Rattle.language.specs.Decode.{number}
@@ -51,7 +51,7 @@ visible_low b t = go (between "a" "z" b || between "A" "Z" b) (between "0" "9" b
     (between_low "0" "9" b (lit≤ tt)) (λ u. subst (λ y. 32 ≤ y) (sym (eqb→eq b 32 u)) (lit≤ tt)) (one_low marks tt b) t
   where
     go : (l d s n m : Bool) → (T l → 32 ≤ b) → (T d → 32 ≤ b) → (T s → 32 ≤ b) → (T m → 32 ≤ b)
-        → T (is_visible (if l then letter else if d then digit else if s then space else if n then newline else if m then mark b else foreign)) → 32 ≤ b
+        → T (is_visible (when l then letter else when d then digit else when s then space else when n then newline else when m then mark b else foreign)) → 32 ≤ b
     go true d s n m hl hd hs hm t = hl tt
     go false true s n m hl hd hs hm t = hd tt
     go false false true n m hl hd hs hm t = hs tt
@@ -105,7 +105,7 @@ string_clean = all_map _ _ (λ b h. low_clean b (string_low b h))
 pub identifier_name : (t : Text) → T (is_identifier t) → T (is_name t)
 identifier_name t h =
     let (h₁, h₂) = both (is_word t && leb (length t) 255) (not (member t keywords)) h in
-    and (is_word t && leb (length t) 255) (not (member t base_keywords)) h₁ (not_T (member t base_keywords) (λ m. T_not (member t keywords) h₂ (any_left (λ u. t == u) base_keywords price_keywords m)))
+    and (is_word t && leb (length t) 255) (not (member t base_keywords)) h₁ (not_T (member t base_keywords) (λ m. T_not (member t keywords) h₂ (any_left (λ u. t ≟ u) base_keywords price_keywords m)))
 
 pub name_clean : (t : Text) → T (is_name t) → T (is_clean t)
 name_clean [] h = tt
@@ -141,7 +141,7 @@ number_digits zero n h = omega arith
 number_digits (suc k) n h = go (ltb n 10) (number_digits k (n / 10) h)
   where
     go : (c : Bool) → number 0 (digits k (n / 10)) ≡ n / 10
-        → number 0 (if c then (48 + n) ∷ [] else digits k (n / 10) ++ ((48 + n % 10) ∷ [])) ≡ n
+        → number 0 (when c then (48 + n) ∷ [] else digits k (n / 10) ++ ((48 + n % 10) ∷ [])) ≡ n
     go true e = omega arith
     go false e = number_append 0 (48 + n % 10) (digits k (n / 10)) ∙ ap (λ y. y * 10 + (48 + n % 10 - 48)) e ∙ omega arith
 
@@ -155,7 +155,7 @@ digits_clean (suc k) n = go (ltb n 10) (digits_clean k (n / 10))
     last : (m : ℕ) → T (is_clean ((48 + m) ∷ []))
     last m = and (not (eqb (48 + m) tab) && not (eqb (48 + m) lineEnd)) true (low_clean (48 + m) (omega arith)) tt
 
-    go : (c : Bool) → T (is_clean (digits k (n / 10))) → T (is_clean (if c then (48 + n) ∷ [] else digits k (n / 10) ++ ((48 + n % 10) ∷ [])))
+    go : (c : Bool) → T (is_clean (digits k (n / 10))) → T (is_clean (when c then (48 + n) ∷ [] else digits k (n / 10) ++ ((48 + n % 10) ∷ [])))
     go true h = last n
     go false h = all_append _ (digits k (n / 10)) ((48 + n % 10) ∷ []) h (last (n % 10))
 
@@ -164,6 +164,6 @@ digits_length zero n = lit≤ tt
 digits_length (suc k) n = go (ltb n 10) (digits_length k (n / 10))
   where
     go : (c : Bool) → length (digits k (n / 10)) ≤ k + 1
-        → length (if c then (48 + n) ∷ [] else digits k (n / 10) ++ ((48 + n % 10) ∷ [])) ≤ suc k + 1
+        → length (when c then (48 + n) ∷ [] else digits k (n / 10) ++ ((48 + n % 10) ∷ [])) ≤ suc k + 1
     go true h = omega arith
     go false h = omega (arith, length-append (digits k (n / 10)) ((48 + n % 10) ∷ []))

@@ -8,7 +8,7 @@ use mathlib.Core.List.{[], ◌∷◌, ◌++◌}
 use lib.Dec.{T, leb, le→leb, ltb, lit≤}
 use lib.ListN.{length, length-append}
 use borrow.Author.Tests.{ltb-true, ltb-false}
-use Rattle.language.specs.Text.{if◌then◌else◌, all, digits, decimal}
+use Rattle.language.specs.Text.{when◌then◌else◌, all, digits, decimal}
 use Rattle.language.specs.Bytes.{between}
 use Rattle.language.proofs.Logic.Tests.{and, all_append}
 
@@ -28,7 +28,7 @@ digits_all zero n h = and (between "0" "9" (48 + n)) true (digit_byte n h) tt
 digits_all (suc k) n h = go (ltb n 10) refl (digits_all k (n / 10) h)
   where
     go : (c : Bool) → ltb n 10 ≡ c → T (all (between "0" "9") (digits k (n / 10)))
-        → T (all (between "0" "9") (if c then (48 + n) ∷ [] else digits k (n / 10) ++ ((48 + n % 10) ∷ [])))
+        → T (all (between "0" "9") (when c then (48 + n) ∷ [] else digits k (n / 10) ++ ((48 + n % 10) ∷ [])))
     go true e r = and (between "0" "9" (48 + n)) true (digit_byte n (ltb-true n 10 e)) tt
     go false e r =
         all_append (between "0" "9") (digits k (n / 10)) ((48 + n % 10) ∷ []) r (and (between "0" "9" (48 + n % 10)) true (digit_byte (n % 10) (omega arith)) tt)
@@ -41,12 +41,12 @@ pub digits_few : (j k n : ℕ) → Within j n → length (digits k n) ≤ j + 1
 digits_few j zero n h = omega arith
 digits_few zero (suc k) n h = go (ltb n 10) refl
   where
-    go : (c : Bool) → ltb n 10 ≡ c → length (if c then (48 + n) ∷ [] else digits k (n / 10) ++ ((48 + n % 10) ∷ [])) ≤ 1
+    go : (c : Bool) → ltb n 10 ≡ c → length (when c then (48 + n) ∷ [] else digits k (n / 10) ++ ((48 + n % 10) ∷ [])) ≤ 1
     go true e = lit≤ tt
     go false e = absurd (omega (arith, ltb-false n 10 e))
 digits_few (suc j) (suc k) n h = go (ltb n 10) (digits_few j k (n / 10) h)
   where
     go : (c : Bool) → length (digits k (n / 10)) ≤ j + 1
-        → length (if c then (48 + n) ∷ [] else digits k (n / 10) ++ ((48 + n % 10) ∷ [])) ≤ suc j + 1
+        → length (when c then (48 + n) ∷ [] else digits k (n / 10) ++ ((48 + n % 10) ∷ [])) ≤ suc j + 1
     go true r = omega arith
     go false r = omega (arith, length-append (digits k (n / 10)) ((48 + n % 10) ∷ []))

@@ -7,7 +7,7 @@ use mathlib.Core.Option.{Option, none, some}
 use mathlib.Core.List.{List, [], ◌∷◌, ◌++◌}
 use lib.ListN.{length, replicate}
 use lib.Dec.{T, eqb→eq, leb, leb→le}
-use Rattle.language.specs.Text.{Text, bytes, parts, ◌>>=◌, ◌>>◌, given, ◌==◌, all, joined, decimal}
+use Rattle.language.specs.Text.{Text, bytes, parts, ◌>>=◌, ◌>>◌, given, ◌≟◌, all, joined, decimal}
 use Rattle.language.specs.State.{Principal, Store, last_count}
 use Rattle.language.specs.Weight.{limit}
 use Rattle.language.specs.Encode.{newline, delegator_text, variables_text, assertions_text, buffer_size, padded}
@@ -89,8 +89,8 @@ reads_former n t f rest r =
 decodes : (n : ℕ) (s : Store) → T (valid_former n s) → decode_former (padded (former_text n s)) ≡ some s
 decodes n s h =
     let e = reads_former n s (former_shape n s h) (replicate (buffer_size - length (former_text n s)) 0) (reads_zeros (buffer_size - length (former_text n s))) in
-    ap (λ o. o >>= λ b. given (valid_former b.count b.store && (padded (former_text b.count b.store) == buffer)) >> some b.store) e
-    ∙ given_true (valid_former n s && (padded (former_text n s) == buffer)) (some s) (and (valid_former n s) (padded (former_text n s) == buffer) h (==_refl buffer))
+    ap (λ o. o >>= λ b. given (valid_former b.count b.store && (padded (former_text b.count b.store) ≟ buffer)) >> some b.store) e
+    ∙ given_true (valid_former n s && (padded (former_text n s) ≟ buffer)) (some s) (and (valid_former n s) (padded (former_text n s) ≟ buffer) h (==_refl buffer))
   where
     buffer : Text
     buffer = padded (former_text n s)
@@ -105,6 +105,6 @@ decode_former_lem buffer s = (
     sound : (buffer : Text) → Where (λ s. (n : ℕ) × FormerHolds buffer n s) (decode_former buffer)
     sound buffer =
         bind_where (λ b. Unit {0}) (λ s. (n : ℕ) × FormerHolds buffer n s) (read_lines (parts newline buffer)) _ (anything (read_lines (parts newline buffer))) (λ b u.
-        given_where (λ s. (n : ℕ) × FormerHolds buffer n s) (valid_former b.count b.store && (padded (former_text b.count b.store) == buffer)) (some b.store) (λ t.
-        let (v, e) = both (valid_former b.count b.store) (padded (former_text b.count b.store) == buffer) t in
+        given_where (λ s. (n : ℕ) × FormerHolds buffer n s) (valid_former b.count b.store && (padded (former_text b.count b.store) ≟ buffer)) (some b.store) (λ t.
+        let (v, e) = both (valid_former b.count b.store) (padded (former_text b.count b.store) ≟ buffer) t in
         (b.count, record { is_valid = v; is_text_lem = sym (==→≡ (padded (former_text b.count b.store)) buffer e) })))

@@ -5,7 +5,7 @@ use mathlib.Core.Bool.{Bool, true, false, ◌||◌}
 use mathlib.Core.List.{List, [], ◌∷◌}
 use lib.Dec.{T, leb}
 use lib.ListN.{length}
-use Rattle.language.specs.Text.{if◌then◌else◌, ◌==◌, all, sum}
+use Rattle.language.specs.Text.{when◌then◌else◌, ◌≟◌, all, sum}
 use Rattle.language.specs.Syntax.{Name}
 use Rattle.language.specs.Identifiers.{is_name}
 use Rattle.language.specs.State.{Principal, Variable, Assertion, last_count, admin, anyone}
@@ -24,9 +24,9 @@ at_least k fine weight f (a ∷ l) h =
     omega (arith, f a h₁, at_least k fine weight f l h₂)
 
 pub name_weighs : (p : Name) → T (is_name p) → 1 ≤ name_weight p
-name_weighs p h = go ((p == admin) || (p == anyone)) (name_length p h).0
+name_weighs p h = go ((p ≟ admin) || (p ≟ anyone)) (name_length p h).0
   where
-    go : (b : Bool) → 1 ≤ length p → 1 ≤ (if b then 1 else length p)
+    go : (b : Bool) → 1 ≤ length p → 1 ≤ (when b then 1 else length p)
     go true l = omega arith
     go false l = l
 

@@ -5,7 +5,7 @@ use mathlib.Core.Bool.{Bool, true, false, ◌&&◌, not}
 use mathlib.Core.Option.{some}
 use mathlib.Core.List.{List, [], ◌∷◌, ◌++◌, append_assoc}
 use lib.Dec.{T, eqb, eqb_refl}
-use Rattle.language.specs.Text.{Text, parts, to_first, if◌then◌else◌, ◌>>=◌, all, joined}
+use Rattle.language.specs.Text.{Text, parts, to_first, when◌then◌else◌, ◌>>=◌, all, joined}
 use Rattle.language.specs.Encode.{tab, newline, line_of}
 use Rattle.language.specs.Decode.{Below, read_line, read_lines}
 use Rattle.language.proofs.Logic.Tests.{both, all_map, all_append}
@@ -21,14 +21,14 @@ parts_free mark (b ∷ t) h =
     go (eqb b mark) h₁ (parts_free mark t h₂)
   where
     go : (c : Bool) → T (not c) → parts mark t ≡ t ∷ []
-        → (if c then [] ∷ parts mark t else to_first b (parts mark t)) ≡ (b ∷ t) ∷ []
+        → (when c then [] ∷ parts mark t else to_first b (parts mark t)) ≡ (b ∷ t) ∷ []
     go true k e = absurd k
     go false k e = ap (to_first b) e
 
 parts_join : (mark : ℕ) (t rest : Text) → Free mark t → parts mark (t ++ mark ∷ rest) ≡ t ∷ parts mark rest
 parts_join mark [] rest h = go (eqb mark mark) (eqb_refl mark)
   where
-    go : (c : Bool) → T c → (if c then [] ∷ parts mark rest else to_first mark (parts mark rest)) ≡ [] ∷ parts mark rest
+    go : (c : Bool) → T c → (when c then [] ∷ parts mark rest else to_first mark (parts mark rest)) ≡ [] ∷ parts mark rest
     go true k = refl
     go false k = absurd k
 parts_join mark (b ∷ t) rest h =
@@ -36,7 +36,7 @@ parts_join mark (b ∷ t) rest h =
     go (eqb b mark) h₁ (parts_join mark t rest h₂)
   where
     go : (c : Bool) → T (not c) → parts mark (t ++ mark ∷ rest) ≡ t ∷ parts mark rest
-        → (if c then [] ∷ parts mark (t ++ mark ∷ rest) else to_first b (parts mark (t ++ mark ∷ rest))) ≡ (b ∷ t) ∷ parts mark rest
+        → (when c then [] ∷ parts mark (t ++ mark ∷ rest) else to_first b (parts mark (t ++ mark ∷ rest))) ≡ (b ∷ t) ∷ parts mark rest
     go true k e = absurd k
     go false k e = ap (to_first b) e
 
@@ -86,7 +86,7 @@ parts_shape mark [] = ([], [], refl)
 parts_shape mark (b ∷ t) = go (eqb b mark) (parts_shape mark t)
   where
     go : (c : Bool) → ((u : Text) × (us : List Text) × (parts mark t ≡ u ∷ us))
-        → (u : Text) × (us : List Text) × ((if c then [] ∷ parts mark t else to_first b (parts mark t)) ≡ u ∷ us)
+        → (u : Text) × (us : List Text) × ((when c then [] ∷ parts mark t else to_first b (parts mark t)) ≡ u ∷ us)
     go true s = ([], parts mark t, refl)
     go false (u, us, e) = (b ∷ u, us, ap (to_first b) e)
 

@@ -7,7 +7,7 @@ use mathlib.Core.Option.{Option, none, some}
 use mathlib.Core.List.{List, [], ◌∷◌, ◌++◌, map, append_assoc}
 use lib.ListN.{length, replicate}
 use lib.Dec.{T, leb, leb→le, ltb}
-use Rattle.language.specs.Text.{Text, bytes, parts, ◌>>=◌, ◌>>◌, given, ◌==◌, all, distinct, joined, decimal}
+use Rattle.language.specs.Text.{Text, bytes, parts, ◌>>=◌, ◌>>◌, given, ◌≟◌, all, distinct, joined, decimal}
 use Rattle.language.specs.Syntax.{Right, read, write, append, delegate}
 use Rattle.language.specs.State.{Field, Element, string, fields, Value, single, list, Principal, Variable, Assertion, Store, last_count}
 use Rattle.language.specs.Weight.{store_weight, limit}
@@ -164,8 +164,8 @@ pub decodes : (s : Store) → T (valid_store s) → decode (padded (state_text s
 decodes s h =
     let (w, l) = both (well_formed s) (leb (store_weight s) limit) h in
     let e = reads_state s (shape s w) (replicate (buffer_size - length (state_text s)) 0) (reads_zeros (buffer_size - length (state_text s))) in
-    ap (λ o. o >>= λ b. given (valid_store b.store && (padded (state_text b.store) == buffer)) >> some b.store) e
-    ∙ given_true (valid_store s && (padded (state_text s) == buffer)) (some s) (and (valid_store s) (padded (state_text s) == buffer) h (==_refl buffer))
+    ap (λ o. o >>= λ b. given (valid_store b.store && (padded (state_text b.store) ≟ buffer)) >> some b.store) e
+    ∙ given_true (valid_store s && (padded (state_text s) ≟ buffer)) (some s) (and (valid_store s) (padded (state_text s) ≟ buffer) h (==_refl buffer))
   where
     buffer : Text
     buffer = padded (state_text s)
@@ -177,8 +177,8 @@ decode_holds buffer s = (λ e. subst (Where (Holds buffer)) e (decode_sound buff
     decode_sound : (buffer : Text) → Where (Holds buffer) (decode buffer)
     decode_sound buffer =
         bind_where (λ b. Unit {0}) (Holds buffer) (read_lines (parts newline buffer)) _ (anything (read_lines (parts newline buffer))) (λ b u.
-        given_where (Holds buffer) (valid_store b.store && (padded (state_text b.store) == buffer)) (some b.store) (λ t.
-        let (v, e) = both (valid_store b.store) (padded (state_text b.store) == buffer) t in
+        given_where (Holds buffer) (valid_store b.store && (padded (state_text b.store) ≟ buffer)) (some b.store) (λ t.
+        let (v, e) = both (valid_store b.store) (padded (state_text b.store) ≟ buffer) t in
         record { is_valid = v; is_text_lem = sym (==→≡ (padded (state_text b.store)) buffer e) }))
 
 -- and one text one state

@@ -5,7 +5,7 @@ use Prim.Native.Nat.{ℕ, suc, ◌+◌, ◌-◌, ◌≤◌, ◌<◌}
 use native.Mathlib.Omega.{arith}
 use borrow.Author.Count.{below_more}
 use lib.ListN.{length}
-use Rattle.language.specs.Text.{◌==◌}
+use Rattle.language.specs.Text.{◌≟◌}
 use Rattle.language.specs.Syntax.{Name}
 use Rattle.text.specs.Parts.{part}
 use Rattle.store.specs.Rows.{Row, Rows, row_at}
@@ -65,8 +65,8 @@ returns-then-is_named c rows H =
     let a = c.args in
     let h : c.scan-k.result < length rows = omega (arith, c.scan-k.ensures.high, c.if-k-count.false, H.counted) in
     let P = c.nth-at.ensures rows H in
-    let e : ((row_at rows c.scan-k.result).name == a.name.now) ≡ true =
-    ap (λ (y : Name). y == a.name.now) (sym (name_is rows H)) ∙ sym c.is_named.ensures ∙ c.if-is_named.true in
+    let e : ((row_at rows c.scan-k.result).name ≟ a.name.now) ≡ true =
+    ap (λ (y : Name). y ≟ a.name.now) (sym (name_is rows H)) ∙ sym c.is_named.ensures ∙ c.if-is_named.true in
     (λ i. At c.scan-k.result (P.starts i) (P.ends i)) ∙ placed_at rows a.name.now c.scan-k.result h (passed rows H) e
 
 pub overflow_add-i : goal.overflow_add-i
@@ -88,7 +88,7 @@ loop-i-preserved c =
     (
       omega (arith, c.scan-k.ensures.high, c.if-k-count.false),
       λ rows H. below_more _ _ (passed rows H)
-          (ap (λ (y : Name). y == c.args.name.now) (sym (name_is rows H)) ∙ sym c.is_named.ensures ∙ c.if-is_named.false),
+          (ap (λ (y : Name). y ≟ c.args.name.now) (sym (name_is rows H)) ∙ sym c.is_named.ensures ∙ c.if-is_named.false),
     )
 
 pub returns : goal.returns

@@ -5,7 +5,7 @@ use Prim.Native.Nat.{ℕ, suc, ◌+◌, ◌-◌, ◌≤◌, ◌<◌}
 use native.Mathlib.Omega.{arith}
 use borrow.Author.Count.{below_more}
 use lib.ListN.{length}
-use Rattle.language.specs.Text.{◌==◌}
+use Rattle.language.specs.Text.{◌≟◌}
 use Rattle.language.specs.Syntax.{Name}
 use Rattle.text.specs.Parts.{part}
 use Rattle.store.specs.Rows.{Row, Rows, row_at}
