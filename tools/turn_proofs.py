@@ -480,7 +480,7 @@ def turn(text, fn, crate, where):
 
     goals = []
     for name, need, comments, code in needs:
-        new = fn.need(need)
+        new = fn.need(need) or fn.need(name)
         if new is None:
             notes.append(f"no goal for {need}")
             continue
@@ -529,6 +529,9 @@ def turn(text, fn, crate, where):
         want = [f"l.initial.{v}" if ch else f"l.{v}" for v, ch in zip(variables, changed)]
         want += [f"l.{v}" for v, ch in zip(variables, changed) if ch]
         args = m.group(3).split()
+        if len(args) > len(want):
+            # a name that the older toolchain made for a value between, which no invariant speaks of
+            args = [a for a in args if not re.fullmatch(r"t\d+", a)]
         if len(args) != len(want):
             raise Left(f"the invariant of {new} takes {args}, and the loop has {want}")
         rows = {a: w for a, w in zip(args, want) if a != "_"}

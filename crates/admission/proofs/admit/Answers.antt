@@ -29,8 +29,28 @@ slice_bounds-log_in-count c =
     let placed : HeadWithin c.args.program.now (Is.Login c.in-Login.sender c.in-Login.password c.in-Login.at) = subst (HeadWithin c.args.program.now) c.in-Login.is c.login-head.ensures.placed in
     let w = placed in omega (arith, w.0.0, w.0.1, w.1.0, w.1.1)
 
+pub slice_bounds-log_in-start : goal.slice_bounds-log_in-start
+slice_bounds-log_in-start c =
+    let placed : HeadWithin c.args.program.now (Is.Login c.in-Login.sender c.in-Login.password c.in-Login.at) = subst (HeadWithin c.args.program.now) c.in-Login.is c.login-head.ensures.placed in
+    let w = placed in omega (arith, w.0.0, w.0.1, w.1.0, w.1.1)
+
+pub slice_bounds-log_in-end : goal.slice_bounds-log_in-end
+slice_bounds-log_in-end c =
+    let placed : HeadWithin c.args.program.now (Is.Login c.in-Login.sender c.in-Login.password c.in-Login.at) = subst (HeadWithin c.args.program.now) c.in-Login.is c.login-head.ensures.placed in
+    let w = placed in omega (arith, w.0.0, w.0.1, w.1.0, w.1.1)
+
 pub slice_bounds-log_in-count-2 : goal.slice_bounds-log_in-count-2
 slice_bounds-log_in-count-2 c =
+    let placed : HeadWithin c.args.program.now (Is.Login c.in-Login.sender c.in-Login.password c.in-Login.at) = subst (HeadWithin c.args.program.now) c.in-Login.is c.login-head.ensures.placed in
+    let w = placed in omega (arith, w.0.0, w.0.1, w.1.0, w.1.1)
+
+pub slice_bounds-log_in-start-2 : goal.slice_bounds-log_in-start-2
+slice_bounds-log_in-start-2 c =
+    let placed : HeadWithin c.args.program.now (Is.Login c.in-Login.sender c.in-Login.password c.in-Login.at) = subst (HeadWithin c.args.program.now) c.in-Login.is c.login-head.ensures.placed in
+    let w = placed in omega (arith, w.0.0, w.0.1, w.1.0, w.1.1)
+
+pub slice_bounds-log_in-end-2 : goal.slice_bounds-log_in-end-2
+slice_bounds-log_in-end-2 c =
     let placed : HeadWithin c.args.program.now (Is.Login c.in-Login.sender c.in-Login.password c.in-Login.at) = subst (HeadWithin c.args.program.now) c.in-Login.is c.login-head.ensures.placed in
     let w = placed in omega (arith, w.0.0, w.0.1, w.1.0, w.1.1)
 

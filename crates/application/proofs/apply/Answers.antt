@@ -29,8 +29,28 @@ slice_bounds-call-count c =
     let within_first : Within c.args.first.now c.in-At.s = subst (λ (f : Found). Placed c.args.first.now f) c.in-At.is c.requires.placed.0 in
     let w = within_first in omega (arith, w.0, w.1)
 
+pub slice_bounds-call-start : goal.slice_bounds-call-start
+slice_bounds-call-start c =
+    let within_first : Within c.args.first.now c.in-At.s = subst (λ (f : Found). Placed c.args.first.now f) c.in-At.is c.requires.placed.0 in
+    let w = within_first in omega (arith, w.0, w.1)
+
+pub slice_bounds-call-end : goal.slice_bounds-call-end
+slice_bounds-call-end c =
+    let within_first : Within c.args.first.now c.in-At.s = subst (λ (f : Found). Placed c.args.first.now f) c.in-At.is c.requires.placed.0 in
+    let w = within_first in omega (arith, w.0, w.1)
+
 pub slice_bounds-call-count-2 : goal.slice_bounds-call-count-2
 slice_bounds-call-count-2 c =
+    let within-second : Within c.args.second.now c.in-At-b.t = subst (λ (f : Found). Placed c.args.second.now f) c.in-At-b.is c.requires.placed_2.0 in
+    let w = within-second in omega (arith, w.0, w.1)
+
+pub slice_bounds-call-start-2 : goal.slice_bounds-call-start-2
+slice_bounds-call-start-2 c =
+    let within-second : Within c.args.second.now c.in-At-b.t = subst (λ (f : Found). Placed c.args.second.now f) c.in-At-b.is c.requires.placed_2.0 in
+    let w = within-second in omega (arith, w.0, w.1)
+
+pub slice_bounds-call-end-2 : goal.slice_bounds-call-end-2
+slice_bounds-call-end-2 c =
     let within-second : Within c.args.second.now c.in-At-b.t = subst (λ (f : Found). Placed c.args.second.now f) c.in-At-b.is c.requires.placed_2.0 in
     let w = within-second in omega (arith, w.0, w.1)
 

@@ -18,6 +18,16 @@ slice_bounds-lower_text-count c =
     let within : Within c.args.value.now c.in-At.s = subst (λ (f : Found). Placed c.args.value.now f) c.in-At.is c.requires.0 in
     let w = within in omega (arith, w.0, w.1)
 
+pub slice_bounds-lower_text-start : goal.slice_bounds-lower_text-start
+slice_bounds-lower_text-start c =
+    let within : Within c.args.value.now c.in-At.s = subst (λ (f : Found). Placed c.args.value.now f) c.in-At.is c.requires.0 in
+    let w = within in omega (arith, w.0, w.1)
+
+pub slice_bounds-lower_text-end : goal.slice_bounds-lower_text-end
+slice_bounds-lower_text-end c =
+    let within : Within c.args.value.now c.in-At.s = subst (λ (f : Found). Placed c.args.value.now f) c.in-At.is c.requires.0 in
+    let w = within in omega (arith, w.0, w.1)
+
 pub lower_text-requires : goal.lower_text-requires
 lower_text-requires c = (subst (λ (f : Found). MaybeString (text_at c.args.value.now f)) c.in-At.is c.requires.1, c.requires.2)
 

@@ -199,6 +199,20 @@ slice_bounds-name_weight-count c =
     let fq : (c.in-At.m + 1 ≤ c.in-At-giver.n) × (c.in-At-giver.n < length c.args.text.now) = let f = (mq c.requires.0.principals_some.rows c.requires.0.principals_some.held).field in (f.low, f.high) in
     let f = fq in omega (arith, f.0)
 
+pub slice_bounds-name_weight-start : goal.slice_bounds-name_weight-start
+slice_bounds-name_weight-start c =
+    let Principals : List Row → Type 0 = λ rows. let r = c.args.roll in Rows rows (part c.args.text.now r.principals_from r.principals_to) r.principals c.args.principals.now in
+    let mq : (rows : List Row) → Principals rows → Member (row_names rows) 9 c.args.text.now (c.in-At.m + 1) c.in-At-giver.q c.in-At-giver.n = λ rows H. subst (λ k. KnownMeant (row_names rows) 9 c.args.text.now (c.in-At.m + 1) k) c.in-At-giver.is (c.known_at-giver.ensures rows H) in
+    let fq : (c.in-At.m + 1 ≤ c.in-At-giver.n) × (c.in-At-giver.n < length c.args.text.now) = let f = (mq c.requires.0.principals_some.rows c.requires.0.principals_some.held).field in (f.low, f.high) in
+    let f = fq in omega (arith, f.0)
+
+pub slice_bounds-name_weight-end : goal.slice_bounds-name_weight-end
+slice_bounds-name_weight-end c =
+    let Principals : List Row → Type 0 = λ rows. let r = c.args.roll in Rows rows (part c.args.text.now r.principals_from r.principals_to) r.principals c.args.principals.now in
+    let mq : (rows : List Row) → Principals rows → Member (row_names rows) 9 c.args.text.now (c.in-At.m + 1) c.in-At-giver.q c.in-At-giver.n = λ rows H. subst (λ k. KnownMeant (row_names rows) 9 c.args.text.now (c.in-At.m + 1) k) c.in-At-giver.is (c.known_at-giver.ensures rows H) in
+    let fq : (c.in-At.m + 1 ≤ c.in-At-giver.n) × (c.in-At-giver.n < length c.args.text.now) = let f = (mq c.requires.0.principals_some.rows c.requires.0.principals_some.held).field in (f.low, f.high) in
+    let f = fq in omega (arith, f.1)
+
 pub overflow_add-after-4 : goal.overflow_add-after-4
 overflow_add-after-4 c =
     let Vars : List Row → Type 0 = λ rows. let r = c.args.roll in Rows rows (part c.args.text.now r.vars_from r.vars_to) r.vars c.args.vars.now in
@@ -216,6 +230,20 @@ slice_bounds-name_weight-count-2 c =
     let mp : (rows : List Row) → Principals rows → Member (row_names rows) 10 c.args.text.now (c.in-At-giver.n + 3) c.in-At-taker.p c.in-At-taker.e = λ rows H. subst (λ k. KnownMeant (row_names rows) 10 c.args.text.now (c.in-At-giver.n + 3) k) c.in-At-taker.is (c.known_at-taker.ensures rows H) in
     let fp : (c.in-At-giver.n + 3 ≤ c.in-At-taker.e) × (c.in-At-taker.e < length c.args.text.now) = let f = (mp c.requires.0.principals_some.rows c.requires.0.principals_some.held).field in (f.low, f.high) in
     let f = fp in omega (arith, f.0)
+
+pub slice_bounds-name_weight-start-2 : goal.slice_bounds-name_weight-start-2
+slice_bounds-name_weight-start-2 c =
+    let Principals : List Row → Type 0 = λ rows. let r = c.args.roll in Rows rows (part c.args.text.now r.principals_from r.principals_to) r.principals c.args.principals.now in
+    let mp : (rows : List Row) → Principals rows → Member (row_names rows) 10 c.args.text.now (c.in-At-giver.n + 3) c.in-At-taker.p c.in-At-taker.e = λ rows H. subst (λ k. KnownMeant (row_names rows) 10 c.args.text.now (c.in-At-giver.n + 3) k) c.in-At-taker.is (c.known_at-taker.ensures rows H) in
+    let fp : (c.in-At-giver.n + 3 ≤ c.in-At-taker.e) × (c.in-At-taker.e < length c.args.text.now) = let f = (mp c.requires.0.principals_some.rows c.requires.0.principals_some.held).field in (f.low, f.high) in
+    let f = fp in omega (arith, f.0)
+
+pub slice_bounds-name_weight-end-2 : goal.slice_bounds-name_weight-end-2
+slice_bounds-name_weight-end-2 c =
+    let Principals : List Row → Type 0 = λ rows. let r = c.args.roll in Rows rows (part c.args.text.now r.principals_from r.principals_to) r.principals c.args.principals.now in
+    let mp : (rows : List Row) → Principals rows → Member (row_names rows) 10 c.args.text.now (c.in-At-giver.n + 3) c.in-At-taker.p c.in-At-taker.e = λ rows H. subst (λ k. KnownMeant (row_names rows) 10 c.args.text.now (c.in-At-giver.n + 3) k) c.in-At-taker.is (c.known_at-taker.ensures rows H) in
+    let fp : (c.in-At-giver.n + 3 ≤ c.in-At-taker.e) × (c.in-At-taker.e < length c.args.text.now) = let f = (mp c.requires.0.principals_some.rows c.requires.0.principals_some.held).field in (f.low, f.high) in
+    let f = fp in omega (arith, f.1)
 
 pub overflow_add-after-5 : goal.overflow_add-after-5
 overflow_add-after-5 c =

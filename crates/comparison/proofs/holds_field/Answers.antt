@@ -15,6 +15,16 @@ slice_bounds-same_bytes-count c =
     let within : Within c.args.first.now c.in-At.s = subst (λ (f : Found). Placed c.args.first.now f) c.in-At.is c.field_in-found.ensures.placed in
     let w = within in omega (arith, w.0, w.1)
 
+pub slice_bounds-same_bytes-start : goal.slice_bounds-same_bytes-start
+slice_bounds-same_bytes-start c =
+    let within : Within c.args.first.now c.in-At.s = subst (λ (f : Found). Placed c.args.first.now f) c.in-At.is c.field_in-found.ensures.placed in
+    let w = within in omega (arith, w.0, w.1)
+
+pub slice_bounds-same_bytes-end : goal.slice_bounds-same_bytes-end
+slice_bounds-same_bytes-end c =
+    let within : Within c.args.first.now c.in-At.s = subst (λ (f : Found). Placed c.args.first.now f) c.in-At.is c.field_in-found.ensures.placed in
+    let w = within in omega (arith, w.0, w.1)
+
 pub returns-in-At : goal.returns-in-At
 returns-in-At c fs h =
     let t = c.args.first.now in

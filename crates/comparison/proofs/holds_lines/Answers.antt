@@ -42,6 +42,22 @@ slice_bounds-holds_line-count c =
     let bounds : (c.loop-at.at < c.field_ends-ends.result.text + 1) × (c.field_ends-ends.result.text + 1 ≤ length c.args.second.now) = let e = ended c.requires.0.fields c.requires.2.fields c.requires.0.held c.requires.2.held in (omega (arith, e.label_end, e.text_end), e.within) in
     omega (arith, bounds)
 
+pub slice_bounds-holds_line-start : goal.slice_bounds-holds_line-start
+slice_bounds-holds_line-start c =
+    let chosen : (fs gs : List Field) → HoldsRecord fs c.args.first.now → HoldsRecord gs c.args.second.now → Next c.args.second.now fs gs c.loop-at.at = λ fs gs h k. next c.args.second.now fs gs c.loop-at.at (c.loop-at.invariant.1 fs gs h k) c.loop-at-test.true in
+    let ended : (fs gs : List Field) (h : HoldsRecord fs c.args.first.now) (k : HoldsRecord gs c.args.second.now) → let N = chosen fs gs h k in EndsOf c.args.second.now c.loop-at.at N.field (rest_of c.args.second.now fs gs c.loop-at.at N) c.field_ends-ends.result = λ fs gs h k. let N = chosen fs gs h k in
+    c.field_ends-ends.ensures N.field (rest_of c.args.second.now fs gs c.loop-at.at N) (next_at c.args.second.now fs gs c.loop-at.at N) in
+    let bounds : (c.loop-at.at < c.field_ends-ends.result.text + 1) × (c.field_ends-ends.result.text + 1 ≤ length c.args.second.now) = let e = ended c.requires.0.fields c.requires.2.fields c.requires.0.held c.requires.2.held in (omega (arith, e.label_end, e.text_end), e.within) in
+    omega (arith, bounds)
+
+pub slice_bounds-holds_line-end : goal.slice_bounds-holds_line-end
+slice_bounds-holds_line-end c =
+    let chosen : (fs gs : List Field) → HoldsRecord fs c.args.first.now → HoldsRecord gs c.args.second.now → Next c.args.second.now fs gs c.loop-at.at = λ fs gs h k. next c.args.second.now fs gs c.loop-at.at (c.loop-at.invariant.1 fs gs h k) c.loop-at-test.true in
+    let ended : (fs gs : List Field) (h : HoldsRecord fs c.args.first.now) (k : HoldsRecord gs c.args.second.now) → let N = chosen fs gs h k in EndsOf c.args.second.now c.loop-at.at N.field (rest_of c.args.second.now fs gs c.loop-at.at N) c.field_ends-ends.result = λ fs gs h k. let N = chosen fs gs h k in
+    c.field_ends-ends.ensures N.field (rest_of c.args.second.now fs gs c.loop-at.at N) (next_at c.args.second.now fs gs c.loop-at.at N) in
+    let bounds : (c.loop-at.at < c.field_ends-ends.result.text + 1) × (c.field_ends-ends.result.text + 1 ≤ length c.args.second.now) = let e = ended c.requires.0.fields c.requires.2.fields c.requires.0.held c.requires.2.held in (omega (arith, e.label_end, e.text_end), e.within) in
+    omega (arith, bounds)
+
 pub holds_line-requires : goal.holds_line-requires
 holds_line-requires c =
     let chosen : (fs gs : List Field) → HoldsRecord fs c.args.first.now → HoldsRecord gs c.args.second.now → Next c.args.second.now fs gs c.loop-at.at = λ fs gs h k. next c.args.second.now fs gs c.loop-at.at (c.loop-at.invariant.1 fs gs h k) c.loop-at-test.true in

@@ -19,6 +19,18 @@ slice_bounds-name_weight-count c =
     lies c.requires.0.rows a.principals.now a.count a.slots.now c.requires.0.held a.number c.requires.1 c.nth-place.result (c.nth-place.ensures c.requires.0.rows c.requires.0.held) in
     let l = lying in omega (arith, l.first, l.middle, l.last)
 
+pub slice_bounds-name_weight-start : goal.slice_bounds-name_weight-start
+slice_bounds-name_weight-start c =
+    let lying : Lies c.args.principals.now c.nth-place.result = let a = c.args in
+    lies c.requires.0.rows a.principals.now a.count a.slots.now c.requires.0.held a.number c.requires.1 c.nth-place.result (c.nth-place.ensures c.requires.0.rows c.requires.0.held) in
+    let l = lying in omega (arith, l.first, l.middle, l.last)
+
+pub slice_bounds-name_weight-end : goal.slice_bounds-name_weight-end
+slice_bounds-name_weight-end c =
+    let lying : Lies c.args.principals.now c.nth-place.result = let a = c.args in
+    lies c.requires.0.rows a.principals.now a.count a.slots.now c.requires.0.held a.number c.requires.1 c.nth-place.result (c.nth-place.ensures c.requires.0.rows c.requires.0.held) in
+    let l = lying in omega (arith, l.first, l.middle, l.last)
+
 pub returns : goal.returns
 returns c rows H =
     let a = c.args in

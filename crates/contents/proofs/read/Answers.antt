@@ -36,6 +36,22 @@ slice_bounds-result-count c =
     (sym c.in-At.is ∙ c.find-l.ensures p.rows p.held) in
     let r = local-row in omega (arith, r.order, r.within)
 
+pub slice_bounds-result-start : goal.slice_bounds-result-start
+slice_bounds-result-start c =
+    let local-row : let a = c.args in FoundRow a.locals.now a.name.now c.in-At.start c.in-At.end = let a = c.args in
+    let p = c.requires.1 in
+    found_row p.rows a.locals.now a.lcount a.lslots.now p.held a.name.now c.in-At.number c.in-At.start c.in-At.end
+    (sym c.in-At.is ∙ c.find-l.ensures p.rows p.held) in
+    let r = local-row in omega (arith, r.order, r.within)
+
+pub slice_bounds-result-end : goal.slice_bounds-result-end
+slice_bounds-result-end c =
+    let local-row : let a = c.args in FoundRow a.locals.now a.name.now c.in-At.start c.in-At.end = let a = c.args in
+    let p = c.requires.1 in
+    found_row p.rows a.locals.now a.lcount a.lslots.now p.held a.name.now c.in-At.number c.in-At.start c.in-At.end
+    (sym c.in-At.is ∙ c.find-l.ensures p.rows p.held) in
+    let r = local-row in omega (arith, r.order, r.within)
+
 pub overflow_add-from-in-At-s : goal.overflow_add-from-in-At-s
 overflow_add-from-in-At-s c =
     let shared-row : let a = c.args in FoundRow a.shared.now a.name.now c.in-At-s.start c.in-At-s.end = let a = c.args in
@@ -54,6 +70,22 @@ overflow_add-from-in-At-s-2 c =
 
 pub slice_bounds-result-count-in-At-s : goal.slice_bounds-result-count-in-At-s
 slice_bounds-result-count-in-At-s c =
+    let shared-row : let a = c.args in FoundRow a.shared.now a.name.now c.in-At-s.start c.in-At-s.end = let a = c.args in
+    let p = c.requires.0 in
+    found_row p.rows a.shared.now a.count a.slots.now p.held a.name.now c.in-At-s.number c.in-At-s.start c.in-At-s.end
+    (sym c.in-At-s.is ∙ c.find-s.ensures p.rows p.held) in
+    let r = shared-row in omega (arith, r.order, r.within)
+
+pub slice_bounds-result-start-in-At-s : goal.slice_bounds-result-start-in-At-s
+slice_bounds-result-start-in-At-s c =
+    let shared-row : let a = c.args in FoundRow a.shared.now a.name.now c.in-At-s.start c.in-At-s.end = let a = c.args in
+    let p = c.requires.0 in
+    found_row p.rows a.shared.now a.count a.slots.now p.held a.name.now c.in-At-s.number c.in-At-s.start c.in-At-s.end
+    (sym c.in-At-s.is ∙ c.find-s.ensures p.rows p.held) in
+    let r = shared-row in omega (arith, r.order, r.within)
+
+pub slice_bounds-result-end-in-At-s : goal.slice_bounds-result-end-in-At-s
+slice_bounds-result-end-in-At-s c =
     let shared-row : let a = c.args in FoundRow a.shared.now a.name.now c.in-At-s.start c.in-At-s.end = let a = c.args in
     let p = c.requires.0 in
     found_row p.rows a.shared.now a.count a.slots.now p.held a.name.now c.in-At-s.number c.in-At-s.start c.in-At-s.end

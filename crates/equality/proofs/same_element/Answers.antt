@@ -20,6 +20,16 @@ slice_bounds-same_text-count c =
     let within : Within c.args.first.now c.in-Text.s = (subst (ElementIn c.requires.0.element c.args.first.now) c.in-Text.is c.requires.0.stands).1 in
     let w = within in omega (arith, w.0, w.1)
 
+pub slice_bounds-same_text-start : goal.slice_bounds-same_text-start
+slice_bounds-same_text-start c =
+    let within : Within c.args.first.now c.in-Text.s = (subst (ElementIn c.requires.0.element c.args.first.now) c.in-Text.is c.requires.0.stands).1 in
+    let w = within in omega (arith, w.0, w.1)
+
+pub slice_bounds-same_text-end : goal.slice_bounds-same_text-end
+slice_bounds-same_text-end c =
+    let within : Within c.args.first.now c.in-Text.s = (subst (ElementIn c.requires.0.element c.args.first.now) c.in-Text.is c.requires.0.stands).1 in
+    let w = within in omega (arith, w.0, w.1)
+
 pub same_fields-requires : goal.same_fields-requires
 same_fields-requires c =
     let P = c.requires in

@@ -19,6 +19,16 @@ slice_bounds-same_bytes-count c =
     let within : Within c.args.second.now c.in-Text.s = (subst (ElementIn c.requires.element c.args.second.now) c.in-Text.is c.requires.stands).1 in
     let w = within in omega (arith, w.0, w.1)
 
+pub slice_bounds-same_bytes-start : goal.slice_bounds-same_bytes-start
+slice_bounds-same_bytes-start c =
+    let within : Within c.args.second.now c.in-Text.s = (subst (ElementIn c.requires.element c.args.second.now) c.in-Text.is c.requires.stands).1 in
+    let w = within in omega (arith, w.0, w.1)
+
+pub slice_bounds-same_bytes-end : goal.slice_bounds-same_bytes-end
+slice_bounds-same_bytes-end c =
+    let within : Within c.args.second.now c.in-Text.s = (subst (ElementIn c.requires.element c.args.second.now) c.in-Text.is c.requires.stands).1 in
+    let w = within in omega (arith, w.0, w.1)
+
 pub returns-in-Text : goal.returns-in-Text
 returns-in-Text c d k =
     let a = c.args in

@@ -38,6 +38,16 @@ slice_bounds-join_shared-count c =
     let its_own : Adds c.requires.t.1.value c.args.value.now c.elements_of-more.result.from c.elements_of-more.result.weight = c.elements_of-more.ensures c.requires.t.1.value c.requires.t.1.is_value in
     omega (arith, its_own.within)
 
+pub slice_bounds-join_shared-start : goal.slice_bounds-join_shared-start
+slice_bounds-join_shared-start c =
+    let its_own : Adds c.requires.t.1.value c.args.value.now c.elements_of-more.result.from c.elements_of-more.result.weight = c.elements_of-more.ensures c.requires.t.1.value c.requires.t.1.is_value in
+    omega (arith, its_own.within)
+
+pub slice_bounds-join_shared-end : goal.slice_bounds-join_shared-end
+slice_bounds-join_shared-end c =
+    let its_own : Adds c.requires.t.1.value c.args.value.now c.elements_of-more.result.from c.elements_of-more.result.weight = c.elements_of-more.ensures c.requires.t.1.value c.requires.t.1.is_value in
+    omega (arith, its_own.within)
+
 pub join_shared-requires : goal.join_shared-requires
 join_shared-requires c =
     let looked-up : let a = c.args in (s : Session) → Running s a.l (slices a.principals.now a.principal_slots.now a.vars.now a.variable_slots.now a.locals.now a.local_slots.now a.assertions.now) → c.find-found.result ≡ place (map variable_row s.locals) a.name.now = λ s R. let a = c.args in
@@ -69,6 +79,16 @@ returns-in_default c s v es R i W =
 
 pub slice_bounds-extend-count : goal.slice_bounds-extend-count
 slice_bounds-extend-count c =
+    let its_own : Adds c.requires.t.1.value c.args.value.now c.elements_of-more.result.from c.elements_of-more.result.weight = c.elements_of-more.ensures c.requires.t.1.value c.requires.t.1.is_value in
+    omega (arith, its_own.within)
+
+pub slice_bounds-extend-start : goal.slice_bounds-extend-start
+slice_bounds-extend-start c =
+    let its_own : Adds c.requires.t.1.value c.args.value.now c.elements_of-more.result.from c.elements_of-more.result.weight = c.elements_of-more.ensures c.requires.t.1.value c.requires.t.1.is_value in
+    omega (arith, its_own.within)
+
+pub slice_bounds-extend-end : goal.slice_bounds-extend-end
+slice_bounds-extend-end c =
     let its_own : Adds c.requires.t.1.value c.args.value.now c.elements_of-more.result.from c.elements_of-more.result.weight = c.elements_of-more.ensures c.requires.t.1.value c.requires.t.1.is_value in
     omega (arith, its_own.within)
 

@@ -25,6 +25,12 @@ use Rattle.foreach_element.proofs.turn.Goals as goal
 pub slice_bounds-add_variable-count : goal.slice_bounds-add_variable-count
 slice_bounds-add_variable-count c = omega (arith, c.requires.some_turning.y_within.0, c.requires.some_turning.y_within.1)
 
+pub slice_bounds-add_variable-start : goal.slice_bounds-add_variable-start
+slice_bounds-add_variable-start c = omega (arith, c.requires.some_turning.y_within.0, c.requires.some_turning.y_within.1)
+
+pub slice_bounds-add_variable-end : goal.slice_bounds-add_variable-end
+slice_bounds-add_variable-end c = omega (arith, c.requires.some_turning.y_within.0, c.requires.some_turning.y_within.1)
+
 pub add_variable-end-requires : goal.add_variable-end-requires
 add_variable-end-requires c =
     let y_of : Text = part c.args.text.now c.args.y in

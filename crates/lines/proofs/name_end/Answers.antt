@@ -29,6 +29,18 @@ slice_bounds-is_name-count c =
     subst (λ k. CutMeant (all word_byte) a.stop a.text.now a.at k) c.in-At.is c.run_cut-cut.ensures in
     let f = field in omega (arith, f.low)
 
+pub slice_bounds-is_name-start : goal.slice_bounds-is_name-start
+slice_bounds-is_name-start c =
+    let field : let a = c.args in Field (all word_byte) a.stop a.text.now a.at c.in-At.e = let a = c.args in
+    subst (λ k. CutMeant (all word_byte) a.stop a.text.now a.at k) c.in-At.is c.run_cut-cut.ensures in
+    let f = field in omega (arith, f.low)
+
+pub slice_bounds-is_name-end : goal.slice_bounds-is_name-end
+slice_bounds-is_name-end c =
+    let field : let a = c.args in Field (all word_byte) a.stop a.text.now a.at c.in-At.e = let a = c.args in
+    subst (λ k. CutMeant (all word_byte) a.stop a.text.now a.at k) c.in-At.is c.run_cut-cut.ensures in
+    let f = field in omega (arith, f.high)
+
 pub is_name-requires : goal.is_name-requires
 is_name-requires c =
     let field : let a = c.args in Field (all word_byte) a.stop a.text.now a.at c.in-At.e = let a = c.args in

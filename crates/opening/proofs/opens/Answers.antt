@@ -24,6 +24,18 @@ slice_bounds-same_bytes-count c =
     let within : PasswordIn c.args.principals.now (Kept c.in-Kept.start c.in-Kept.end) = let P = c.requires.0 in (kept_at P.principals P.held).within in
     let w = within in omega (arith, w.0, w.1)
 
+pub slice_bounds-same_bytes-start : goal.slice_bounds-same_bytes-start
+slice_bounds-same_bytes-start c =
+    let kept_at : (ks : List Principal) → let a = c.args in Principals ks a.principals.now a.count a.slots.now → PasswordAt ks a.principals.now a.number (Kept c.in-Kept.start c.in-Kept.end) = λ ks K. let a = c.args in subst (PasswordAt ks a.principals.now a.number) c.in-Kept.is (c.password_of-kept.ensures ks K) in
+    let within : PasswordIn c.args.principals.now (Kept c.in-Kept.start c.in-Kept.end) = let P = c.requires.0 in (kept_at P.principals P.held).within in
+    let w = within in omega (arith, w.0, w.1)
+
+pub slice_bounds-same_bytes-end : goal.slice_bounds-same_bytes-end
+slice_bounds-same_bytes-end c =
+    let kept_at : (ks : List Principal) → let a = c.args in Principals ks a.principals.now a.count a.slots.now → PasswordAt ks a.principals.now a.number (Kept c.in-Kept.start c.in-Kept.end) = λ ks K. let a = c.args in subst (PasswordAt ks a.principals.now a.number) c.in-Kept.is (c.password_of-kept.ensures ks K) in
+    let within : PasswordIn c.args.principals.now (Kept c.in-Kept.start c.in-Kept.end) = let P = c.requires.0 in (kept_at P.principals P.held).within in
+    let w = within in omega (arith, w.0, w.1)
+
 pub returns-in-Kept : goal.returns-in-Kept
 returns-in-Kept c ks K =
     let kept_at : (ks : List Principal) → let a = c.args in Principals ks a.principals.now a.count a.slots.now → PasswordAt ks a.principals.now a.number (Kept c.in-Kept.start c.in-Kept.end) = λ ks K. let a = c.args in subst (PasswordAt ks a.principals.now a.number) c.in-Kept.is (c.password_of-kept.ensures ks K) in

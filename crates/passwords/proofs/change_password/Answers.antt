@@ -77,6 +77,12 @@ returns-then-weight-gt8192 c s R =
 pub slice_bounds-set_password-count : goal.slice_bounds-set_password-count
 slice_bounds-set_password-count c = c.requires.within.1.0
 
+pub slice_bounds-set_password-start : goal.slice_bounds-set_password-start
+slice_bounds-set_password-start c = c.requires.within.1.0
+
+pub slice_bounds-set_password-end : goal.slice_bounds-set_password-end
+slice_bounds-set_password-end c = c.requires.within.1.1
+
 pub set_password-new-requires : goal.set_password-new-requires
 set_password-new-requires c =
     let number_is : (s : Session) → let a = c.args in Running s a.l (slices a.principals.now a.principal_slots.now a.vars.now a.variable_slots.now a.locals.now a.local_slots.now a.assertions.now) → c.number_of-n.result ≡ position (principals_of s.store) (part a.text.now a.p) = λ s R. row_number s c.args.l _ R _ c.number_of-n.result c.number_of-n.ensures in

@@ -17,8 +17,28 @@ slice_bounds-allowed-count c =
     let within-name : Within c.args.text.now c.in-Name.x = subst (OperandWithin c.args.text.now) c.in-Name.is c.requires.1 in
     let w = within-name in omega (arith, w.0, w.1)
 
+pub slice_bounds-allowed-start : goal.slice_bounds-allowed-start
+slice_bounds-allowed-start c =
+    let within-name : Within c.args.text.now c.in-Name.x = subst (OperandWithin c.args.text.now) c.in-Name.is c.requires.1 in
+    let w = within-name in omega (arith, w.0, w.1)
+
+pub slice_bounds-allowed-end : goal.slice_bounds-allowed-end
+slice_bounds-allowed-end c =
+    let within-name : Within c.args.text.now c.in-Name.x = subst (OperandWithin c.args.text.now) c.in-Name.is c.requires.1 in
+    let w = within-name in omega (arith, w.0, w.1)
+
 pub slice_bounds-allowed-count-in-Field : goal.slice_bounds-allowed-count-in-Field
 slice_bounds-allowed-count-in-Field c =
+    let within-dot : Within c.args.text.now c.in-Field.x = (subst (OperandWithin c.args.text.now) c.in-Field.is c.requires.1).0 in
+    let w = within-dot in omega (arith, w.0, w.1)
+
+pub slice_bounds-allowed-start-in-Field : goal.slice_bounds-allowed-start-in-Field
+slice_bounds-allowed-start-in-Field c =
+    let within-dot : Within c.args.text.now c.in-Field.x = (subst (OperandWithin c.args.text.now) c.in-Field.is c.requires.1).0 in
+    let w = within-dot in omega (arith, w.0, w.1)
+
+pub slice_bounds-allowed-end-in-Field : goal.slice_bounds-allowed-end-in-Field
+slice_bounds-allowed-end-in-Field c =
     let within-dot : Within c.args.text.now c.in-Field.x = (subst (OperandWithin c.args.text.now) c.in-Field.is c.requires.1).0 in
     let w = within-dot in omega (arith, w.0, w.1)
 

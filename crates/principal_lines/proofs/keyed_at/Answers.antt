@@ -48,6 +48,16 @@ slice_bounds-name_weight-count c =
     let field : Field is_name 9 c.args.text.now (c.args.at + 2) c.in-At.m = subst (λ k. CutMeant is_name 9 c.args.text.now (c.args.at + 2) k) c.in-At.is c.name_end-name.ensures in
     let f = field in omega (arith, f.low)
 
+pub slice_bounds-name_weight-start : goal.slice_bounds-name_weight-start
+slice_bounds-name_weight-start c =
+    let field : Field is_name 9 c.args.text.now (c.args.at + 2) c.in-At.m = subst (λ k. CutMeant is_name 9 c.args.text.now (c.args.at + 2) k) c.in-At.is c.name_end-name.ensures in
+    let f = field in omega (arith, f.low)
+
+pub slice_bounds-name_weight-end : goal.slice_bounds-name_weight-end
+slice_bounds-name_weight-end c =
+    let field : Field is_name 9 c.args.text.now (c.args.at + 2) c.in-At.m = subst (λ k. CutMeant is_name 9 c.args.text.now (c.args.at + 2) k) c.in-At.is c.name_end-name.ensures in
+    let f = field in omega (arith, f.high)
+
 pub overflow_add-before-2 : goal.overflow_add-before-2
 overflow_add-before-2 c =
     let form : Form = form_meant c.args.form in

@@ -54,6 +54,20 @@ slice_bounds-name_weight-count c =
     let field : Field is_name (stop_of form) c.args.text.now (c.args.at + 2) c.in-At.m = subst (λ k. CutMeant is_name (stop_of form) c.args.text.now (c.args.at + 2) k) c.in-At.is cut-meant in
     let f = field in omega (arith, f.low)
 
+pub slice_bounds-name_weight-start : goal.slice_bounds-name_weight-start
+slice_bounds-name_weight-start c =
+    let form : Form = form_meant c.args.form in
+    let cut-meant : CutMeant is_name (stop_of form) c.args.text.now (c.args.at + 2) c.name_end-name.result = subst (λ (b : ℕ). CutMeant is_name b c.args.text.now (c.args.at + 2) c.name_end-name.result) c.stop.ensures c.name_end-name.ensures in
+    let field : Field is_name (stop_of form) c.args.text.now (c.args.at + 2) c.in-At.m = subst (λ k. CutMeant is_name (stop_of form) c.args.text.now (c.args.at + 2) k) c.in-At.is cut-meant in
+    let f = field in omega (arith, f.low)
+
+pub slice_bounds-name_weight-end : goal.slice_bounds-name_weight-end
+slice_bounds-name_weight-end c =
+    let form : Form = form_meant c.args.form in
+    let cut-meant : CutMeant is_name (stop_of form) c.args.text.now (c.args.at + 2) c.name_end-name.result = subst (λ (b : ℕ). CutMeant is_name b c.args.text.now (c.args.at + 2) c.name_end-name.result) c.stop.ensures c.name_end-name.ensures in
+    let field : Field is_name (stop_of form) c.args.text.now (c.args.at + 2) c.in-At.m = subst (λ k. CutMeant is_name (stop_of form) c.args.text.now (c.args.at + 2) k) c.in-At.is cut-meant in
+    let f = field in omega (arith, f.high)
+
 pub overflow_add-after-2 : goal.overflow_add-after-2
 overflow_add-after-2 c =
     let form : Form = form_meant c.args.form in

@@ -53,6 +53,16 @@ slice_bounds-in_place-count c =
     let entitled : let f = form_meant c.args.form in Entitled (λ (k : Principal). k.name) (principal_in f) (valid_principal_in f) (principal_weight_in f) any_text c.args.text.now c.loop-form.i c.loop-form.now c.in-Good.m c.in-Good.e c.in-Good.after = subst (λ k. PrincipalMeant (form_meant c.args.form) c.args.text.now c.loop-form.i c.loop-form.now k) c.in-Good.is c.principal_at-line.ensures in
     let E = entitled in omega (arith, E.mid_low)
 
+pub slice_bounds-in_place-start : goal.slice_bounds-in_place-start
+slice_bounds-in_place-start c =
+    let entitled : let f = form_meant c.args.form in Entitled (λ (k : Principal). k.name) (principal_in f) (valid_principal_in f) (principal_weight_in f) any_text c.args.text.now c.loop-form.i c.loop-form.now c.in-Good.m c.in-Good.e c.in-Good.after = subst (λ k. PrincipalMeant (form_meant c.args.form) c.args.text.now c.loop-form.i c.loop-form.now k) c.in-Good.is c.principal_at-line.ensures in
+    let E = entitled in omega (arith, E.mid_low)
+
+pub slice_bounds-in_place-end : goal.slice_bounds-in_place-end
+slice_bounds-in_place-end c =
+    let entitled : let f = form_meant c.args.form in Entitled (λ (k : Principal). k.name) (principal_in f) (valid_principal_in f) (principal_weight_in f) any_text c.args.text.now c.loop-form.i c.loop-form.now c.in-Good.m c.in-Good.e c.in-Good.after = subst (λ k. PrincipalMeant (form_meant c.args.form) c.args.text.now c.loop-form.i c.loop-form.now k) c.in-Good.is c.principal_at-line.ensures in
+    let E = entitled in omega (arith, E.mid_high)
+
 pub bounds-text-i : goal.bounds-text-i
 bounds-text-i c =
     let entitled : let f = form_meant c.args.form in Entitled (λ (k : Principal). k.name) (principal_in f) (valid_principal_in f) (principal_weight_in f) any_text c.args.text.now c.loop-form.i c.loop-form.now c.in-Good.m c.in-Good.e c.in-Good.after = subst (λ k. PrincipalMeant (form_meant c.args.form) c.args.text.now c.loop-form.i c.loop-form.now k) c.in-Good.is c.principal_at-line.ensures in

@@ -23,6 +23,16 @@ slice_bounds-find-count-2 c =
     let field : let a = c.args in Field (all word_byte) a.stop a.text.now a.at c.in-At.e = let a = c.args in subst (λ k. CutMeant (all word_byte) a.stop a.text.now a.at k) c.in-At.is c.run_cut-cut.ensures in
     let f = field in omega (arith, f.low)
 
+pub slice_bounds-find-start-2 : goal.slice_bounds-find-start-2
+slice_bounds-find-start-2 c =
+    let field : let a = c.args in Field (all word_byte) a.stop a.text.now a.at c.in-At.e = let a = c.args in subst (λ k. CutMeant (all word_byte) a.stop a.text.now a.at k) c.in-At.is c.run_cut-cut.ensures in
+    let f = field in omega (arith, f.low)
+
+pub slice_bounds-find-end-2 : goal.slice_bounds-find-end-2
+slice_bounds-find-end-2 c =
+    let field : let a = c.args in Field (all word_byte) a.stop a.text.now a.at c.in-At.e = let a = c.args in subst (λ k. CutMeant (all word_byte) a.stop a.text.now a.at k) c.in-At.is c.run_cut-cut.ensures in
+    let f = field in omega (arith, f.high)
+
 pub returns-in_default-found : goal.returns-in_default-found
 returns-in_default-found c =
     let field : let a = c.args in Field (all word_byte) a.stop a.text.now a.at c.in-At.e = let a = c.args in subst (λ k. CutMeant (all word_byte) a.stop a.text.now a.at k) c.in-At.is c.run_cut-cut.ensures in

@@ -45,6 +45,12 @@ slice_bounds-copy_in-count c =
     let P = c.requires in
     end_inside P.store P.name a.l a.principals.now a.principal_slots.now P.sent _ c.count_of-old.ensures
 
+pub slice_bounds-copy_in-start : goal.slice_bounds-copy_in-start
+slice_bounds-copy_in-start c =
+    let a = c.args in
+    let P = c.requires in
+    end_inside P.store P.name a.l a.principals.now a.principal_slots.now P.sent _ c.count_of-old.ensures
+
 pub copy_in-requires : goal.copy_in-requires
 copy_in-requires c =
     let a = c.args in

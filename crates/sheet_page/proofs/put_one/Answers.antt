@@ -25,6 +25,20 @@ slice_bounds-put_line-count c =
     lies S.rows a.text.now a.count a.slots.now S.held a.i c.requires.1 c.nth-place.result (c.nth-place.ensures S.rows S.held) in
     let l = safe in omega (arith, l.first)
 
+pub slice_bounds-put_line-start : goal.slice_bounds-put_line-start
+slice_bounds-put_line-start c =
+    let safe : Lies c.args.text.now c.nth-place.result = let a = c.args in
+    let S = c.requires.0 in
+    lies S.rows a.text.now a.count a.slots.now S.held a.i c.requires.1 c.nth-place.result (c.nth-place.ensures S.rows S.held) in
+    let l = safe in omega (arith, l.first, l.middle, l.last)
+
+pub slice_bounds-put_line-end : goal.slice_bounds-put_line-end
+slice_bounds-put_line-end c =
+    let safe : Lies c.args.text.now c.nth-place.result = let a = c.args in
+    let S = c.requires.0 in
+    lies S.rows a.text.now a.count a.slots.now S.held a.i c.requires.1 c.nth-place.result (c.nth-place.ensures S.rows S.held) in
+    let l = safe in omega (arith, l.first, l.middle, l.last)
+
 pub returns : goal.returns
 returns c rows H =
     let a = c.args in

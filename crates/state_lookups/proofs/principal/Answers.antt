@@ -46,6 +46,18 @@ slice_bounds-write-count c =
     subst (λ k. PasswordAt ks a.text.now c.in-At.number k) c.in-Kept.is (c.password_of-password.ensures ks K) in
     (kept c.requires.0.principals c.requires.0.held).within.0
 
+pub slice_bounds-write-start : goal.slice_bounds-write-start
+slice_bounds-write-start c =
+    let kept : (ks : List Principal) → let a = c.args in Principals ks a.text.now a.count a.slots.now → PasswordAt ks a.text.now c.in-At.number (Kept c.in-Kept.start c.in-Kept.end) = λ ks K. let a = c.args in
+    subst (λ k. PasswordAt ks a.text.now c.in-At.number k) c.in-Kept.is (c.password_of-password.ensures ks K) in
+    let w = (kept c.requires.0.principals c.requires.0.held).within in omega (arith, w.0, w.1)
+
+pub slice_bounds-write-end : goal.slice_bounds-write-end
+slice_bounds-write-end c =
+    let kept : (ks : List Principal) → let a = c.args in Principals ks a.text.now a.count a.slots.now → PasswordAt ks a.text.now c.in-At.number (Kept c.in-Kept.start c.in-Kept.end) = λ ks K. let a = c.args in
+    subst (λ k. PasswordAt ks a.text.now c.in-At.number k) c.in-Kept.is (c.password_of-password.ensures ks K) in
+    let w = (kept c.requires.0.principals c.requires.0.held).within in omega (arith, w.0, w.1)
+
 pub write-requires : goal.write-requires
 write-requires c =
     let here : (ks : List Principal) → let a = c.args in Principals ks a.text.now a.count a.slots.now → At c.in-At.number c.in-At.start c.in-At.end ≡ place (map principal_row ks) a.name.now = λ ks K. let a = c.args in

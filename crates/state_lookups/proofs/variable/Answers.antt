@@ -42,6 +42,12 @@ value_of-span-requires c =
 pub slice_bounds-write-count : goal.slice_bounds-write-count
 slice_bounds-write-count c = (c.value_of-span.ensures c.requires.0.rows c.requires.0.held).order
 
+pub slice_bounds-write-start : goal.slice_bounds-write-start
+slice_bounds-write-start c = let w = c.value_of-span.ensures c.requires.0.rows c.requires.0.held in omega (arith, w.order, w.within)
+
+pub slice_bounds-write-end : goal.slice_bounds-write-end
+slice_bounds-write-end c = let w = c.value_of-span.ensures c.requires.0.rows c.requires.0.held in omega (arith, w.order, w.within)
+
 pub write-requires : goal.write-requires
 write-requires c =
     let here : (vs : List Variable) → let a = c.args in Variables vs a.text.now a.count a.slots.now → At c.in-At.number c.in-At.start c.in-At.end ≡ place (map variable_row vs) a.name.now = λ vs W. let a = c.args in

@@ -23,6 +23,16 @@ slice_bounds-principal-count c =
     let understood : Understood c.args.state.now c.check-checked.new.principals c.check-checked.new.vars c.check-checked.new.assertions c.in-Good.parts = subst (λ k. CheckedMeant c.args.state.now c.check-checked.new.principals c.check-checked.new.vars c.check-checked.new.assertions k) c.in-Good.is c.check-checked.ensures in
     let R = understood.represents in omega (arith, R.principals_order, R.principals_within)
 
+pub slice_bounds-principal-start : goal.slice_bounds-principal-start
+slice_bounds-principal-start c =
+    let understood : Understood c.args.state.now c.check-checked.new.principals c.check-checked.new.vars c.check-checked.new.assertions c.in-Good.parts = subst (λ k. CheckedMeant c.args.state.now c.check-checked.new.principals c.check-checked.new.vars c.check-checked.new.assertions k) c.in-Good.is c.check-checked.ensures in
+    let R = understood.represents in omega (arith, R.principals_order, R.principals_within)
+
+pub slice_bounds-principal-end : goal.slice_bounds-principal-end
+slice_bounds-principal-end c =
+    let understood : Understood c.args.state.now c.check-checked.new.principals c.check-checked.new.vars c.check-checked.new.assertions c.in-Good.parts = subst (λ k. CheckedMeant c.args.state.now c.check-checked.new.principals c.check-checked.new.vars c.check-checked.new.assertions k) c.in-Good.is c.check-checked.ensures in
+    let R = understood.represents in omega (arith, R.principals_order, R.principals_within)
+
 pub principal-requires : goal.principal-requires
 principal-requires c =
     let understood : Understood c.args.state.now c.check-checked.new.principals c.check-checked.new.vars c.check-checked.new.assertions c.in-Good.parts = subst (λ k. CheckedMeant c.args.state.now c.check-checked.new.principals c.check-checked.new.vars c.check-checked.new.assertions k) c.in-Good.is c.check-checked.ensures in

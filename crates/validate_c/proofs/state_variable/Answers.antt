@@ -23,6 +23,16 @@ slice_bounds-variable-count c =
     let understood : Understood c.args.state.now c.check-checked.new.principals c.check-checked.new.vars c.check-checked.new.assertions c.in-Good.parts = subst (λ k. CheckedMeant c.args.state.now c.check-checked.new.principals c.check-checked.new.vars c.check-checked.new.assertions k) c.in-Good.is c.check-checked.ensures in
     let R = understood.represents in omega (arith, R.vars_order, R.vars_within)
 
+pub slice_bounds-variable-start : goal.slice_bounds-variable-start
+slice_bounds-variable-start c =
+    let understood : Understood c.args.state.now c.check-checked.new.principals c.check-checked.new.vars c.check-checked.new.assertions c.in-Good.parts = subst (λ k. CheckedMeant c.args.state.now c.check-checked.new.principals c.check-checked.new.vars c.check-checked.new.assertions k) c.in-Good.is c.check-checked.ensures in
+    let R = understood.represents in omega (arith, R.vars_order, R.vars_within)
+
+pub slice_bounds-variable-end : goal.slice_bounds-variable-end
+slice_bounds-variable-end c =
+    let understood : Understood c.args.state.now c.check-checked.new.principals c.check-checked.new.vars c.check-checked.new.assertions c.in-Good.parts = subst (λ k. CheckedMeant c.args.state.now c.check-checked.new.principals c.check-checked.new.vars c.check-checked.new.assertions k) c.in-Good.is c.check-checked.ensures in
+    let R = understood.represents in omega (arith, R.vars_order, R.vars_within)
+
 pub variable-requires : goal.variable-requires
 variable-requires c =
     let understood : Understood c.args.state.now c.check-checked.new.principals c.check-checked.new.vars c.check-checked.new.assertions c.in-Good.parts = subst (λ k. CheckedMeant c.args.state.now c.check-checked.new.principals c.check-checked.new.vars c.check-checked.new.assertions k) c.in-Good.is c.check-checked.ensures in

@@ -28,6 +28,16 @@ slice_bounds-nth_name-count c =
     let understood : Understood c.args.state.now c.check-checked.new.principals c.check-checked.new.vars c.check-checked.new.assertions c.in-Good.parts = subst (λ k. CheckedMeant c.args.state.now c.check-checked.new.principals c.check-checked.new.vars c.check-checked.new.assertions k) c.in-Good.is c.check-checked.ensures in
     let R = understood.represents in omega (arith, R.vars_order, R.vars_within)
 
+pub slice_bounds-nth_name-start : goal.slice_bounds-nth_name-start
+slice_bounds-nth_name-start c =
+    let understood : Understood c.args.state.now c.check-checked.new.principals c.check-checked.new.vars c.check-checked.new.assertions c.in-Good.parts = subst (λ k. CheckedMeant c.args.state.now c.check-checked.new.principals c.check-checked.new.vars c.check-checked.new.assertions k) c.in-Good.is c.check-checked.ensures in
+    let R = understood.represents in omega (arith, R.vars_order, R.vars_within)
+
+pub slice_bounds-nth_name-end : goal.slice_bounds-nth_name-end
+slice_bounds-nth_name-end c =
+    let understood : Understood c.args.state.now c.check-checked.new.principals c.check-checked.new.vars c.check-checked.new.assertions c.in-Good.parts = subst (λ k. CheckedMeant c.args.state.now c.check-checked.new.principals c.check-checked.new.vars c.check-checked.new.assertions k) c.in-Good.is c.check-checked.ensures in
+    let R = understood.represents in omega (arith, R.vars_order, R.vars_within)
+
 pub nth_name-requires : goal.nth_name-requires
 nth_name-requires c =
     let understood : Understood c.args.state.now c.check-checked.new.principals c.check-checked.new.vars c.check-checked.new.assertions c.in-Good.parts = subst (λ k. CheckedMeant c.args.state.now c.check-checked.new.principals c.check-checked.new.vars c.check-checked.new.assertions k) c.in-Good.is c.check-checked.ensures in

@@ -19,6 +19,16 @@ slice_bounds-weigh-count c =
     let placed : let a = c.args in ValueAt c.requires.0.variables a.text.now a.number c.value_of-at.result.start c.value_of-at.result.end = c.value_of-at.ensures c.requires.0.variables c.requires.0.held in
     omega (arith, placed.order)
 
+pub slice_bounds-weigh-start : goal.slice_bounds-weigh-start
+slice_bounds-weigh-start c =
+    let placed : let a = c.args in ValueAt c.requires.0.variables a.text.now a.number c.value_of-at.result.start c.value_of-at.result.end = c.value_of-at.ensures c.requires.0.variables c.requires.0.held in
+    omega (arith, placed.order, placed.within)
+
+pub slice_bounds-weigh-end : goal.slice_bounds-weigh-end
+slice_bounds-weigh-end c =
+    let placed : let a = c.args in ValueAt c.requires.0.variables a.text.now a.number c.value_of-at.result.start c.value_of-at.result.end = c.value_of-at.ensures c.requires.0.variables c.requires.0.held in
+    omega (arith, placed.order, placed.within)
+
 pub weigh-requires : goal.weigh-requires
 weigh-requires c =
     let placed : let a = c.args in ValueAt c.requires.0.variables a.text.now a.number c.value_of-at.result.start c.value_of-at.result.end = c.value_of-at.ensures c.requires.0.variables c.requires.0.held in

@@ -11,6 +11,12 @@ use Rattle.status.specs.Acts.{Acts, Hands}
 use Rattle.engine.proofs.Spoken.{json_room, from_start}
 use Rattle.engine.proofs.command.tell.Goals as goal
 
+pub slice_bounds-returning-end : goal.slice_bounds-returning-end
+slice_bounds-returning-end c =
+    let here : let S = c.requires.0 in Hands S.step S.session c.args.l S.buffers c.args.value.now c.in-Value.n = let S = c.requires.0 in
+    known (λ (a : Acted). Acts a S.step S.session c.args.l S.buffers c.args.value.now) S.acts c.in-Value.is in
+    here.returned.within
+
 pub returning-end-requires : goal.returning-end-requires
 returning-end-requires c =
     let here : let S = c.requires.0 in Hands S.step S.session c.args.l S.buffers c.args.value.now c.in-Value.n = let S = c.requires.0 in

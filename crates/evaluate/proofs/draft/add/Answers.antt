@@ -13,6 +13,11 @@ use Rattle.evaluate.proofs.Drafting.{few, label_added, line_added, is_there, is_
 use borrow.Author.Rules.{rules}
 use Rattle.evaluate.proofs.draft.add.Goals as goal
 
+pub slice_bounds-is_new-end-2 : goal.slice_bounds-is_new-end-2
+slice_bounds-is_new-end-2 c =
+    let low : 4 * c.args.d.count ≤ 16384 - 4 = omega (arith, c.requires.lent.1.room, few c.requires.lent.1.fields_written c.args.out.now c.args.slots.now c.args.d c.requires.lent.1.drafted) in
+    omega (arith, low, c.requires.lent.0.slots_size)
+
 pub is_new-requires : goal.is_new-requires
 is_new-requires c = record { rows = c.requires.lent.1.drafted.rows; held = slots_part c.requires.lent.1.drafted.rows _ c.args.d.count c.args.slots.now c.requires.lent.1.drafted.held }
 

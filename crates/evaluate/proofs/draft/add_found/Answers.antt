@@ -16,6 +16,16 @@ slice_bounds-add-count c =
     let within : Within c.args.value.now c.in-At.s = subst (λ (f : Found). Placed c.args.value.now f) c.in-At.is c.requires.placed.0 in
     let w = within in omega (arith, w.0, w.1)
 
+pub slice_bounds-add-start : goal.slice_bounds-add-start
+slice_bounds-add-start c =
+    let within : Within c.args.value.now c.in-At.s = subst (λ (f : Found). Placed c.args.value.now f) c.in-At.is c.requires.placed.0 in
+    let w = within in omega (arith, w.0, w.1)
+
+pub slice_bounds-add-end : goal.slice_bounds-add-end
+slice_bounds-add-end c =
+    let within : Within c.args.value.now c.in-At.s = subst (λ (f : Found). Placed c.args.value.now f) c.in-At.is c.requires.placed.0 in
+    let w = within in omega (arith, w.0, w.1)
+
 pub add-requires : goal.add-requires
 add-requires c =
     record {

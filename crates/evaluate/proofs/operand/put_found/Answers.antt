@@ -15,6 +15,16 @@ slice_bounds-put_text-count c =
     let within : Within c.args.value.now c.in-At.s = subst (λ (f : Found). Placed c.args.value.now f) c.in-At.is c.requires.0 in
     let w = within in omega (arith, w.0, w.1)
 
+pub slice_bounds-put_text-start : goal.slice_bounds-put_text-start
+slice_bounds-put_text-start c =
+    let within : Within c.args.value.now c.in-At.s = subst (λ (f : Found). Placed c.args.value.now f) c.in-At.is c.requires.0 in
+    let w = within in omega (arith, w.0, w.1)
+
+pub slice_bounds-put_text-end : goal.slice_bounds-put_text-end
+slice_bounds-put_text-end c =
+    let within : Within c.args.value.now c.in-At.s = subst (λ (f : Found). Placed c.args.value.now f) c.in-At.is c.requires.0 in
+    let w = within in omega (arith, w.0, w.1)
+
 pub put_text-requires : goal.put_text-requires
 put_text-requires c = (subst (λ (f : Found). MaybeString (text_at c.args.value.now f)) c.in-At.is c.requires.1, c.requires.2)
 

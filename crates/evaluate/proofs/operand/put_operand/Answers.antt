@@ -23,6 +23,16 @@ slice_bounds-read-count c =
     let within-name : Within c.args.text.now c.in-Name.x = subst (OperandWithin c.args.text.now) c.in-Name.is c.requires.operand_within.0 in
     let w = within-name in omega (arith, w.0, w.1)
 
+pub slice_bounds-read-start : goal.slice_bounds-read-start
+slice_bounds-read-start c =
+    let within-name : Within c.args.text.now c.in-Name.x = subst (OperandWithin c.args.text.now) c.in-Name.is c.requires.operand_within.0 in
+    let w = within-name in omega (arith, w.0, w.1)
+
+pub slice_bounds-read-end : goal.slice_bounds-read-end
+slice_bounds-read-end c =
+    let within-name : Within c.args.text.now c.in-Name.x = subst (OperandWithin c.args.text.now) c.in-Name.is c.requires.operand_within.0 in
+    let w = within-name in omega (arith, w.0, w.1)
+
 pub read-value-requires : goal.read-value-requires
 read-value-requires c = (some_variables _ _ _ _ c.requires.some_scope.scope.shared_held, some_variables _ _ _ _ c.requires.some_scope.scope.locals_held)
 
@@ -36,11 +46,31 @@ slice_bounds-read-count-in-Field c =
     let within-dot : Within c.args.text.now c.in-Field.x × Within c.args.text.now c.in-Field.y = subst (OperandWithin c.args.text.now) c.in-Field.is c.requires.operand_within.0 in
     let w = within-dot.0 in omega (arith, w.0, w.1)
 
+pub slice_bounds-read-start-in-Field : goal.slice_bounds-read-start-in-Field
+slice_bounds-read-start-in-Field c =
+    let within-dot : Within c.args.text.now c.in-Field.x × Within c.args.text.now c.in-Field.y = subst (OperandWithin c.args.text.now) c.in-Field.is c.requires.operand_within.0 in
+    let w = within-dot.0 in omega (arith, w.0, w.1)
+
+pub slice_bounds-read-end-in-Field : goal.slice_bounds-read-end-in-Field
+slice_bounds-read-end-in-Field c =
+    let within-dot : Within c.args.text.now c.in-Field.x × Within c.args.text.now c.in-Field.y = subst (OperandWithin c.args.text.now) c.in-Field.is c.requires.operand_within.0 in
+    let w = within-dot.0 in omega (arith, w.0, w.1)
+
 pub read-value-requires-in-Field : goal.read-value-requires-in-Field
 read-value-requires-in-Field c = (some_variables _ _ _ _ c.requires.some_scope.scope.shared_held, some_variables _ _ _ _ c.requires.some_scope.scope.locals_held)
 
 pub slice_bounds-field_of-count : goal.slice_bounds-field_of-count
 slice_bounds-field_of-count c =
+    let within-dot : Within c.args.text.now c.in-Field.x × Within c.args.text.now c.in-Field.y = subst (OperandWithin c.args.text.now) c.in-Field.is c.requires.operand_within.0 in
+    let w = within-dot.1 in omega (arith, w.0, w.1)
+
+pub slice_bounds-field_of-start : goal.slice_bounds-field_of-start
+slice_bounds-field_of-start c =
+    let within-dot : Within c.args.text.now c.in-Field.x × Within c.args.text.now c.in-Field.y = subst (OperandWithin c.args.text.now) c.in-Field.is c.requires.operand_within.0 in
+    let w = within-dot.1 in omega (arith, w.0, w.1)
+
+pub slice_bounds-field_of-end : goal.slice_bounds-field_of-end
+slice_bounds-field_of-end c =
     let within-dot : Within c.args.text.now c.in-Field.x × Within c.args.text.now c.in-Field.y = subst (OperandWithin c.args.text.now) c.in-Field.is c.requires.operand_within.0 in
     let w = within-dot.1 in omega (arith, w.0, w.1)
 
@@ -59,6 +89,16 @@ put_found-requires c =
 
 pub slice_bounds-put_text-count : goal.slice_bounds-put_text-count
 slice_bounds-put_text-count c =
+    let within-quoted : Within c.args.text.now c.in-Quoted.q = subst (OperandWithin c.args.text.now) c.in-Quoted.is c.requires.operand_within.0 in
+    let w = within-quoted in omega (arith, w.0, w.1)
+
+pub slice_bounds-put_text-start : goal.slice_bounds-put_text-start
+slice_bounds-put_text-start c =
+    let within-quoted : Within c.args.text.now c.in-Quoted.q = subst (OperandWithin c.args.text.now) c.in-Quoted.is c.requires.operand_within.0 in
+    let w = within-quoted in omega (arith, w.0, w.1)
+
+pub slice_bounds-put_text-end : goal.slice_bounds-put_text-end
+slice_bounds-put_text-end c =
     let within-quoted : Within c.args.text.now c.in-Quoted.q = subst (OperandWithin c.args.text.now) c.in-Quoted.is c.requires.operand_within.0 in
     let w = within-quoted in omega (arith, w.0, w.1)
 

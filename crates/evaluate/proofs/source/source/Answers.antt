@@ -21,11 +21,31 @@ slice_bounds-read-count c =
     let within-name : Within c.args.text.now c.in-Name.x = subst (OperandWithin c.args.text.now) c.in-Name.is c.requires.1 in
     let w = within-name in omega (arith, w.0, w.1)
 
+pub slice_bounds-read-start : goal.slice_bounds-read-start
+slice_bounds-read-start c =
+    let within-name : Within c.args.text.now c.in-Name.x = subst (OperandWithin c.args.text.now) c.in-Name.is c.requires.1 in
+    let w = within-name in omega (arith, w.0, w.1)
+
+pub slice_bounds-read-end : goal.slice_bounds-read-end
+slice_bounds-read-end c =
+    let within-name : Within c.args.text.now c.in-Name.x = subst (OperandWithin c.args.text.now) c.in-Name.is c.requires.1 in
+    let w = within-name in omega (arith, w.0, w.1)
+
 pub read-requires : goal.read-requires
 read-requires c = let P = c.requires.0 in (some_variables _ _ _ _ P.scope.shared_held, some_variables _ _ _ _ P.scope.locals_held)
 
 pub slice_bounds-read-count-in-Field : goal.slice_bounds-read-count-in-Field
 slice_bounds-read-count-in-Field c =
+    let within-dot : Within c.args.text.now c.in-Field.x × Within c.args.text.now c.in-Field.field-1 = subst (OperandWithin c.args.text.now) c.in-Field.is c.requires.1 in
+    let w = within-dot.0 in omega (arith, w.0, w.1)
+
+pub slice_bounds-read-start-in-Field : goal.slice_bounds-read-start-in-Field
+slice_bounds-read-start-in-Field c =
+    let within-dot : Within c.args.text.now c.in-Field.x × Within c.args.text.now c.in-Field.field-1 = subst (OperandWithin c.args.text.now) c.in-Field.is c.requires.1 in
+    let w = within-dot.0 in omega (arith, w.0, w.1)
+
+pub slice_bounds-read-end-in-Field : goal.slice_bounds-read-end-in-Field
+slice_bounds-read-end-in-Field c =
     let within-dot : Within c.args.text.now c.in-Field.x × Within c.args.text.now c.in-Field.field-1 = subst (OperandWithin c.args.text.now) c.in-Field.is c.requires.1 in
     let w = within-dot.0 in omega (arith, w.0, w.1)
 

@@ -29,6 +29,16 @@ slice_bounds-field_of-count c =
     let within-dot : Within c.args.text.now c.in-Field.field-0 × Within c.args.text.now c.in-Field.y = subst (OperandWithin c.args.text.now) c.in-Field.is c.requires.1 in
     let w = within-dot.1 in omega (arith, w.0, w.1)
 
+pub slice_bounds-field_of-start : goal.slice_bounds-field_of-start
+slice_bounds-field_of-start c =
+    let within-dot : Within c.args.text.now c.in-Field.field-0 × Within c.args.text.now c.in-Field.y = subst (OperandWithin c.args.text.now) c.in-Field.is c.requires.1 in
+    let w = within-dot.1 in omega (arith, w.0, w.1)
+
+pub slice_bounds-field_of-end : goal.slice_bounds-field_of-end
+slice_bounds-field_of-end c =
+    let within-dot : Within c.args.text.now c.in-Field.field-0 × Within c.args.text.now c.in-Field.y = subst (OperandWithin c.args.text.now) c.in-Field.is c.requires.1 in
+    let w = within-dot.1 in omega (arith, w.0, w.1)
+
 pub field_of-requires : goal.field_of-requires
 field_of-requires c =
     let source-as : (s : Session) {v : Operand} → c.args.v ≡ v → SourceOf s c.args.text.now c.args.v c.args.source.now → SourceOf s c.args.text.now v c.args.source.now = λ s e h. subst (λ (v : Operand). SourceOf s c.args.text.now v c.args.source.now) e h in

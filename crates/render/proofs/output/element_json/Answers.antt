@@ -29,6 +29,18 @@ slice_bounds-put_quoted-count c =
     let ended : c.until-end.result + 1 ≤ length c.args.text.now = string_within c.args.text.now c.args.at c.requires.element c.requires.rest string.until-end.result c.until-end.ensures.ends in
     omega (arith, ended, c.until-end.ensures.within)
 
+pub slice_bounds-put_quoted-start : goal.slice_bounds-put_quoted-start
+slice_bounds-put_quoted-start c =
+    let string : StringAt c.args.text.now c.args.at c.requires.element c.requires.rest = string_at c.args.text.now c.args.at c.requires.element c.requires.rest c.requires.stands c.if-text-at-eq83.true in
+    let ended : c.until-end.result + 1 ≤ length c.args.text.now = string_within c.args.text.now c.args.at c.requires.element c.requires.rest string.until-end.result c.until-end.ensures.ends in
+    omega (arith, ended, c.until-end.ensures.within)
+
+pub slice_bounds-put_quoted-end : goal.slice_bounds-put_quoted-end
+slice_bounds-put_quoted-end c =
+    let string : StringAt c.args.text.now c.args.at c.requires.element c.requires.rest = string_at c.args.text.now c.args.at c.requires.element c.requires.rest c.requires.stands c.if-text-at-eq83.true in
+    let ended : c.until-end.result + 1 ≤ length c.args.text.now = string_within c.args.text.now c.args.at c.requires.element c.requires.rest string.until-end.result c.until-end.ensures.ends in
+    omega (arith, ended, c.until-end.ensures.within)
+
 pub put_quoted-p-requires : goal.put_quoted-p-requires
 put_quoted-p-requires c =
     let string : StringAt c.args.text.now c.args.at c.requires.element c.requires.rest = string_at c.args.text.now c.args.at c.requires.element c.requires.rest c.requires.stands c.if-text-at-eq83.true in

@@ -29,6 +29,16 @@ slice_bounds-put_quoted-count c =
     let ended : EndsOf c.args.text.now c.args.at c.requires.field c.requires.rest c.field_ends-ends.result = c.field_ends-ends.ensures c.requires.field c.requires.rest c.requires.stands in
     let e = ended in omega (arith, e.label_end, e.text_end, e.within)
 
+pub slice_bounds-put_quoted-start : goal.slice_bounds-put_quoted-start
+slice_bounds-put_quoted-start c =
+    let ended : EndsOf c.args.text.now c.args.at c.requires.field c.requires.rest c.field_ends-ends.result = c.field_ends-ends.ensures c.requires.field c.requires.rest c.requires.stands in
+    let e = ended in omega (arith, e.label_end, e.text_end, e.within)
+
+pub slice_bounds-put_quoted-end : goal.slice_bounds-put_quoted-end
+slice_bounds-put_quoted-end c =
+    let ended : EndsOf c.args.text.now c.args.at c.requires.field c.requires.rest c.field_ends-ends.result = c.field_ends-ends.ensures c.requires.field c.requires.rest c.requires.stands in
+    let e = ended in omega (arith, e.label_end, e.text_end, e.within)
+
 pub put_quoted-a-requires : goal.put_quoted-a-requires
 put_quoted-a-requires c =
     let ended : EndsOf c.args.text.now c.args.at c.requires.field c.requires.rest c.field_ends-ends.result = c.field_ends-ends.ensures c.requires.field c.requires.rest c.requires.stands in
@@ -46,6 +56,16 @@ put_byte-b-requires c =
 
 pub slice_bounds-put_quoted-count-2 : goal.slice_bounds-put_quoted-count-2
 slice_bounds-put_quoted-count-2 c =
+    let ended : EndsOf c.args.text.now c.args.at c.requires.field c.requires.rest c.field_ends-ends.result = c.field_ends-ends.ensures c.requires.field c.requires.rest c.requires.stands in
+    let e = ended in omega (arith, e.label_end, e.text_end, e.within)
+
+pub slice_bounds-put_quoted-start-2 : goal.slice_bounds-put_quoted-start-2
+slice_bounds-put_quoted-start-2 c =
+    let ended : EndsOf c.args.text.now c.args.at c.requires.field c.requires.rest c.field_ends-ends.result = c.field_ends-ends.ensures c.requires.field c.requires.rest c.requires.stands in
+    let e = ended in omega (arith, e.label_end, e.text_end, e.within)
+
+pub slice_bounds-put_quoted-end-2 : goal.slice_bounds-put_quoted-end-2
+slice_bounds-put_quoted-end-2 c =
     let ended : EndsOf c.args.text.now c.args.at c.requires.field c.requires.rest c.field_ends-ends.result = c.field_ends-ends.ensures c.requires.field c.requires.rest c.requires.stands in
     let e = ended in omega (arith, e.label_end, e.text_end, e.within)
 

@@ -20,6 +20,18 @@ slice_bounds-result-count c =
     lies c.requires.0.rows a.text.now a.count a.slots.now c.requires.0.held a.number c.requires.1 c.nth-place.result (c.nth-place.ensures c.requires.0.rows c.requires.0.held) in
     let l = safe in omega (arith, l.first)
 
+pub slice_bounds-result-start : goal.slice_bounds-result-start
+slice_bounds-result-start c =
+    let safe : Lies c.args.text.now c.nth-place.result = let a = c.args in
+    lies c.requires.0.rows a.text.now a.count a.slots.now c.requires.0.held a.number c.requires.1 c.nth-place.result (c.nth-place.ensures c.requires.0.rows c.requires.0.held) in
+    let l = safe in omega (arith, l.first, l.middle, l.last)
+
+pub slice_bounds-result-end : goal.slice_bounds-result-end
+slice_bounds-result-end c =
+    let safe : Lies c.args.text.now c.nth-place.result = let a = c.args in
+    lies c.requires.0.rows a.text.now a.count a.slots.now c.requires.0.held a.number c.requires.1 c.nth-place.result (c.nth-place.ensures c.requires.0.rows c.requires.0.held) in
+    let l = safe in omega (arith, l.first, l.middle, l.last)
+
 pub returns : goal.returns
 returns c rows H =
     let a = c.args in

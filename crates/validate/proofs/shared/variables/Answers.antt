@@ -53,6 +53,13 @@ slice_bounds-variable_at-count c =
     let few : c.loop-at.n ≤ length c.loop-at.slots = let k = lowest in let w = whole in omega (arith, k, w, c.loop-at.invariant.1) in
     let h = few in omega (arith, h)
 
+pub slice_bounds-variable_at-start : goal.slice_bounds-variable_at-start
+slice_bounds-variable_at-start c =
+    let whole : length c.loop-at.slots ≡ 4096 = c.loop-at.invariant.0 ∙ c.requires.2 in
+    let lowest : c.args.w + 2 * c.loop-at.n ≤ c.loop-at.now = let l = c.loop-at in sharing_low c.args.text.now c.args.at c.args.w l.slots l.i l.n l.now l.invariant.2 in
+    let few : c.loop-at.n ≤ length c.loop-at.slots = let k = lowest in let w = whole in omega (arith, k, w, c.loop-at.invariant.1) in
+    few
+
 pub variable_at-line-requires : goal.variable_at-line-requires
 variable_at-line-requires c =
     let whole : length c.loop-at.slots ≡ 4096 = c.loop-at.invariant.0 ∙ c.requires.2 in
