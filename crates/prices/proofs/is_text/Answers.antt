@@ -3,7 +3,7 @@
 use mathlib.Core.Path.{ap, ◌∙◌}
 use lib.IntN.{ℤ}
 use mir.Facts.{to_z-of_z}
-use Rattle.language.specs.Text.{Text, ◌==◌}
+use Rattle.language.specs.Text.{Text, ◌≟◌}
 use Rattle.language.specs.Prices.{price_text}
 use Rattle.prices.proofs.Readings.{written_part}
 use borrow.Author.Rules.{rules}
@@ -13,5 +13,5 @@ pub returns : goal.returns
 returns c =
     let text = c.args.text.now in
     c.same_bytes.ensures
-    ∙ ap (λ (u : Text). u == text) (written_part c.put_price-end.ensures)
-    ∙ ap (λ (a : ℤ). price_text a == text) (to_z-of_z c.ranges.amount)
+    ∙ ap (λ (u : Text). u ≟ text) (written_part c.put_price-end.ensures)
+    ∙ ap (λ (a : ℤ). price_text a ≟ text) (to_z-of_z c.ranges.amount)
