@@ -1,7 +1,6 @@
 -- `decimals::put_decimal` meets its contract. A number of 32 bits has at most ten digits.
 -- Assumes nothing.
 use native.Mathlib.Omega.{arith}
-use borrow.Author.Rules.{rules}
 use Rattle.language.proofs.StateText.Digits.{ten_digits}
 use Rattle.decimals.proofs.put_decimal.Goals as goal
 

@@ -5,7 +5,6 @@ use mathlib.Core.Logic.{⊎_elim}
 use Prim.Native.Nat.{ℕ, ◌≤◌}
 use native.Mathlib.Omega.{arith}
 use lib.ListN.{length}
-use borrow.Author.Rules.{rules}
 use Rattle.chains.specs.Chain.{asked, Searched}
 use Rattle.assertion.specs.Packed.{fields}
 use Rattle.chains.specs.declared.Answer.{Answer}

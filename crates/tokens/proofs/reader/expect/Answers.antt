@@ -4,7 +4,6 @@ use lib.ListN.{drop}
 use Rattle.language.specs.Tokens.{lex}
 use Rattle.tokens.specs.Readers.{found_meant, FoundPlaced}
 use Rattle.tokens.proofs.Reading.{told, known, sign_none, sign_same, sign_other}
-use borrow.Author.Rules.{rules}
 use Rattle.tokens.proofs.reader.expect.Goals as goal
 
 pub returns-in_default : goal.returns-in_default

@@ -1,6 +1,5 @@
 use Rattle.tokens.specs.Readers.{any_sign}
 use Rattle.tokens.proofs.Reading.{read_as, placed_as}
-use borrow.Author.Rules.{rules}
 use Rattle.tokens.proofs.reader.sign_at.Goals as goal
 
 pub returns-in-End : goal.returns-in-End

@@ -1,6 +1,5 @@
 use native.Mathlib.Omega.{arith}
 use Rattle.tokens.proofs.Lexing.{comment_last, comment_line, comment_bad}
-use borrow.Author.Rules.{rules}
 use Rattle.tokens.proofs.token.comment_at.Goals as goal
 
 pub returns-then-end-text : goal.returns-then-end-text

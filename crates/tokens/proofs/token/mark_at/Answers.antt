@@ -1,16 +1,12 @@
-use mathlib.Core.Path.{◌≡◌, refl, sym, ap, ◌∙◌}
-use mathlib.Core.Logic.{⊎_elim}
+use mathlib.Core.Path.{◌≡◌, sym, ap, ◌∙◌}
 use mathlib.Core.List.{[], ◌∷◌}
 use mathlib.Core.Bool.{true, false}
-use Prim.Native.Nat.{◌+◌}
 use native.Mathlib.Omega.{arith}
-use lib.ListN.{get_or, drop_of_length-le}
-use borrow.Author.Tests.{ne_eqb}
+use lib.ListN.{get_or}
 use Rattle.language.specs.Text.{bytes}
 use Rattle.language.specs.Bytes.{mark, ◌is◌, ◌∈◌}
 use Rattle.text.proofs.Classes.{in_interval, at_keys, same_bool, same_bool_lem}
-use Rattle.tokens.proofs.Lexing.{class_mark, one_mark, two_marks}
-use borrow.Author.Rules.{rules}
+use Rattle.tokens.proofs.Lexing.{class_mark, one_mark}
 use Rattle.tokens.proofs.token.mark_at.Goals as goal
 
 pub quoted_at-requires : goal.quoted_at-requires

@@ -4,7 +4,6 @@ use lib.ListN.{get_or}
 use borrow.Author.Tests.{ne_eqb}
 use Rattle.language.specs.Bytes.{mark}
 use Rattle.tokens.proofs.Lexing.{class_mark, pair_sign, pair_bad}
-use borrow.Author.Rules.{rules}
 use Rattle.tokens.proofs.token.pair_at.Goals as goal
 
 pub returns-then-n-eq62 : goal.returns-then-n-eq62
@@ -67,4 +66,3 @@ returns-else-n-eq47 c =
       meant = pair_bad t i (omega (arith, c.requires.at_in_bounds)) m n c.requires.at_in_bounds c.requires.at_value c.requires.at_value_2 c.requires.text_value (rw (c.in-47.is, ne_eqb n 47 c.if-n-eq47.false));
       placed = tt;
     }
-

@@ -1,6 +1,5 @@
 use native.Mathlib.Omega.{arith}
 use Rattle.tokens.proofs.Lexing.{quoted_open, quoted_text, quoted_bad}
-use borrow.Author.Rules.{rules}
 use Rattle.tokens.proofs.token.quoted_at.Goals as goal
 
 pub returns-then-end-text : goal.returns-then-end-text

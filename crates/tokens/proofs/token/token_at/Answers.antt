@@ -1,10 +1,7 @@
 -- `tokens::token_at` meets its contract. The loop's invariant: the tokens from `at` on are those from `i` on.
 -- Assumes nothing.
-use mathlib.Core.Path.{◌≡◌, sym, ap, ◌∙◌}
-use Prim.Native.Nat.{◌-◌, ◌≤◌}
-use lib.ListN.{length, drop}
+use mathlib.Core.Path.{sym, ap, ◌∙◌}
 use Rattle.text.specs.Meaning.{class_meant}
-use Rattle.language.specs.Tokens.{lex}
 use Rattle.tokens.proofs.Lexing.{lex_none, digit_lex, foreign_lex, newline_lex, space_lex, placed_from}
 use borrow.Author.Rules.{rules}
 use Rattle.tokens.proofs.token.token_at.Goals as goal

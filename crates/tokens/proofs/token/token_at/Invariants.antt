@@ -1,10 +1,7 @@
-use mathlib.Core.Path.{◌≡◌, sym, ap, ◌∙◌}
+use mathlib.Core.Path.{◌≡◌}
 use Prim.Native.Nat.{◌-◌, ◌≤◌}
 use lib.ListN.{length, drop}
-use Rattle.text.specs.Meaning.{class_meant}
 use Rattle.language.specs.Tokens.{lex}
-use Rattle.tokens.proofs.Lexing.{lex_none, digit_lex, foreign_lex, newline_lex, space_lex, placed_from}
-use borrow.Author.Rules.{rules}
 use Rattle.tokens.proofs.token.token_at.Given as goal
 
 abbrev pub invariant-loop-i : goal.invariant-loop-i

@@ -1,7 +1,6 @@
 use mathlib.Core.Path.{sym, ◌∙◌}
 use native.Mathlib.Omega.{arith}
 use Rattle.tokens.proofs.Lexing.{word_sign, word_name, word_long}
-use borrow.Author.Rules.{rules}
 use Rattle.tokens.proofs.token.word_at.Goals as goal
 
 pub returns-then-is_keyword : goal.returns-then-is_keyword
