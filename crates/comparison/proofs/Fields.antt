@@ -49,7 +49,7 @@ one_field t at f g q r F G =
     let m : ℕ = n + 1 + length (front (is_not 10) (drop (n + 1) t)) in
     let E : EndsOf t at f q (record { label = n; text = m }) = field_ends t at f q F n m refl refl in
     let D : EndsOf t at g r (record { label = n; text = m }) = field_ends t at g r G n m refl refl in
-    λ i. record { label = (sym E.Label-is ∙ D.Label-is) i; text = (sym E.text_is ∙ D.text_is) i }
+    λ i. record { label = (sym E.label_is ∙ D.label_is) i; text = (sym E.text_is ∙ D.text_is) i }
 
 pub fields_only : (t : Text) (at : ℕ) (fs gs : List Field) → FieldsAt t at fs [] → FieldsAt t at gs [] → fs ≡ gs
 fields_only t at [] [] F G = refl

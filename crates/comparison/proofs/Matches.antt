@@ -99,4 +99,4 @@ stands_held t l fs g p h G S = sym (true_of (any (same_field g) fs) (elim (dec_l
 
 module _ (l : Text) (g : Field) (G : LineOf g l) (r : Ends) (E : EndsOf l 0 g [] r) where
   pub read_field : record { label = take (r.label - 2) (drop 2 l); text = take (r.text - (r.label + 1)) (drop (r.label + 1) l) } ≡ g
-  read_field = λ i. record { label = E.Label-is i; text = E.text_is i }
+  read_field = λ i. record { label = E.label_is i; text = E.text_is i }

@@ -28,7 +28,7 @@ module _ (t : Text) (at : ℕ) (f : Field) (rest : Text) (r : Ends) (E : EndsOf 
   field_room o size h =
       omega (
         arith,
-        ap length E.Label-is,
+        ap length E.label_is,
         ap length E.text_is,
         ap length (field_json_lem f),
         length-append (quote f.label) (58 ∷ quote f.text),
@@ -41,7 +41,7 @@ module _ (t : Text) (at : ℕ) (f : Field) (rest : Text) (r : Ends) (E : EndsOf 
       → Renders at (length (field_text f)) before o (field_json f) (record { read = r.text + 1; wrote = p }) after
   field_renders before after o p w = record {
     read_to = omega (arith, E.label_end, E.text_end, field_length f);
-    written = rewritten (ap (λ l. quote l ++ (58 ∷ quote (take (r.text - (r.label + 1)) (drop (r.label + 1) t)))) E.Label-is ∙ ap (λ l. quote f.label ++ (58 ∷ quote l)) E.text_is ∙ field_json_lem f) w;
+    written = rewritten (ap (λ l. quote l ++ (58 ∷ quote (take (r.text - (r.label + 1)) (drop (r.label + 1) t)))) E.label_is ∙ ap (λ l. quote f.label ++ (58 ∷ quote l)) E.text_is ∙ field_json_lem f) w;
   }
 
 -- ---- fields in a row

@@ -89,12 +89,12 @@ module _ (t : Text) (y : Name) (v : Value) (at : ℕ) (C : Candidate t y v at) w
     pub matched : (take (r.label - (at + 2)) (drop (at + 2) t) ≟ y) ≡ true
         → some (part t (record { start = r.label + 1; end = r.text })) ≡ field_of v y
     matched b =
-        let q : (C.field.label ≟ y) ≡ true = ap (λ l. l ≟ y) (sym E.Label-is) ∙ b in
+        let q : (C.field.label ≟ y) ≡ true = ap (λ l. l ≟ y) (sym E.label_is) ∙ b in
         sym (C.answer ∙ ap (λ b. when b then some C.field.text else text_of C.more y) q ∙ ap some (sym E.text_is))
 
     pub unmatched : (take (r.label - (at + 2)) (drop (at + 2) t) ≟ y) ≡ false → Unseen t y v (r.text + 1)
     unmatched b =
-        let q : (C.field.label ≟ y) ≡ false = ap (λ l. l ≟ y) (sym E.Label-is) ∙ b in
+        let q : (C.field.label ≟ y) ≡ false = ap (λ l. l ≟ y) (sym E.label_is) ∙ b in
         record {
           left = C.more;
           stand = fields_tail t at C.field C.more [] (r.text + 1) (omega (arith, E.label_end, E.text_end, field_length C.field)) C.stand;

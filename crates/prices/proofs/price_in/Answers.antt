@@ -27,16 +27,3 @@ is_text-requires c =
     let is_signed : amount ≡ signed c.starts_minus.result c.digits_of-n.result = again c.signed-amount.type_inv ∙ c.signed-amount.ensures in
     omega (arith, ap nat_abs is_signed, signed_small c.starts_minus.result c.digits_of-n.result c.if-n-gt999999999.false)
 
-pub returns-then-is_text : goal.returns-then-is_text
-returns-then-is_text c =
-    let amount : ℤ = to_z w64 (of_z w64 c.signed-amount.result) in
-    let is_signed : amount ≡ signed c.starts_minus.result c.digits_of-n.result = again c.signed-amount.type_inv ∙ c.signed-amount.ensures in
-    let decided : (when c.is_text.result then some amount else none) ≡ price c.args.text.now = price_tested c.args.text.now c.starts_minus.result c.digits_of-n.result amount.starts_minus.ensures c.digits_of-n.ensures is_signed.if-n-gt999999999.false c.is_text.result c.is_text.ensures in
-    sym (ap (λ (b : Bool). when b then some amount else none) c.if-is_text.true) ∙ decided
-
-pub returns : goal.returns
-returns c =
-    let amount : ℤ = to_z w64 (of_z w64 c.signed-amount.result) in
-    let is_signed : amount ≡ signed c.starts_minus.result c.digits_of-n.result = again c.signed-amount.type_inv ∙ c.signed-amount.ensures in
-    let decided : (when c.is_text.result then some amount else none) ≡ price c.args.text.now = price_tested c.args.text.now c.starts_minus.result c.digits_of-n.result amount.starts_minus.ensures c.digits_of-n.ensures is_signed.if-n-gt999999999.false c.is_text.result c.is_text.ensures in
-    sym (ap (λ (b : Bool). when b then some amount else none) c.if-is_text.false) ∙ decided
