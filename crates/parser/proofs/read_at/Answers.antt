@@ -58,6 +58,17 @@ returns-then-not-stars_at c =
     no_stars t c.args.at c.in-Tokens.s c.in-Tokens.n q.0 q.1 q.2 (after-comments _ c.in-Tokens.is) no_command
     (sym c.stars_at.ensures ∙ not-true c.stars_at.result c.if-not-stars_at.true-raw)
 
+pub returns-else-not-stars_at : goal.returns-else-not-stars_at
+returns-else-not-stars_at c =
+    let after-comments : (r : Step) → c.next_line-step.result ≡ r → written_from c.args.text.now c.args.at ≡ step_meant c.args.text.now r = λ r is. c.next_line-step.ensures.meant ∙ ap (step_meant c.args.text.now) is in
+    let placed : StepPlaced c.args.text.now c.args.at (StepIs.Tokens c.in-Tokens.s c.in-Tokens.n) = known (StepPlaced c.args.text.now c.args.at) c.next_line-step.ensures.placed c.in-Tokens.is in
+    let no_command : command_line (line_from c.args.text.now c.in-Tokens.s) ≡ none = told (line_read_meant c.args.text.now) c.command_line-line.ensures.meant c.in_default.is in
+    let t = c.args.text.now in
+    let q = placed in
+    let y = c.ending_line-ending in
+    first_ending t c.args.at c.in-Tokens.s c.in-Tokens.n q.0 q.1 q.2 (after-comments _ c.in-Tokens.is) no_command.in-Found-ending.c
+    (known (LineWithin t) y.ensures.1 c.in-Found-ending.is) (told (line_read_meant t) y.ensures.0 c.in-Found-ending.is) (sym c.stars_at.ensures ∙ not-false c.stars_at.result c.if-not-stars_at.false-raw)
+
 pub returns-in-Stars : goal.returns-in-Stars
 returns-in-Stars c =
     let after-comments : (r : Step) → c.next_line-step.result ≡ r → written_from c.args.text.now c.args.at ≡ step_meant c.args.text.now r = λ r is. c.next_line-step.ensures.meant ∙ ap (step_meant c.args.text.now) is in

@@ -32,3 +32,107 @@ password_of-p-requires c =
     let S = c.requires.2 in
     (some_principals S.principals text a.count a.slots.now S.held, S.below)
 
+pub write_password-requires : goal.write_password-requires
+write_password-requires c =
+    let text : Text = take c.args.len c.args.buf.now in
+    let by_number : (ks : List Principal) (p : Name) → Principals ks text.args.count c.args.slots.now → T (distinct (principal_names ks)) → c.args.number ≡ position (principal_names ks) p → map (changed p c.args.password.now) ks ≡ with_password ks c.args.number c.args.password.now = λ ks p K d n. let a = c.args in
+    let b = below_principals ks text a.count a.slots.now K a.number c.requires.2.below in
+    changed_at ks p a.password.now d (omega (arith, n, b)) ∙ ap (λ (k : ℕ). with_password ks k a.password.now) (sym n) in
+    let room : length (principals_text (with_password c.requires.2.principals c.args.number c.args.password.now)) ≤ length c.args.buf.now = let S = c.requires.2 in
+    subst (λ (l : List Principal). length (principals_text l) ≤ length c.args.buf.now) (by_number S.principals S.name S.held S.apart S.number) S.fits in
+    let kept : (ks : List Principal) → Principals ks text.args.count c.args.slots.now → (principal_at ks c.args.number).password ≡ some (part text.in-Kept.start c.in-Kept.end) = λ ks K. sym (ap (password_meant text) (sym c.in-Kept.is) ∙ (c.password_of-p.ensures ks K).meant) in
+    let S = c.requires.2 in (
+      c.requires.0,
+      c.requires.1,
+      record { principals = S.principals; old = _; held = S.held; below = S.below; kept = kept S.principals S.held; fits = room },
+    )
+
+pub open_line-n-requires : goal.open_line-n-requires
+open_line-n-requires c =
+    let text : Text = take c.args.len c.args.buf.now in
+    let bare : (ks : List Principal) → Principals ks text.args.count c.args.slots.now → (principal_at ks c.args.number).password ≡ none = λ ks K. sym (ap (password_meant text) (sym c.in-Absent.is) ∙ (c.password_of-p.ensures ks K).meant) in
+    let by_number : (ks : List Principal) (p : Name) → Principals ks text.args.count c.args.slots.now → T (distinct (principal_names ks)) → c.args.number ≡ position (principal_names ks) p → map (changed p c.args.password.now) ks ≡ with_password ks c.args.number c.args.password.now = λ ks p K d n. let a = c.args in
+    let b = below_principals ks text a.count a.slots.now K a.number c.requires.2.below in
+    changed_at ks p a.password.now d (omega (arith, n, b)) ∙ ap (λ (k : ℕ). with_password ks k a.password.now) (sym n) in
+    let room : length (principals_text (with_password c.requires.2.principals c.args.number c.args.password.now)) ≤ length c.args.buf.now = let S = c.requires.2 in
+    subst (λ (l : List Principal). length (principals_text l) ≤ length c.args.buf.now) (by_number S.principals S.name S.held S.apart S.number) S.fits in
+    let longer : c.args.len + 1 + length c.args.password.now ≤ length c.args.buf.now = let a = c.args in
+    let S = c.requires.2 in
+    omega (arith, room, bare_size S.principals text a.count a.slots.now S.held a.number S.below a.password.now (bare S.principals S.held), length-take-le a.len a.buf.now c.requires.1) in
+    let S = c.requires.2 in (
+      c.requires.0,
+      omega (arith, longer),
+      record { principals = S.principals; held = S.held; below = S.below; bare = bare S.principals S.held },
+    )
+
+pub write_password-requires-in-Absent : goal.write_password-requires-in-Absent
+write_password-requires-in-Absent c =
+    let text : Text = take c.args.len c.args.buf.now in
+    let by_number : (ks : List Principal) (p : Name) → Principals ks text.args.count c.args.slots.now → T (distinct (principal_names ks)) → c.args.number ≡ position (principal_names ks) p → map (changed p c.args.password.now) ks ≡ with_password ks c.args.number c.args.password.now = λ ks p K d n. let a = c.args in
+    let b = below_principals ks text a.count a.slots.now K a.number c.requires.2.below in
+    changed_at ks p a.password.now d (omega (arith, n, b)) ∙ ap (λ (k : ℕ). with_password ks k a.password.now) (sym n) in
+    let room : length (principals_text (with_password c.requires.2.principals c.args.number c.args.password.now)) ≤ length c.args.buf.now = let S = c.requires.2 in
+    subst (λ (l : List Principal). length (principals_text l) ≤ length c.args.buf.now) (by_number S.principals S.name S.held S.apart S.number) S.fits in
+    let kept : (ks : List Principal) → Principals ks text.args.count c.args.slots.now → (principal_at ks c.args.number).password ≡ some (part text.in-Kept.start c.in-Kept.end) = λ ks K. sym (ap (password_meant text) (sym c.in-Kept.is) ∙ (c.password_of-p.ensures ks K).meant) in
+    let bare : (ks : List Principal) → Principals ks text.args.count c.args.slots.now → (principal_at ks c.args.number).password ≡ none = λ ks K. sym (ap (password_meant text) (sym c.in-Absent.is) ∙ (c.password_of-p.ensures ks K).meant) in
+    let longer : c.args.len + 1 + length c.args.password.now ≤ length c.args.buf.now = let a = c.args in
+    let S = c.requires.2 in
+    omega (arith, room, bare_size S.principals text a.count a.slots.now S.held a.number S.below a.password.now (bare S.principals S.held), length-take-le a.len a.buf.now c.requires.1) in
+    let a = c.args in
+    let S = c.requires.2 in
+    let ks = S.principals in
+    let w = a.password.now in
+    let l = below_principals ks text a.count a.slots.now S.held a.number S.below in
+    let z : length c.open_line-n.new.buf ≡ length a.buf.now = c.open_line-n.auto.buf in (
+      omega (arith, z, c.requires.0),
+      omega (arith, z, c.open_line-n.ensures.size, longer),
+      record {
+        principals = with_password ks a.number [];
+        old = [];
+        held = c.open_line-n.ensures.held ks S.held (bare ks S.held);
+        below = S.below;
+        kept = with_kept ks a.number [] l;
+        fits = subst (λ (q : List Principal). length (principals_text q) ≤ length c.open_line-n.new.buf) (sym (with_twice ks a.number [] w l)) (omega (arith, room, z));
+      },
+    )
+
+pub returns-in-Kept : goal.returns-in-Kept
+returns-in-Kept c =
+    let text : Text = take c.args.len c.args.buf.now in
+    let by_number : (ks : List Principal) (p : Name) → Principals ks text.args.count c.args.slots.now → T (distinct (principal_names ks)) → c.args.number ≡ position (principal_names ks) p → map (changed p c.args.password.now) ks ≡ with_password ks c.args.number c.args.password.now = λ ks p K d n. let a = c.args in
+    let b = below_principals ks text a.count a.slots.now K a.number c.requires.2.below in
+    changed_at ks p a.password.now d (omega (arith, n, b)) ∙ ap (λ (k : ℕ). with_password ks k a.password.now) (sym n) in
+    let kept : (ks : List Principal) → Principals ks text.args.count c.args.slots.now → (principal_at ks c.args.number).password ≡ some (part text.in-Kept.start c.in-Kept.end) = λ ks K. sym (ap (password_meant text) (sym c.in-Kept.is) ∙ (c.password_of-p.ensures ks K).meant) in
+    let a = c.args in record {
+      outside = c.write_password.ensures.outside;
+      held = λ ks p K d n.
+          subst (λ (q : List Principal). Principals q (take c.write_password.result c.write_password.new.buf) a.count c.write_password.new.slots) (sym (by_number ks p K d n))
+          (c.write_password.ensures.held ks _ K (kept ks K));
+    }
+
+pub returns-in-Absent : goal.returns-in-Absent
+returns-in-Absent c =
+    let text : Text = take c.args.len c.args.buf.now in
+    let by_number : (ks : List Principal) (p : Name) → Principals ks text.args.count c.args.slots.now → T (distinct (principal_names ks)) → c.args.number ≡ position (principal_names ks) p → map (changed p c.args.password.now) ks ≡ with_password ks c.args.number c.args.password.now = λ ks p K d n. let a = c.args in
+    let b = below_principals ks text a.count a.slots.now K a.number c.requires.2.below in
+    changed_at ks p a.password.now d (omega (arith, n, b)) ∙ ap (λ (k : ℕ). with_password ks k a.password.now) (sym n) in
+    let bare : (ks : List Principal) → Principals ks text.args.count c.args.slots.now → (principal_at ks c.args.number).password ≡ none = λ ks K. sym (ap (password_meant text) (sym c.in-Absent.is) ∙ (c.password_of-p.ensures ks K).meant) in
+    let both-done : (ks : List Principal) → let a = c.args in Principals ks text a.count a.slots.now → Principals (with_password ks a.number a.password.now) (take c.write_password-in-Absent.result c.write_password-in-Absent.new.buf) a.count c.write_password-in-Absent.new.slots = λ ks K. let a = c.args in
+    let l = below_principals ks text a.count a.slots.now K a.number c.requires.2.below in
+    subst (λ (q : List Principal). Principals q (take c.write_password-in-Absent.result c.write_password-in-Absent.new.buf) a.count c.write_password-in-Absent.new.slots) (with_twice ks a.number [] a.password.now l)
+    (c.write_password-in-Absent.ensures.held (with_password ks a.number []) [] (c.open_line-n.ensures.held ks K (bare ks K)) (with_kept ks a.number [] l)) in
+    let grown : c.open_line-n.result ≤ c.write_password-in-Absent.result = let a = c.args in
+    let S = c.requires.2 in
+    let h : c.write_password-in-Absent.result ≤ length c.write_password-in-Absent.new.buf = omega (arith, c.write_password-in-Absent.ensures.outside.within, c.write_password-in-Absent.auto.buf) in
+    omega (
+      arith,
+      c.open_line-n.ensures.size,
+      held_size (with_password S.principals a.number a.password.now) c.write_password-in-Absent.new.buf c.write_password-in-Absent.result a.count c.write_password-in-Absent.new.slots h (both-done S.principals S.held),
+      bare_size S.principals text a.count a.slots.now S.held a.number S.below a.password.now (bare S.principals S.held),
+      length-take-le a.len a.buf.now c.requires.1,
+    ) in
+    let a = c.args in record {
+      outside = outside_on a.buf.now c.open_line-n.new.buf c.write_password-in-Absent.new.buf c.open_line-n.result c.write_password-in-Absent.result a.slots.now c.open_line-n.new.slots c.write_password-in-Absent.new.slots a.count grown.open_line-n.auto.buf c.open_line-n.ensures.outside c.write_password-in-Absent.ensures.outside;
+      held = λ ks p K d n.
+          subst (λ (q : List Principal). Principals q (take c.write_password-in-Absent.result c.write_password-in-Absent.new.buf) a.count c.write_password-in-Absent.new.slots) (sym (by_number ks p K d n)) (both-done ks K);
+    }

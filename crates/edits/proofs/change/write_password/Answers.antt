@@ -25,6 +25,15 @@ nth-place-requires c =
     let S = c.requires.2 in
     (some_principals S.principals (take a.len a.buf.now) a.count a.slots.now S.held, S.below)
 
+pub overflow_add-from : goal.overflow_add-from
+overflow_add-from c =
+    let placed : (ks : List Principal) → let a = c.args in Principals ks (take a.len a.buf.now) a.count a.slots.now → Placed (map principal_row ks) a.number c.nth-place.result = λ ks K. let a = c.args in c.nth-place.ensures (map principal_row ks) (principals_rows ks (take a.len a.buf.now) a.count a.slots.now K) in
+    let safe : let a = c.args in Lies (take a.len a.buf.now) c.nth-place.result = let a = c.args in
+    let S = c.requires.2 in
+    let t = take a.len a.buf.now in
+    lies (map principal_row S.principals) t a.count a.slots.now (principals_rows S.principals t a.count a.slots.now S.held) a.number S.below c.nth-place.result (placed S.principals S.held) in
+    let l = safe (c) in omega (arith, l.middle, l.last, c.requires.2.held.small)
+
 pub slice_bounds-count_at-end-2 : goal.slice_bounds-count_at-end-2
 slice_bounds-count_at-end-2 c = sym (length-take-le _ _ c.requires.1)
 
