@@ -465,8 +465,8 @@ def turn(text, fn, crate, where):
             go(h)
         def call(text):
             for k in order:
-                text = re.sub(rf"\({re.escape(k)} +c\)", k, text)
-                text = re.sub(rf"(?<![^\s(\[,]){re.escape(k)} +c(?![^\s).,;\]])", k, text)
+                text = re.sub(rf"\({re.escape(k)} +(?:c|\(c\))\)", k, text)
+                text = re.sub(rf"(?<![^\s(\[,]){re.escape(k)} +(?:c(?![^\s),;\]])|\(c\))", k, text)
             return text
         out = []
         for h in order:

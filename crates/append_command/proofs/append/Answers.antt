@@ -57,7 +57,7 @@ answer-v-requires c =
         record { session = c.requires.some_running.session; sending = session-sends c.requires.some_running.session c.requires.some_running.running },
       );
       said = (c.requires.names.0.said, lent a.value.now a.labels.now c.requires.names.1.value_size c.requires.names.1.labels_size);
-      copyable = copyable c.requires.some_running.session a.l buffers.requires.some_running.running;
+      copyable = copyable c.requires.some_running.session a.l buffers c.requires.some_running.running;
     }
 
 pub is_list-list-requires : goal.is_list-list-requires
@@ -136,7 +136,7 @@ returns-in-Over c s y R m =
     let answers : (s : Session) (y : Syntax.Expr) → Runs s → Says y → Answers c.answer-v.result s y c.answer-v.new.value = λ s y R m. c.answer-v.ensures s y (session-scoped s R) (session-sends s R) m in
     let x = name_of in
     over s (Syntax.append_to x y) y c.is_list-list.result (append_effect s x) (does s y R) c.answer-v.new.value c.answer-v.result
-    (answers s y R m) c.settle.result c.settle.ensures _ buffers.in-Over.is
+    (answers s y R m) c.settle.result c.settle.ensures _ buffers c.in-Over.is
 
 pub returns-in-Value : goal.returns-in-Value
 returns-in-Value c s y R m =

@@ -42,7 +42,7 @@ overflow_add-at-2 c =
 pub known_at-variable-requires : goal.known_at-variable-requires
 known_at-variable-requires c =
     let is-tab : get_or c.args.text.now (c.args.at + 1) 0 ≡ 9 = sym c.byte_at.ensures ∙ c.if-byte_at-ne9.false in
-    let h = inside c.args.text.now (c.args.at + 1) (omega (arith, is-tab (c))) in
+    let h = inside c.args.text.now (c.args.at + 1) (omega (arith, is-tab)) in
     let r = c.requires.0 in
     record { start = omega (arith, h); outside = refl; order = r.vars_order; within = r.vars_within; some = r.vars_some }
 
@@ -133,7 +133,7 @@ overflow_add-n-3 c =
 pub known_at-taker-requires : goal.known_at-taker-requires
 known_at-taker-requires c =
     let is-tab2 : get_or c.args.text.now (c.in-At-giver.n + 2) 0 ≡ 9 = sym c.byte_at-3.ensures ∙ c.if-byte_at-ne9-2.false in
-    let h = inside c.args.text.now (c.in-At-giver.n + 2) (omega (arith, is-tab2 (c))) in
+    let h = inside c.args.text.now (c.in-At-giver.n + 2) (omega (arith, is-tab2)) in
     let r = c.requires.0 in
     record { start = omega (arith, h); outside = refl; order = r.principals_order; within = r.principals_within; some = r.principals_some }
 
@@ -222,7 +222,7 @@ overflow_add-after-4 c =
     let mq : (rows : List Row) → Principals rows → Member (row_names rows) 9 c.args.text.now (c.in-At.m + 1) c.in-At-giver.q c.in-At-giver.n = λ rows H. subst (λ k. KnownMeant (row_names rows) 9 c.args.text.now (c.in-At.m + 1) k) c.in-At-giver.is (c.known_at-giver.ensures rows H) in
     let light-q : c.name_weight.result ≤ 255 = let H = c.requires.0.principals_some in let l = (member_light H.rows c.args.text.now c.args.roll.principals_from c.args.roll.principals_to c.args.roll.principals
     c.args.principals.now H.held 9 _ _ _ (mq H.rows H.held)).0 in omega (arith, l, c.name_weight.ensures) in
-    let l = light-x in let q = light-q (c) in omega (arith, l, q, c.requires.2)
+    let l = light-x in let q = light-q in omega (arith, l, q, c.requires.2)
 
 pub slice_bounds-name_weight-count-2 : goal.slice_bounds-name_weight-count-2
 slice_bounds-name_weight-count-2 c =
@@ -257,7 +257,7 @@ overflow_add-after-5 c =
     let mp : (rows : List Row) → Principals rows → Member (row_names rows) 10 c.args.text.now (c.in-At-giver.n + 3) c.in-At-taker.p c.in-At-taker.e = λ rows H. subst (λ k. KnownMeant (row_names rows) 10 c.args.text.now (c.in-At-giver.n + 3) k) c.in-At-taker.is (c.known_at-taker.ensures rows H) in
     let light-p : c.name_weight-2.result ≤ 255 = let H = c.requires.0.principals_some in let l = (member_light H.rows c.args.text.now c.args.roll.principals_from c.args.roll.principals_to c.args.roll.principals
     c.args.principals.now H.held 10 _ _ _ (mp H.rows H.held)).0 in omega (arith, l, c.name_weight-2.ensures) in
-    let l = light-x in let q = light-q in let p = light-p (c) in omega (arith, l, q, p, c.requires.2)
+    let l = light-x in let q = light-q in let p = light-p in omega (arith, l, q, p, c.requires.2)
 
 pub returns-then-after-gt8192 : goal.returns-then-after-gt8192
 returns-then-after-gt8192 c =

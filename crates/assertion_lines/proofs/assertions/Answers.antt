@@ -25,7 +25,7 @@ loop-roll-init c = (refl, c.requires.2, c.requires.1, λ prows vrows G W. assert
 pub assertion_at-assertion-requires : goal.assertion_at-assertion-requires
 assertion_at-assertion-requires c =
     let is-a : get_or c.args.text.now c.loop-roll.i 0 ≡ 65 = sym c.byte_at.ensures ∙ c.loop-roll-test.true in
-    (c.requires.0, is-a (c), c.loop-roll.invariant.1)
+    (c.requires.0, is-a, c.loop-roll.invariant.1)
 
 pub shape_of-assertions-in_default : goal.shape_of-assertions-in_default
 shape_of-assertions-in_default c = c.loop-roll.invariant.0

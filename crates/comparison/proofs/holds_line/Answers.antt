@@ -16,22 +16,22 @@ returns-then-stands c fs g h G = stands_held c.args.first.now c.args.line.now fs
 pub overflow_add-start : goal.overflow_add-start
 overflow_add-start c =
     let ended : EndsOf c.args.line.now 0 c.requires.2.field [] c.field_ends-ends.result = c.field_ends-ends.ensures c.requires.2.field [] c.requires.2.is_line in
-    let e = ended (c) in omega (arith, e.label_end, e.text_end, e.within)
+    let e = ended in omega (arith, e.label_end, e.text_end, e.within)
 
 pub slice_bounds-holds_field-count : goal.slice_bounds-holds_field-count
 slice_bounds-holds_field-count c =
     let ended : EndsOf c.args.line.now 0 c.requires.2.field [] c.field_ends-ends.result = c.field_ends-ends.ensures c.requires.2.field [] c.requires.2.is_line in
-    let e = ended (c) in omega (arith, e.label_end, e.text_end, e.within)
+    let e = ended in omega (arith, e.label_end, e.text_end, e.within)
 
 pub slice_bounds-holds_field-start : goal.slice_bounds-holds_field-start
 slice_bounds-holds_field-start c =
     let ended : EndsOf c.args.line.now 0 c.requires.2.field [] c.field_ends-ends.result = c.field_ends-ends.ensures c.requires.2.field [] c.requires.2.is_line in
-    let e = ended (c) in omega (arith, e.label_end, e.text_end, e.within)
+    let e = ended in omega (arith, e.label_end, e.text_end, e.within)
 
 pub slice_bounds-holds_field-end : goal.slice_bounds-holds_field-end
 slice_bounds-holds_field-end c =
     let ended : EndsOf c.args.line.now 0 c.requires.2.field [] c.field_ends-ends.result = c.field_ends-ends.ensures c.requires.2.field [] c.requires.2.is_line in
-    let e = ended (c) in omega (arith, e.label_end, e.text_end, e.within)
+    let e = ended in omega (arith, e.label_end, e.text_end, e.within)
 
 pub slice_bounds-holds_field-count-2 : goal.slice_bounds-holds_field-count-2
 slice_bounds-holds_field-count-2 c =

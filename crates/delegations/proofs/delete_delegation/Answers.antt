@@ -44,7 +44,7 @@ returns-then-delete_denied c s R =
     let to-of : Name = part c.args.text.now c.args.p in
     let command : Command = delete_delegation target-of from-of right_of to-of in
     let lent : Slices = let a = c.args in slices a.principals.now a.principal_slots.now a.vars.now a.variable_slots.now a.locals.now a.local_slots.now a.assertions.now in
-    let named : (s : Session) → Running s c.args.l lent → Names s target-of from-of to-of.asked-k.result = λ s R. let a = c.args in c.asked-k.ensures s a.locals.now a.local_slots.now a.assertions.now R in
+    let named : (s : Session) → Running s c.args.l lent → Names s target-of from-of to-of c.asked-k.result = λ s R. let a = c.args in c.asked-k.ensures s a.locals.now a.local_slots.now a.assertions.now R in
     let judged : (s : Session) → Running s c.args.l lent → c.delete_denied.result ≡ denied s command = λ s R. c.delete_denied.ensures s lent target-of from-of right_of to-of (record { running = R; stood = refl }) (named s R) in
     is_denied s command (sym (judged s R) ∙ c.if-delete_denied.true)
 
@@ -55,7 +55,7 @@ returns-then-missing c s R =
     let from-of : Name = part c.args.text.now c.args.q in
     let right_of : Right = right_meant c.args.right in
     let to-of : Name = part c.args.text.now c.args.p in
-    let named : (s : Session) → Running s c.args.l lent → Names s target-of from-of to-of.asked-k.result = λ s R. let a = c.args in c.asked-k.ensures s a.locals.now a.local_slots.now a.assertions.now R in
+    let named : (s : Session) → Running s c.args.l lent → Names s target-of from-of to-of c.asked-k.result = λ s R. let a = c.args in c.asked-k.ensures s a.locals.now a.local_slots.now a.assertions.now R in
     let command : Command = delete_delegation target-of from-of right_of to-of in
     let judged : (s : Session) → Running s c.args.l lent → c.delete_denied.result ≡ denied s command = λ s R. c.delete_denied.ensures s lent target-of from-of right_of to-of (record { running = R; stood = refl }) (named s R) in
     delete_fails s target-of from-of right_of to-of (sym (judged s R) ∙ c.if-delete_denied.false)
@@ -67,7 +67,7 @@ choose-count-requires c =
     let target-of : Target = target_meant c.args.text.now c.args.target in
     let from-of : Name = part c.args.text.now c.args.q in
     let to-of : Name = part c.args.text.now c.args.p in
-    let named : (s : Session) → Running s c.args.l lent → Names s target-of from-of to-of.asked-k.result = λ s R. let a = c.args in c.asked-k.ensures s a.locals.now a.local_slots.now a.assertions.now R in
+    let named : (s : Session) → Running s c.args.l lent → Names s target-of from-of to-of c.asked-k.result = λ s R. let a = c.args in c.asked-k.ensures s a.locals.now a.local_slots.now a.assertions.now R in
     (
       record { session = c.requires.some_running.session; buffers = lent; runs = record { running = c.requires.some_running.running; stood = refl } },
       c.requires.target_within.3,
@@ -82,13 +82,13 @@ withdraw_all-after-requires c =
     let from-of : Name = part c.args.text.now c.args.q in
     let right_of : Right = right_meant c.args.right in
     let to-of : Name = part c.args.text.now c.args.p in
-    let named : (s : Session) → Running s c.args.l lent → Names s target-of from-of to-of.asked-k.result = λ s R. let a = c.args in c.asked-k.ensures s a.locals.now a.local_slots.now a.assertions.now R in
+    let named : (s : Session) → Running s c.args.l lent → Names s target-of from-of to-of c.asked-k.result = λ s R. let a = c.args in c.asked-k.ensures s a.locals.now a.local_slots.now a.assertions.now R in
     let whole : (s : Session) → Running s c.args.l lent → complete s target-of from-of to-of ≡ true = λ s R. not-false _ (sym (c.missing.ensures s lent target-of from-of to-of R (named s R)) ∙ c.if-missing.false) in
-    let delegating : (s : Session) → Running s c.args.l lent → Delegates s c.args.l lent.choose-count.new.chosen c.choose-count.result c.asked-k.result.giver c.right_code-code.result c.asked-k.result.taker (targets s.store target-of from-of) from-of right_of to-of = λ s R. let z : length c.choose-count.new.chosen ≡ length c.args.targets.now = c.choose-count.auto.chosen in
+    let delegating : (s : Session) → Running s c.args.l lent → Delegates s c.args.l lent c.choose-count.new.chosen c.choose-count.result c.asked-k.result.giver c.right_code-code.result c.asked-k.result.taker (targets s.store target-of from-of) from-of right_of to-of = λ s R. let z : length c.choose-count.new.chosen ≡ length c.args.targets.now = c.choose-count.auto.chosen in
     let w : c.choose-count.result ≤ length c.choose-count.new.chosen = omega (arith, z, c.choose-count.ensures.within, c.requires.target_within.3) in
     let N = named s R in
     let k = whole s R in
-    delegates s target-of from-of right_of to-of.args.l lent.asked-k.result c.choose-count.new.chosen c.choose-count.result c.right_code-code.result R N k w
+    delegates s target-of from-of right_of to-of c.args.l lent c.asked-k.result c.choose-count.new.chosen c.choose-count.result c.right_code-code.result R N k w
     (c.choose-count.ensures.are s lent target-of from-of to-of (record { running = R; stood = refl }) N (giver_there s target-of from-of right_of to-of k))
     c.right_code-code.ensures in
     record { session = c.requires.some_running.session; variables_named = _; from = _; of_right = _; to = _; delegates = delegating c.requires.some_running.session c.requires.some_running.running }
@@ -101,14 +101,14 @@ returns c s R =
     let to-of : Name = part c.args.text.now c.args.p in
     let command : Command = delete_delegation target-of from-of right_of to-of in
     let lent : Slices = let a = c.args in slices a.principals.now a.principal_slots.now a.vars.now a.variable_slots.now a.locals.now a.local_slots.now a.assertions.now in
-    let named : (s : Session) → Running s c.args.l lent → Names s target-of from-of to-of.asked-k.result = λ s R. let a = c.args in c.asked-k.ensures s a.locals.now a.local_slots.now a.assertions.now R in
+    let named : (s : Session) → Running s c.args.l lent → Names s target-of from-of to-of c.asked-k.result = λ s R. let a = c.args in c.asked-k.ensures s a.locals.now a.local_slots.now a.assertions.now R in
     let judged : (s : Session) → Running s c.args.l lent → c.delete_denied.result ≡ denied s command = λ s R. c.delete_denied.ensures s lent target-of from-of right_of to-of (record { running = R; stood = refl }) (named s R) in
     let whole : (s : Session) → Running s c.args.l lent → complete s target-of from-of to-of ≡ true = λ s R. not-false _ (sym (c.missing.ensures s lent target-of from-of to-of R (named s R)) ∙ c.if-missing.false) in
-    let delegating : (s : Session) → Running s c.args.l lent → Delegates s c.args.l lent.choose-count.new.chosen c.choose-count.result c.asked-k.result.giver c.right_code-code.result c.asked-k.result.taker (targets s.store target-of from-of) from-of right_of to-of = λ s R. let z : length c.choose-count.new.chosen ≡ length c.args.targets.now = c.choose-count.auto.chosen in
+    let delegating : (s : Session) → Running s c.args.l lent → Delegates s c.args.l lent c.choose-count.new.chosen c.choose-count.result c.asked-k.result.giver c.right_code-code.result c.asked-k.result.taker (targets s.store target-of from-of) from-of right_of to-of = λ s R. let z : length c.choose-count.new.chosen ≡ length c.args.targets.now = c.choose-count.auto.chosen in
     let w : c.choose-count.result ≤ length c.choose-count.new.chosen = omega (arith, z, c.choose-count.ensures.within, c.requires.target_within.3) in
     let N = named s R in
     let k = whole s R in
-    delegates s target-of from-of right_of to-of.args.l lent.asked-k.result c.choose-count.new.chosen c.choose-count.result c.right_code-code.result R N k w
+    delegates s target-of from-of right_of to-of c.args.l lent c.asked-k.result c.choose-count.new.chosen c.choose-count.result c.right_code-code.result R N k w
     (c.choose-count.ensures.are s lent target-of from-of to-of (record { running = R; stood = refl }) N (giver_there s target-of from-of right_of to-of k))
     c.right_code-code.ensures in
     let t = target-of in

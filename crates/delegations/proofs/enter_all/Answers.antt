@@ -56,7 +56,7 @@ overflow_add-weight c =
       pair_short s a.l _ a.targets.now a.count a.q a.right a.p P.variables_named P.from P.of_right P.to P.delegates _
           (c.pair-pair.ensures (map principal_row s.store.principals) (principals_rows s.store.principals _ _ _ R.principals)),
     ) in
-    let h = short (c) in omega (arith, h.0)
+    let h = short in omega (arith, h.0)
 
 pub overflow_add-weight-in-loop-i : goal.overflow_add-weight-in-loop-i
 overflow_add-weight-in-loop-i c =
@@ -69,7 +69,7 @@ overflow_add-weight-in-loop-i c =
       pair_short s a.l _ a.targets.now a.count a.q a.right a.p P.variables_named P.from P.of_right P.to P.delegates _
           (c.pair-pair.ensures (map principal_row s.store.principals) (principals_rows s.store.principals _ _ _ R.principals)),
     ) in
-    let h = short (c) in omega (arith, h.0, h.1)
+    let h = short in omega (arith, h.0, h.1)
 
 pub packed-number-requires : goal.packed-number-requires
 packed-number-requires c =

@@ -54,7 +54,7 @@ overflow_add-weight c =
       pair_short s a.l _ a.targets.now a.count a.q a.right a.p P.variables_named P.from P.of_right P.to P.delegates _
           (c.pair-pair.ensures (map principal_row s.store.principals) (principals_rows s.store.principals _ _ _ R.principals)),
     ) in
-    let h = short (c) in omega (arith, h.0)
+    let h = short in omega (arith, h.0)
 
 pub overflow_add-weight-in-loop-i : goal.overflow_add-weight-in-loop-i
 overflow_add-weight-in-loop-i c =
@@ -67,7 +67,7 @@ overflow_add-weight-in-loop-i c =
       pair_short s a.l _ a.targets.now a.count a.q a.right a.p P.variables_named P.from P.of_right P.to P.delegates _
           (c.pair-pair.ensures (map principal_row s.store.principals) (principals_rows s.store.principals _ _ _ R.principals)),
     ) in
-    let h = short (c) in omega (arith, h.0, h.1)
+    let h = short in omega (arith, h.0, h.1)
 
 pub packed-requires : goal.packed-requires
 packed-requires c =
@@ -93,7 +93,7 @@ withdraw_one-k-requires c =
     (c.pair-pair.ensures (map principal_row s.store.principals) (principals_rows s.store.principals _ _ _ R.principals))
     (ap (λ (n : ℕ). n + 1 + c.pair-pair.result) (c.variable.ensures (map variable_row s.store.variables) (variables_rows s.store.variables _ _ _ R.variables))) in
     let P = c.requires in
-    record { session = _; buffers = _; assertion = _; asserts = one (c) P.session P.variables_named P.from P.of_right P.to P.delegates }
+    record { session = _; buffers = _; assertion = _; asserts = one P.session P.variables_named P.from P.of_right P.to P.delegates }
 
 pub overflow_add-i : goal.overflow_add-i
 overflow_add-i c = let h : c.loop-i.i < c.args.count = c.loop-i-test.true in omega (arith, h, c.ranges.count)

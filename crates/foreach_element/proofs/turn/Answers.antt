@@ -36,7 +36,7 @@ add_variable-end-requires c =
     let y_of : Text = part c.args.text.now c.args.y in
     (
       c.requires.room.scope_small,
-      omega (arith, c.requires.room.scope_size_lem, c.requires.some_turning.locals_short, (name_length y_of.requires.some_turning.y_named).1, text_bound (single c.requires.some_element.0.element) _ c.requires.some_element.0.held, c.requires.some_element.0.light),
+      omega (arith, c.requires.room.scope_size_lem, c.requires.some_turning.locals_short, (name_length y_of c.requires.some_turning.y_named).1, text_bound (single c.requires.some_element.0.element) _ c.requires.some_element.0.held, c.requires.some_element.0.light),
       c.requires.some_turning.slots_room,
     )
 
@@ -51,10 +51,10 @@ answer-r-requires c =
     let with-y : (s : Session) (x : Expr) (a : Element) → Turns s x → Holds (single a) c.args.element.now → let b = c.args in Asked (with_element s y_of a) x b.text.now (texts b.shared.now b.slots.now b.count c.add_variable-end.new.buf c.add_variable-end.new.slots) c.add_variable-end.result (b.number + 1) b.e = λ s x a I h. with_last I a c.add_variable-end.new.buf c.add_variable-end.result c.add_variable-end.new.slots
     (c.add_variable-end.ensures.held s.locals (single a) I.asked.held.locals_held c.requires.some_turning.y_named h.is_text_lem)
     (omega (arith, c.add_variable-end.ensures.outside.within, c.add_variable-end.auto.buf)) c.requires.some_turning.y_named h.is_valid in
-    let ends : c.add_variable-end.result ≤ 57605 = omega (arith, c.add_variable-end.ensures.size, c.requires.some_turning.locals_short, (name_length y_of.requires.some_turning.y_named).1, text_bound (single c.requires.some_element.0.element) _ c.requires.some_element.0.held, c.requires.some_element.0.light) in
+    let ends : c.add_variable-end.result ≤ 57605 = omega (arith, c.add_variable-end.ensures.size, c.requires.some_turning.locals_short, (name_length y_of c.requires.some_turning.y_named).1, text_bound (single c.requires.some_element.0.element) _ c.requires.some_element.0.held, c.requires.some_element.0.light) in
     record {
       some_asked = record {
-        session = with_element c.requires.some_turning.session y_of.requires.some_element.0.element;
+        session = with_element c.requires.some_turning.session y_of c.requires.some_element.0.element;
         expression = c.requires.some_turning.expression;
         asked = with-y c.requires.some_turning.session c.requires.some_turning.expression c.requires.some_element.0.element c.requires.some_turning.turning c.requires.some_element.0.held;
         sends = sends_with c.requires.some_turning.turning c.requires.some_element.0.element;
@@ -74,7 +74,7 @@ settled-requires c =
     (c.add_variable-end.ensures.held s.locals (single a) I.asked.held.locals_held c.requires.some_turning.y_named h.is_text_lem)
     (omega (arith, c.add_variable-end.ensures.outside.within, c.add_variable-end.auto.buf)) c.requires.some_turning.y_named h.is_valid in
     let answered : (s : Session) (x : Expr) (a : Element) → Turns s x → Holds (single a) c.args.element.now → let b = c.args in let t = with_element s y_of a in Tells c.answer-r.result t (names t x) (Expressions.value t x) c.answer-r.new.out × Asked t x b.text.now (texts b.shared.now b.slots.now b.count c.answer-r.new.scope c.answer-r.new.local_slots) c.add_variable-end.result (b.number + 1) b.e = λ s x a I h. c.answer-r.ensures (with_element s y_of a) x (with-y s x a I h) (sends_with I a) (knows_with I a) in
-    let t = with_element c.requires.some_turning.session y_of.requires.some_element.0.element in (
+    let t = with_element c.requires.some_turning.session y_of c.requires.some_element.0.element in (
       record {
         session = t;
         names = names t c.requires.some_turning.expression;

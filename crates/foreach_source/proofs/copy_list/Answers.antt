@@ -36,7 +36,7 @@ returns-then-not-list_read c s S =
 pub copy_in-n-requires : goal.copy_in-n-requires
 copy_in-n-requires c =
     let x-of : Text = part c.args.text.now c.args.x in
-    let k = read_fits c.requires.some_light.session x-of.text_of-value.result.now (c.text_of-value.ensures c.requires.some_light.session c.requires.some_light.scoped) c.requires.some_light.is_light in
+    let k = read_fits c.requires.some_light.session x-of c.text_of-value.result.now (c.text_of-value.ensures c.requires.some_light.session c.requires.some_light.scoped) c.requires.some_light.is_light in
     omega (arith, k, c.requires.within.2)
 
 pub returns : goal.returns

@@ -25,7 +25,7 @@ use Rattle.foreach_source.proofs.prepare.Goals as goal
 pub may_replace-requires : goal.may_replace-requires
 may_replace-requires c =
     let lent : Slices = let a = c.args in slices a.principals.now a.principal_slots.now a.vars.now a.variable_slots.now a.locals.now a.local_slots.now a.assertions.now in
-    record { session = c.requires.some_running.session; sending = sending c.requires.some_running.session c.args.l lent.requires.some_running.running }
+    record { session = c.requires.some_running.session; sending = sending c.requires.some_running.session c.args.l lent c.requires.some_running.running }
 
 pub returns-then-not-may_replace : goal.returns-then-not-may_replace
 returns-then-not-may_replace c s u R m =
@@ -36,7 +36,7 @@ pub copy_list-found-requires : goal.copy_list-found-requires
 copy_list-found-requires c =
     let lent : Slices = let a = c.args in slices a.principals.now a.principal_slots.now a.vars.now a.variable_slots.now a.locals.now a.local_slots.now a.assertions.now in
     record {
-      some_light = record { session = c.requires.some_running.session; scoped = scoped c.requires.some_running.session c.args.l lent.requires.some_running.running; is_light = omega (arith, c.requires.some_running.running.weighed, c.requires.some_running.running.light) };
+      some_light = record { session = c.requires.some_running.session; scoped = scoped c.requires.some_running.session c.args.l lent c.requires.some_running.running; is_light = omega (arith, c.requires.some_running.running.weighed, c.requires.some_running.running.light) };
       within = (c.requires.within.0, c.requires.within.1, c.requires.within.3);
     }
 
@@ -69,7 +69,7 @@ slice_bounds-known-end c = sym (length-take-le _ _ c.requires.some_running.runni
 pub known-known-requires : goal.known-known-requires
 known-known-requires c =
     let lent : Slices = let a = c.args in slices a.principals.now a.principal_slots.now a.vars.now a.variable_slots.now a.locals.now a.local_slots.now a.assertions.now in
-    (record { session = c.requires.some_running.session; sends = sends c.requires.some_running.session c.args.l lent.requires.some_running.running }, c.requires.within.2)
+    (record { session = c.requires.some_running.session; sends = sends c.requires.some_running.session c.args.l lent c.requires.some_running.running }, c.requires.within.2)
 
 pub returns : goal.returns
 returns c s u R m =

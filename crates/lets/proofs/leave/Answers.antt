@@ -37,7 +37,7 @@ answer-r-requires c =
         record { session = inner c.requires.some_left.reached a.e a.end here; scope = c.requires.some_left.reached.held },
         record { session = inner c.requires.some_left.reached a.e a.end here; sends = sends_any c.requires.some_left.reached.locals c.requires.some_left.sends },
       );
-      some_term = (some_term c.requires.some_left.reached a.e a.end here.requires.at_term.0.placed.0, c.requires.at_term.1);
+      some_term = (some_term c.requires.some_left.reached a.e a.end here c.requires.at_term.0.placed.0, c.requires.at_term.1);
       lent = c.requires.at_term.2;
     }
 

@@ -30,7 +30,7 @@ sink-requires c =
     let binds : (s : Session) (x : Expr) (base number : ℕ) (G : Gives s x base number) (r : Bound) → c.bind-b.result ≡ r → Binds r s G.top G.value after base number = λ s x base number G r e. subst (λ (q : Bound). Binds q s G.top G.value after base number) e (c.bind-b.ensures s G.top G.value base number (given_pushed G)) in
     let P = c.requires in
     let B = binds P.session P.expression P.base P.number P.given BoundIs.Heavy c.in-Heavy.is in
-    record { session = P.session; frames = P.given.rest; standing = given_standing P.given after.bind-b.auto.scope B.1 }
+    record { session = P.session; frames = P.given.rest; standing = given_standing P.given after c.bind-b.auto.scope B.1 }
 
 pub returns-in_default : goal.returns-in_default
 returns-in_default c s x base number G out = absurd (in_there G (sym c.expect-word.ensures.meant ∙ ap (next_meant c.args.text.now) c.in_default.is))
@@ -42,7 +42,7 @@ returns-in-Defined c s x base number G out =
     a.value.now a.weight in
     let binds : (s : Session) (x : Expr) (base number : ℕ) (G : Gives s x base number) (r : Bound) → c.bind-b.result ≡ r → Binds r s G.top G.value after base number = λ s x base number G r e. subst (λ (q : Bound). Binds q s G.top G.value after base number) e (c.bind-b.ensures s G.top G.value base number (given_pushed G)) in
     let B = binds s x base number G BoundIs.Defined c.in-Defined.is in
-    (given_fails G out B.0, given_base G after.bind-b.auto.scope B.1)
+    (given_fails G out B.0, given_base G after c.bind-b.auto.scope B.1)
 
 pub returns-in-Heavy : goal.returns-in-Heavy
 returns-in-Heavy c s x base number G out =
@@ -51,7 +51,7 @@ returns-in-Heavy c s x base number G out =
     a.value.now a.weight in
     let binds : (s : Session) (x : Expr) (base number : ℕ) (G : Gives s x base number) (r : Bound) → c.bind-b.result ≡ r → Binds r s G.top G.value after base number = λ s x base number G r e. subst (λ (q : Bound). Binds q s G.top G.value after base number) e (c.bind-b.ensures s G.top G.value base number (given_pushed G)) in
     let B = binds s x base number G BoundIs.Heavy c.in-Heavy.is in
-    (given_sinks G c.sink.result out B.0 (c.sink.ensures s G.rest (given_standing G after.bind-b.auto.scope B.1)), given_base G after.bind-b.auto.scope B.1)
+    (given_sinks G c.sink.result out B.0 (c.sink.ensures s G.rest (given_standing G after c.bind-b.auto.scope B.1)), given_base G after c.bind-b.auto.scope B.1)
 
 pub returns-in-At : goal.returns-in-At
 returns-in-At c s x base number G out =
@@ -62,4 +62,4 @@ returns-in-At c s x base number G out =
     let t = c.args.text.now in
     let O = binds s x base number G (BoundIs.Done c.in-Done.len c.in-Done.n c.in-Done.bound) c.in-Done.is in
     let p = subst (NextPlaced t c.args.at) c.in-At.is c.expect-word.ensures.placed in
-    (given_next G after.in-Done.len c.in-Done.n c.in-Done.bound c.in-At.p O (sym c.expect-word.ensures.meant ∙ ap (next_meant t) c.in-At.is) p.1, p.0)
+    (given_next G after c.in-Done.len c.in-Done.n c.in-Done.bound c.in-At.p O (sym c.expect-word.ensures.meant ∙ ap (next_meant t) c.in-At.is) p.1, p.0)

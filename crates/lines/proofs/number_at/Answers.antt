@@ -59,6 +59,6 @@ returns-then-n-gt4294967295 c =
 pub returns : goal.returns
 returns c =
     let field : Field (all is_digit) 10 c.args.text.now c.args.at c.digits_end-e.result = is_field is_digit 10 refl c.args.text.now c.args.at c.digits_end-e.result c.requires c.digits_end-e.ensures (omega arith) c.if-text-e-ne10.false in
-    let spelled : Spelled (part c.args.text.now c.args.at c.digits_end-e.result) = one_decimal c.args.text.now c.args.at c.digits_end-e.result field.if-e-at.false c.if-e-at-gt10.false
+    let spelled : Spelled (part c.args.text.now c.args.at c.digits_end-e.result) = one_decimal c.args.text.now c.args.at c.digits_end-e.result field c.if-e-at.false c.if-e-at-gt10.false
     (⊎_elim (λ w e. omega arith) (λ w e. absurd (w.left e)) c.if-text-at-eq48.branch) in
-    is_decimal c.args.text.now c.args.at c.digits_end-e.result field spelled.value_of-n.result c.value_of-n.ensures c.if-n-gt4294967295.false
+    is_decimal c.args.text.now c.args.at c.digits_end-e.result field spelled c.value_of-n.result c.value_of-n.ensures c.if-n-gt4294967295.false

@@ -38,7 +38,7 @@ answer-v-requires c =
         record { session = c.requires.some_running.session; sending = session-sends c.requires.some_running.session c.requires.some_running.running },
       );
       said = (c.requires.names.0.said, lent a.value.now a.labels.now c.requires.names.1.value_size c.requires.names.1.labels_size);
-      copyable = copyable c.requires.some_running.session a.l buffers.requires.some_running.running;
+      copyable = copyable c.requires.some_running.session a.l buffers c.requires.some_running.running;
     }
 
 pub is_defined-defined-requires : goal.is_defined-defined-requires
@@ -96,7 +96,7 @@ declare-done-requires c =
     let some_stored : Stores c.requires.some_running.session c.requires.names.0.said.expression.expression (not c.is_defined-defined.result) c.answer-v.new.value c.in-Value.len c.in-Value.weight = stored c.requires.some_running.session c.requires.names.0.said.expression.expression c.requires.some_running.running c.requires.names.0.said.expression.meant in
     let x = name_of in
     let H = some_stored.written in (
-      record { variables = c.requires.some_running.session.locals; lies = locals_lie c.requires.some_running.session c.args.l buffers.requires.some_running.running },
+      record { variables = c.requires.some_running.session.locals; lies = locals_lie c.requires.some_running.session c.args.l buffers c.requires.some_running.running },
       identifier_name x c.requires.names.0.name_holds,
       record { value = H.value; is_value = weighed H },
       c.requires.some_running.running.light,
@@ -114,7 +114,7 @@ returns-in-Over c s y R m =
     let answers : (s : Session) (y : Syntax.Expr) → Runs s → Says y → Answers c.answer-v.result s y c.answer-v.new.value = λ s y R m. c.answer-v.ensures s y (session-scoped s R) (session-sends s R) m in
     let x = name_of in
     over s (Syntax.local x y) y (not c.is_defined-defined.result) (local_effect s x) (does s y R) c.answer-v.new.value c.answer-v.result
-    (answers s y R m) c.settle.result c.settle.ensures _ buffers.in-Over.is
+    (answers s y R m) c.settle.result c.settle.ensures _ buffers c.in-Over.is
 
 pub returns-in-Value : goal.returns-in-Value
 returns-in-Value c s y R m =

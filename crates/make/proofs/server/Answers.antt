@@ -21,10 +21,10 @@ returns-then-not-is_string c =
 pub returns-then-password-gt1024 : goal.returns-then-password-gt1024
 returns-then-password-gt1024 c =
     let string-known : is_string c.args.password.now ≡ true = sym c.is_string.ensures ∙ not-false c.is_string.result c.if-not-is_string.false-raw in
-    make_long c.args.state.now c.args.password.now c.if-state-ne65536.false string-known.if-password-gt1024.true
+    make_long c.args.state.now c.args.password.now c.if-state-ne65536.false string-known c.if-password-gt1024.true
 
 pub returns : goal.returns
 returns c =
     let string-known : is_string c.args.password.now ≡ true = sym c.is_string.ensures ∙ not-false c.is_string.result c.if-not-is_string.false-raw in
     ap (λ (l : Text). record { answer = ready; lent = l }) c.put_fresh.ensures
-    ∙ make_done c.args.state.now c.args.password.now c.if-state-ne65536.false string-known.if-password-gt1024.false
+    ∙ make_done c.args.state.now c.args.password.now c.if-state-ne65536.false string-known c.if-password-gt1024.false

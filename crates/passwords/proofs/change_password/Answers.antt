@@ -33,7 +33,7 @@ pub returns-then-n-count : goal.returns-then-n-count
 returns-then-n-count c s R =
     let number_is : (s : Session) → let a = c.args in Running s a.l (slices a.principals.now a.principal_slots.now a.vars.now a.variable_slots.now a.locals.now a.local_slots.now a.assertions.now) → c.number_of-n.result ≡ position (principals_of s.store) (part a.text.now a.p) = λ s R. row_number s c.args.l _ R _ c.number_of-n.result c.number_of-n.ensures in
     let may : (c.args.l.sender ≡ 0) ⊎ (c.args.l.sender ≡ c.number_of-n.result) = ⊎_elim (λ w. inr w.1.left) (λ w. inl w.left) c.if-sender-ne0.branch in
-    password_failed s c.args.l _ R _ _ c.number_of-n.result (number_is s R) may.if-n-count.true
+    password_failed s c.args.l _ R _ _ c.number_of-n.result (number_is s R) may c.if-n-count.true
 
 pub password_weight-old-requires : goal.password_weight-old-requires
 password_weight-old-requires c =

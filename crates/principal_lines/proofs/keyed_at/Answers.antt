@@ -90,7 +90,7 @@ returns-in_default-secret c =
     let field : Field is_name 9 c.args.text.now (c.args.at + 2) c.in-At.m = subst (λ k. CutMeant is_name 9 c.args.text.now (c.args.at + 2) k) c.in-At.is c.name_end-name.ensures in
     let weighs : c.args.w + c.base.result + c.name_weight.result ≡ c.args.w + base_of form + name_weight (part c.args.text.now (c.args.at + 2) c.in-At.m) = λ i. c.args.w + c.base.ensures i + c.name_weight.ensures i in
     let meant : let a = c.args in let m = c.in-At.m in SecretMeant form a.text.now (m + 1) (a.w + base_of form + name_weight (part a.text.now (a.at + 2) m)) c.secret_at-secret.result = let a = c.args in
-    subst (λ (k : ℕ). SecretMeant form a.text.now (c.in-At.m + 1) k c.secret_at-secret.result) weighs.secret_at-secret.ensures in
+    subst (λ (k : ℕ). SecretMeant form a.text.now (c.in-At.m + 1) k c.secret_at-secret.result) weighs c.secret_at-secret.ensures in
     let a = c.args in
     keyed_secretless form a.text.now a.at a.w c.requires.1 c.requires.0 c.in-At.m field
     (subst (λ k. SecretMeant form a.text.now (c.in-At.m + 1) (a.w + base_of form + name_weight (part a.text.now (a.at + 2) c.in-At.m)) k) c.in_default-secret.is meant)
@@ -101,7 +101,7 @@ returns c =
     let field : Field is_name 9 c.args.text.now (c.args.at + 2) c.in-At.m = subst (λ k. CutMeant is_name 9 c.args.text.now (c.args.at + 2) k) c.in-At.is c.name_end-name.ensures in
     let weighs : c.args.w + c.base.result + c.name_weight.result ≡ c.args.w + base_of form + name_weight (part c.args.text.now (c.args.at + 2) c.in-At.m) = λ i. c.args.w + c.base.ensures i + c.name_weight.ensures i in
     let meant : let a = c.args in let m = c.in-At.m in SecretMeant form a.text.now (m + 1) (a.w + base_of form + name_weight (part a.text.now (a.at + 2) m)) c.secret_at-secret.result = let a = c.args in
-    subst (λ (k : ℕ). SecretMeant form a.text.now (c.in-At.m + 1) k c.secret_at-secret.result) weighs.secret_at-secret.ensures in
+    subst (λ (k : ℕ). SecretMeant form a.text.now (c.in-At.m + 1) k c.secret_at-secret.result) weighs c.secret_at-secret.ensures in
     let a = c.args in
-    keyed_good form a.text.now a.at a.w c.requires.1 c.requires.0 c.in-At.m field.in-Good.e c.in-Good.after
+    keyed_good form a.text.now a.at a.w c.requires.1 c.requires.0 c.in-At.m field c.in-Good.e c.in-Good.after
     (subst (λ k. SecretMeant form a.text.now (c.in-At.m + 1) (a.w + base_of form + name_weight (part a.text.now (a.at + 2) c.in-At.m)) k) c.in-Good.is meant)

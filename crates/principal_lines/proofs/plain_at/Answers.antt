@@ -118,4 +118,4 @@ returns c =
     let weighs : c.args.w + c.base.result + c.name_weight.result ≡ c.args.w + base_of form + name_weight (part c.args.text.now (c.args.at + 2) c.in-At.m) = λ i. c.args.w + c.base.ensures i + c.name_weight.ensures i in
     let a = c.args in
     let r = subst (λ k. TailMeant form a.text.now (c.in-At.m + 1) k) c.in-At-tail.is c.tail_at-tail.ensures in
-    plain_good form a.text.now a.at a.w c.requires.1 c.requires.0 c.in-At.m field r.0 _ _ r.1 weighs.if-after-gt8192.false
+    plain_good form a.text.now a.at a.w c.requires.1 c.requires.0 c.in-At.m field r.0 _ _ r.1 weighs c.if-after-gt8192.false

@@ -87,7 +87,7 @@ enter-requires c =
     let entitled : let f = form_meant c.args.form in Entitled (λ (k : Principal). k.name) (principal_in f) (valid_principal_in f) (principal_weight_in f) any_text c.args.text.now c.loop-form.i c.loop-form.now c.in-Good.m c.in-Good.e c.in-Good.after = subst (λ k. PrincipalMeant (form_meant c.args.form) c.args.text.now c.loop-form.i c.loop-form.now k) c.in-Good.is c.principal_at-line.ensures in
     let a = c.args in
     let l = c.loop-form in
-    principal_entering (form_meant a.form) a.text.now a.at l.slots l.i l.n l.now l.invariant.2 on _ _ _ entitled.requires.1 whole
+    principal_entering (form_meant a.form) a.text.now a.at l.slots l.i l.n l.now l.invariant.2 on _ _ _ entitled c.requires.1 whole
 
 pub shape_of-slots-then-not-enter : goal.shape_of-slots-then-not-enter
 shape_of-slots-then-not-enter c = c.enter.auto.slots ∙ c.loop-form.invariant.0
@@ -100,7 +100,7 @@ returns-then-not-enter c =
     let entered : (b : Bool) → c.enter.result ≡ b → (rows : List Row) → let l = c.loop-form in let t = c.args.text.now in Rows rows (part t c.args.at l.i) l.n l.slots → Entered rows (part t (l.i + 2) c.in-Good.m) (l.i - c.args.at) l.n l.slots c.enter.new.slots b = λ b e rows H. let l = c.loop-form in subst (λ k. Entered rows (part c.args.text.now (l.i + 2) c.in-Good.m) (l.i - c.args.at) l.n l.slots c.enter.new.slots k) e (c.enter.ensures rows H) in
     let a = c.args in
     let l = c.loop-form in
-    principal_again (form_meant a.form) a.text.now a.at l.slots l.i l.n l.now l.invariant.2 on _ _ _ entitled _ letter.requires.1 c.enter.new.slots
+    principal_again (form_meant a.form) a.text.now a.at l.slots l.i l.n l.now l.invariant.2 on _ _ _ entitled _ letter c.requires.1 c.enter.new.slots
     (entered false (not-true c.enter.result c.if-not-enter.true-raw))
 
 pub overflow_add-n : goal.overflow_add-n
@@ -110,7 +110,7 @@ overflow_add-n c =
     let entitled : let f = form_meant c.args.form in Entitled (λ (k : Principal). k.name) (principal_in f) (valid_principal_in f) (principal_weight_in f) any_text c.args.text.now c.loop-form.i c.loop-form.now c.in-Good.m c.in-Good.e c.in-Good.after = subst (λ k. PrincipalMeant (form_meant c.args.form) c.args.text.now c.loop-form.i c.loop-form.now k) c.in-Good.is c.principal_at-line.ensures in
     let a = c.args in
     let l = c.loop-form in
-    let h = principal_entering (form_meant a.form) a.text.now a.at l.slots l.i l.n l.now l.invariant.2 on _ _ _ entitled.requires.1 whole in
+    let h = principal_entering (form_meant a.form) a.text.now a.at l.slots l.i l.n l.now l.invariant.2 on _ _ _ entitled c.requires.1 whole in
     omega (arith, h.room)
 
 pub loop-form-smaller : goal.loop-form-smaller
@@ -132,7 +132,7 @@ loop-form-preserved c =
     let l = c.loop-form in (
       c.enter.auto.slots ∙ l.invariant.0,
       principal_light (form_meant a.form) a.text.now a.at l.slots l.i l.n l.now l.invariant.2 on _ _ _ entitled,
-      principal_next (form_meant a.form) a.text.now a.at l.slots l.i l.n l.now l.invariant.2 on _ _ _ entitled _ letter.requires.1 c.enter.new.slots whole
+      principal_next (form_meant a.form) a.text.now a.at l.slots l.i l.n l.now l.invariant.2 on _ _ _ entitled _ letter c.requires.1 c.enter.new.slots whole
           (sym c.in_place.ensures ∙ not-false c.in_place.result c.if-not-in_place.false-raw) (entered true (not-false c.enter.result c.if-not-enter.false-raw)),
     )
 
@@ -143,7 +143,7 @@ pub returns-then-n-lt2 : goal.returns-then-n-lt2
 returns-then-n-lt2 c =
     let off : T (off_principal (drop c.loop-form.i c.args.text.now)) = subst (λ (b : Bool). T b) (sym (not-false (off_principal (drop c.loop-form.i c.args.text.now)) (sym c.goes_on.ensures ∙ c.loop-form-test.false))) tt in
     let l = c.loop-form in
-    too_few (form_meant c.args.form) c.args.text.now c.args.at l.slots l.i l.n l.now l.invariant.2 off.if-n-lt2.true l.invariant.1
+    too_few (form_meant c.args.form) c.args.text.now c.args.at l.slots l.i l.n l.now l.invariant.2 off c.if-n-lt2.true l.invariant.1
 
 pub shape_of-slots : goal.shape_of-slots
 shape_of-slots c = c.loop-form.invariant.0
@@ -152,4 +152,4 @@ pub returns : goal.returns
 returns c =
     let off : T (off_principal (drop c.loop-form.i c.args.text.now)) = subst (λ (b : Bool). T b) (sym (not-false (off_principal (drop c.loop-form.i c.args.text.now)) (sym c.goes_on.ensures ∙ c.loop-form-test.false))) tt in
     let l = c.loop-form in
-    principals_good (form_meant c.args.form) c.args.text.now c.args.at l.slots l.i l.n l.now l.invariant.2 off.if-n-lt2.false l.invariant.1 c.requires.1
+    principals_good (form_meant c.args.form) c.args.text.now c.args.at l.slots l.i l.n l.now l.invariant.2 off c.if-n-lt2.false l.invariant.1 c.requires.1

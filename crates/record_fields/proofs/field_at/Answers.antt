@@ -73,7 +73,7 @@ returns-in_default-string c =
     let tabbed : get_or c.args.text.now (c.args.at + 1) 0 ≡ 9 = sym c.byte_at.ensures ∙ c.if-byte_at-ne9.false in
     let field : let a = c.args in Field is_name 9 a.text.now (a.at + 2) c.in-At.m = let a = c.args in subst (λ k. CutMeant is_name 9 a.text.now (a.at + 2) k) c.in-At.is c.name_end-label.ensures in
     let a = c.args in
-    field_stringless a.text.now a.at a.w c.requires.0 tabbed.in-At.m field
+    field_stringless a.text.now a.at a.w c.requires.0 tabbed c.in-At.m field
     (subst (λ k. StringMeant a.text.now (c.in-At.m + 1) (a.w + 1 + (c.in-At.m - (a.at + 2))) k) c.in_default-string.is c.string_at-string.ensures)
 
 pub returns : goal.returns
@@ -81,5 +81,5 @@ returns c =
     let tabbed : get_or c.args.text.now (c.args.at + 1) 0 ≡ 9 = sym c.byte_at.ensures ∙ c.if-byte_at-ne9.false in
     let field : let a = c.args in Field is_name 9 a.text.now (a.at + 2) c.in-At.m = let a = c.args in subst (λ k. CutMeant is_name 9 a.text.now (a.at + 2) k) c.in-At.is c.name_end-label.ensures in
     let a = c.args in
-    field_good a.text.now a.at a.w c.requires.0 tabbed.in-At.m field.in-Good.e c.in-Good.after
+    field_good a.text.now a.at a.w c.requires.0 tabbed c.in-At.m field c.in-Good.e c.in-Good.after
     (subst (λ k. StringMeant a.text.now (c.in-At.m + 1) (a.w + 1 + (c.in-At.m - (a.at + 2))) k) c.in-Good.is c.string_at-string.ensures)

@@ -27,7 +27,7 @@ loop-line-init c = (refl, c.requires.weighed, fields_start c.args.text.now c.arg
 pub field_at-line-requires : goal.field_at-line-requires
 field_at-line-requires c =
     let is_f : get_or c.args.text.now c.loop-line.i 0 ≡ 70 = sym c.byte_at.ensures ∙ c.loop-line-test.true in
-    (is_f (c), c.loop-line.invariant.1)
+    (is_f, c.loop-line.invariant.1)
 
 pub shape_of-slots-in_default : goal.shape_of-slots-in_default
 shape_of-slots-in_default c = c.loop-line.invariant.0
@@ -47,7 +47,7 @@ enter-requires c =
     let entitled : Entitled (λ (f : Field). f.label) field_text valid_field field_weight any_text c.args.text.now c.loop-line.i c.loop-line.now c.in-Good.m c.in-Good.e c.in-Good.after = subst (λ k. FieldMeant c.args.text.now c.loop-line.i c.loop-line.now k) c.in-Good.is c.field_at-line.ensures in
     let a = c.args in
     let l = c.loop-line in
-    field_entering a.text.now a.at a.w l.slots l.i l.n l.now l.invariant.2 is_f _ _ _ entitled.requires.small roomy
+    field_entering a.text.now a.at a.w l.slots l.i l.n l.now l.invariant.2 is_f _ _ _ entitled c.requires.small roomy
 
 pub shape_of-slots-then-not-enter : goal.shape_of-slots-then-not-enter
 shape_of-slots-then-not-enter c = c.enter.auto.slots ∙ c.loop-line.invariant.0
@@ -59,14 +59,14 @@ returns-then-not-enter c =
     let entered : (b : Bool) → c.enter.result ≡ b → (rows : List Row) → let l = c.loop-line in let t = c.args.text.now in Rows rows (part t c.args.at l.i) l.n l.slots → Entered rows (part t (l.i + 2) c.in-Good.m) (l.i - c.args.at) l.n l.slots c.enter.new.slots b = λ b e rows H. let l = c.loop-line in subst (λ k. Entered rows (part c.args.text.now (l.i + 2) c.in-Good.m) (l.i - c.args.at) l.n l.slots c.enter.new.slots k) e (c.enter.ensures rows H) in
     let a = c.args in
     let l = c.loop-line in
-    field_again a.text.now a.at a.w l.slots l.i l.n l.now l.invariant.2 is_f _ _ _ entitled.requires.small c.enter.new.slots (entered false (not-true _ c.if-not-enter.true-raw))
+    field_again a.text.now a.at a.w l.slots l.i l.n l.now l.invariant.2 is_f _ _ _ entitled c.requires.small c.enter.new.slots (entered false (not-true _ c.if-not-enter.true-raw))
 
 pub overflow_add-n : goal.overflow_add-n
 overflow_add-n c =
     let is_f : get_or c.args.text.now c.loop-line.i 0 ≡ 70 = sym c.byte_at.ensures ∙ c.loop-line-test.true in
     let roomy : 8192 ≤ c.args.w + 2 * length c.loop-line.slots = omega (arith, c.requires.room, c.loop-line.invariant.0) in
     let entitled : Entitled (λ (f : Field). f.label) field_text valid_field field_weight any_text c.args.text.now c.loop-line.i c.loop-line.now c.in-Good.m c.in-Good.e c.in-Good.after = subst (λ k. FieldMeant c.args.text.now c.loop-line.i c.loop-line.now k) c.in-Good.is c.field_at-line.ensures in
-    let h = field_entering c.args.text.now c.args.at c.args.w c.loop-line.slots c.loop-line.i c.loop-line.n c.loop-line.now c.loop-line.invariant.2 is_f _ _ _ entitled.requires.small roomy in omega (arith, h.room)
+    let h = field_entering c.args.text.now c.args.at c.args.w c.loop-line.slots c.loop-line.i c.loop-line.n c.loop-line.now c.loop-line.invariant.2 is_f _ _ _ entitled c.requires.small roomy in omega (arith, h.room)
 
 pub loop-line-smaller : goal.loop-line-smaller
 loop-line-smaller c =
@@ -89,7 +89,7 @@ loop-line-preserved c =
     let k = field_light a.text.now a.at a.w l.slots l.i l.n l.now l.invariant.2 is_f _ _ _ entitled in (
       c.enter.auto.slots ∙ l.invariant.0,
       omega (arith, k),
-      field_next a.text.now a.at a.w l.slots l.i l.n l.now l.invariant.2 is_f _ _ _ entitled.requires.small _ roomy (entered true (not-false _ c.if-not-enter.false-raw)),
+      field_next a.text.now a.at a.w l.slots l.i l.n l.now l.invariant.2 is_f _ _ _ entitled c.requires.small _ roomy (entered true (not-false _ c.if-not-enter.false-raw)),
     )
 
 pub shape_of-slots-then-now-gt8192 : goal.shape_of-slots-then-now-gt8192

@@ -30,7 +30,7 @@ pub returns-then-first-eq83 : goal.returns-then-first-eq83
 returns-then-first-eq83 c =
     let is-s : get_or c.args.text.now c.args.at 0 ≡ 83 = sym c.byte_at-first.ensures ∙ c.if-first-eq83.true in
     let is-tab : get_or c.args.text.now (c.args.at + 1) 0 ≡ 9 = sym c.byte_at.ensures ∙ c.if-byte_at-ne9.false in
-    string_element_lem c.args.text.now c.args.at c.args.w is-s is-tab.string_at.result c.string_at.ensures
+    string_element_lem c.args.text.now c.args.at c.args.w is-s is-tab c.string_at.result c.string_at.ensures
 
 pub returns-then-first-ne82 : goal.returns-then-first-ne82
 returns-then-first-ne82 c = element_none c.args.text.now c.args.at c.args.w (λ z. c.if-first-eq83.false (c.byte_at-first.ensures ∙ z)) (λ z. c.if-first-ne82.true (c.byte_at-first.ensures ∙ z))
@@ -59,11 +59,11 @@ returns-then-n-eq0 c =
     let is-r : get_or c.args.text.now c.args.at 0 ≡ 82 = sym c.byte_at-first.ensures ∙ c.if-first-ne82.false in
     let is_line : get_or c.args.text.now (c.args.at + 1) 0 ≡ 10 = sym c.byte_at-2.ensures ∙ c.if-byte_at-ne10.false in
     let found : Records field_text valid_field distinct_labels field_weight off_field c.args.text.now (c.args.at + 2) c.args.w c.in-Good.e c.in-Good.n c.in-Good.after = subst (λ k. FieldsMeant c.args.text.now (c.args.at + 2) c.args.w k) c.in-Good.is c.fields-found.ensures in
-    record_empty c.args.text.now c.args.at c.args.w is-r is_line _ _ _ found.if-n-eq0.true
+    record_empty c.args.text.now c.args.at c.args.w is-r is_line _ _ _ found c.if-n-eq0.true
 
 pub returns : goal.returns
 returns c =
     let is-r : get_or c.args.text.now c.args.at 0 ≡ 82 = sym c.byte_at-first.ensures ∙ c.if-first-ne82.false in
     let is_line : get_or c.args.text.now (c.args.at + 1) 0 ≡ 10 = sym c.byte_at-2.ensures ∙ c.if-byte_at-ne10.false in
     let found : Records field_text valid_field distinct_labels field_weight off_field c.args.text.now (c.args.at + 2) c.args.w c.in-Good.e c.in-Good.n c.in-Good.after = subst (λ k. FieldsMeant c.args.text.now (c.args.at + 2) c.args.w k) c.in-Good.is c.fields-found.ensures in
-    record_element c.args.text.now c.args.at c.args.w is-r is_line _ _ _ found.if-n-eq0.false
+    record_element c.args.text.now c.args.at c.args.w is-r is_line _ _ _ found c.if-n-eq0.false

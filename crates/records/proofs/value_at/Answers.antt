@@ -31,4 +31,4 @@ pub returns : goal.returns
 returns c =
     let is-l : get_or c.args.text.now c.args.at 0 ≡ 76 = sym c.byte_at.ensures ∙ c.if-byte_at-ne76.false in
     let is_line : get_or c.args.text.now (c.args.at + 1) 0 ≡ 10 = sym c.byte_at-2.ensures ∙ c.if-byte_at-ne10.false in
-    list_value c.args.text.now c.args.at c.args.w is-l is_line.elements.result c.elements.ensures
+    list_value c.args.text.now c.args.at c.args.w is-l is_line c.elements.result c.elements.ensures

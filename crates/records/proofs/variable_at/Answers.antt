@@ -46,7 +46,7 @@ returns-then-before-gt8192 c =
     let tabbed : get_or c.args.text.now (c.args.at + 1) 0 ≡ 9 = sym c.byte_at.ensures ∙ c.if-byte_at-ne9.false in
     let field : let a = c.args in Field is_name 9 a.text.now (a.at + 2) c.in-At.m = let a = c.args in subst (λ k. CutMeant is_name 9 a.text.now (a.at + 2) k) c.in-At.is c.name_end-name.ensures in
     let a = c.args in
-    variable_heavy a.text.now a.at a.w c.requires.1 tabbed.in-At.m field.if-before-gt8192.true
+    variable_heavy a.text.now a.at a.w c.requires.1 tabbed c.in-At.m field c.if-before-gt8192.true
 
 pub overflow_add-m : goal.overflow_add-m
 overflow_add-m c =
@@ -65,7 +65,7 @@ returns-in_default-value c =
     let tabbed : get_or c.args.text.now (c.args.at + 1) 0 ≡ 9 = sym c.byte_at.ensures ∙ c.if-byte_at-ne9.false in
     let field : let a = c.args in Field is_name 9 a.text.now (a.at + 2) c.in-At.m = let a = c.args in subst (λ k. CutMeant is_name 9 a.text.now (a.at + 2) k) c.in-At.is c.name_end-name.ensures in
     let a = c.args in
-    variable_valueless a.text.now a.at a.w c.requires.1 tabbed.in-At.m field
+    variable_valueless a.text.now a.at a.w c.requires.1 tabbed c.in-At.m field
     (subst (λ k. ValueMeant a.text.now (c.in-At.m + 1) (a.w + 1 + (c.in-At.m - (a.at + 2))) k) c.in_default-value.is c.value_at-value.ensures)
 
 pub returns : goal.returns
@@ -73,5 +73,5 @@ returns c =
     let tabbed : get_or c.args.text.now (c.args.at + 1) 0 ≡ 9 = sym c.byte_at.ensures ∙ c.if-byte_at-ne9.false in
     let field : let a = c.args in Field is_name 9 a.text.now (a.at + 2) c.in-At.m = let a = c.args in subst (λ k. CutMeant is_name 9 a.text.now (a.at + 2) k) c.in-At.is c.name_end-name.ensures in
     let a = c.args in
-    variable_good a.text.now a.at a.w c.requires.1 tabbed.in-At.m field.in-Good.e c.in-Good.after
+    variable_good a.text.now a.at a.w c.requires.1 tabbed c.in-At.m field c.in-Good.e c.in-Good.after
     (subst (λ k. ValueMeant a.text.now (c.in-At.m + 1) (a.w + 1 + (c.in-At.m - (a.at + 2))) k) c.in-Good.is c.value_at-value.ensures)

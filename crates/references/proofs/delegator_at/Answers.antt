@@ -22,7 +22,7 @@ pub overflow_add-at : goal.overflow_add-at
 overflow_add-at c =
     let is-d : get_or c.args.text.now c.args.at 0 ≡ 68 = sym c.byte_at.ensures ∙ c.if-byte_at-ne68.false in
     let near : c.args.at < length c.args.text.now = inside c.args.text.now c.args.at (omega (arith, is-d)) in
-    let h = near (c) in omega (arith, h)
+    let h = near in omega (arith, h)
 
 pub returns-then-byte_at-ne9 : goal.returns-then-byte_at-ne9
 returns-then-byte_at-ne9 c = λ rows H. delegator_tab rows c.args.text.now c.args.at (λ e. c.if-byte_at-ne9.true (c.byte_at-2.ensures ∙ e))
@@ -31,13 +31,13 @@ pub overflow_add-at-2 : goal.overflow_add-at-2
 overflow_add-at-2 c =
     let is-tab : get_or c.args.text.now (c.args.at + 1) 0 ≡ 9 = sym c.byte_at-2.ensures ∙ c.if-byte_at-ne9.false in
     let far : c.args.at + 1 < length c.args.text.now = inside c.args.text.now (c.args.at + 1) (omega (arith, is-tab)) in
-    let h = far (c) in omega (arith, h)
+    let h = far in omega (arith, h)
 
 pub known_at-name-requires : goal.known_at-name-requires
 known_at-name-requires c =
     let is-tab : get_or c.args.text.now (c.args.at + 1) 0 ≡ 9 = sym c.byte_at-2.ensures ∙ c.if-byte_at-ne9.false in
     let far : c.args.at + 1 < length c.args.text.now = inside c.args.text.now (c.args.at + 1) (omega (arith, is-tab)) in
-    let h = far (c) in
+    let h = far in
     record { start = omega (arith, h); outside = refl; order = c.requires.0; within = c.requires.1; some = c.requires.2 }
 
 pub returns-in_default : goal.returns-in_default

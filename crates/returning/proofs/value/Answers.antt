@@ -19,9 +19,9 @@ pub any_answer-r-requires : goal.any_answer-r-requires
 any_answer-r-requires c =
     let lent : Slices = let a = c.args in slices a.principals.now a.principal_slots.now a.vars.now a.variable_slots.now a.locals.now a.local_slots.now a.assertions.now in
     record {
-      some_scoped = (record { session = c.requires.some_running.session; scoped = scoped c.requires.some_running.session _ lent.requires.some_running.running }, record { session = c.requires.some_running.session; sending = sending c.requires.some_running.session _ lent.requires.some_running.running });
+      some_scoped = (record { session = c.requires.some_running.session; scoped = scoped c.requires.some_running.session _ lent c.requires.some_running.running }, record { session = c.requires.some_running.session; sending = sending c.requires.some_running.session _ lent c.requires.some_running.running });
       said = (record { expression = c.requires.some_expr.0; short = c.requires.some_expr.1 }, c.requires.lent);
-      copyable = copyable c.requires.some_running.session _ lent.requires.some_running.running;
+      copyable = copyable c.requires.some_running.session _ lent c.requires.some_running.running;
     }
 
 pub returns : goal.returns

@@ -12,31 +12,31 @@ use Rattle.run.proofs.program.Goals as goal
 pub returns-then-output-ne65536 : goal.returns-then-output-ne65536
 returns-then-output-ne65536 c =
     let lent : Buffers = let a = c.args in record { state = a.state.now; work = a.work.now; output = a.output.now } in
-    run_output lent.args.program.now c.if-output-ne65536.true
+    run_output lent c.args.program.now c.if-output-ne65536.true
 
 pub returns-then-state-ne65536 : goal.returns-then-state-ne65536
 returns-then-state-ne65536 c =
     let lent : Buffers = let a = c.args in record { state = a.state.now; work = a.work.now; output = a.output.now } in
-    run_state lent.args.program.now c.if-output-ne65536.false c.if-state-ne65536.true
+    run_state lent c.args.program.now c.if-output-ne65536.false c.if-state-ne65536.true
 
 pub returns-then-work-ne65536 : goal.returns-then-work-ne65536
 returns-then-work-ne65536 c =
     let lent : Buffers = let a = c.args in record { state = a.state.now; work = a.work.now; output = a.output.now } in
-    run_work lent.args.program.now c.if-output-ne65536.false c.if-state-ne65536.false c.if-work-ne65536.true
+    run_work lent c.args.program.now c.if-output-ne65536.false c.if-state-ne65536.false c.if-work-ne65536.true
 
 pub returns-then-not-parts : goal.returns-then-not-parts
 returns-then-not-parts c =
     let lent : Buffers = let a = c.args in record { state = a.state.now; work = a.work.now; output = a.output.now } in
     let meant : Checked → Type 0 = λ r. CheckedMeant c.args.state.now c.check-checked.new.principals c.check-checked.new.vars c.check-checked.new.assertions r in
-    let understood : Understood c.args.state.now c.check-checked.new.principals c.check-checked.new.vars c.check-checked.new.assertions c.in-Good.parts = subst meant.in-Good.is c.check-checked.ensures in
+    let understood : Understood c.args.state.now c.check-checked.new.principals c.check-checked.new.vars c.check-checked.new.assertions c.in-Good.parts = subst meant c.in-Good.is c.check-checked.ensures in
     let u = understood in
-    run_closed lent.args.program.now c.if-output-ne65536.false c.if-state-ne65536.false c.if-work-ne65536.false u.state u.decoded
+    run_closed lent c.args.program.now c.if-output-ne65536.false c.if-state-ne65536.false c.if-work-ne65536.false u.state u.decoded
     (sym u.represents.is_open ∙ not-true c.in-Good.parts.«open» c.if-not-parts.true)
 
 pub start-requires : goal.start-requires
 start-requires c =
     let meant : Checked → Type 0 = λ r. CheckedMeant c.args.state.now c.check-checked.new.principals c.check-checked.new.vars c.check-checked.new.assertions r in
-    let understood : Understood c.args.state.now c.check-checked.new.principals c.check-checked.new.vars c.check-checked.new.assertions c.in-Good.parts = subst meant.in-Good.is c.check-checked.ensures in
+    let understood : Understood c.args.state.now c.check-checked.new.principals c.check-checked.new.vars c.check-checked.new.assertions c.in-Good.parts = subst meant c.in-Good.is c.check-checked.ensures in
     record {
       understood = understood;
       state_len = (c.if-state-ne65536.false, c.if-work-ne65536.false, c.if-output-ne65536.false);
@@ -47,15 +47,15 @@ pub returns-in-Bad : goal.returns-in-Bad
 returns-in-Bad c =
     let lent : Buffers = let a = c.args in record { state = a.state.now; work = a.work.now; output = a.output.now } in
     let meant : Checked → Type 0 = λ r. CheckedMeant c.args.state.now c.check-checked.new.principals c.check-checked.new.vars c.check-checked.new.assertions r in
-    run_form lent.args.program.now c.if-output-ne65536.false c.if-state-ne65536.false c.if-work-ne65536.false
-    (subst meant.in-Bad.is c.check-checked.ensures)
+    run_form lent c.args.program.now c.if-output-ne65536.false c.if-state-ne65536.false c.if-work-ne65536.false
+    (subst meant c.in-Bad.is c.check-checked.ensures)
 
 pub returns-else-not-parts : goal.returns-else-not-parts
 returns-else-not-parts c =
     let lent : Buffers = let a = c.args in record { state = a.state.now; work = a.work.now; output = a.output.now } in
     let meant : Checked → Type 0 = λ r. CheckedMeant c.args.state.now c.check-checked.new.principals c.check-checked.new.vars c.check-checked.new.assertions r in
-    let understood : Understood c.args.state.now c.check-checked.new.principals c.check-checked.new.vars c.check-checked.new.assertions c.in-Good.parts = subst meant.in-Good.is c.check-checked.ensures in
+    let understood : Understood c.args.state.now c.check-checked.new.principals c.check-checked.new.vars c.check-checked.new.assertions c.in-Good.parts = subst meant c.in-Good.is c.check-checked.ensures in
     let u = understood in
     c.start.ensures u
-    ∙ run_done lent.args.program.now c.if-output-ne65536.false c.if-state-ne65536.false c.if-work-ne65536.false u.state u.decoded
+    ∙ run_done lent c.args.program.now c.if-output-ne65536.false c.if-state-ne65536.false c.if-work-ne65536.false u.state u.decoded
     (sym u.represents.is_open ∙ not-false c.in-Good.parts.«open» c.if-not-parts.false)

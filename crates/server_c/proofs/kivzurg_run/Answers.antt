@@ -12,11 +12,11 @@ use Rattle.server_c.proofs.kivzurg_run.Goals as goal
 pub wire-requires : goal.wire-requires
 wire-requires c =
     let lent : Buffers = let a = c.args in record { state = a.state.now; work = a.work.now; output = a.output.now } in
-    let answer-is : answer_meant c.program-a.result ≡ (run_call lent.args.program.now).answer = ap (λ (k : Reply Buffers). k.answer) c.program-a.ensures in
-    subst Fits (sym answer-is) (run_fits lent.args.program.now)
+    let answer-is : answer_meant c.program-a.result ≡ (run_call lent c.args.program.now).answer = ap (λ (k : Reply Buffers). k.answer) c.program-a.ensures in
+    subst Fits (sym answer-is) (run_fits lent c.args.program.now)
 
 pub returns : goal.returns
 returns c =
     let lent : Buffers = let a = c.args in record { state = a.state.now; work = a.work.now; output = a.output.now } in
-    let answer-is : answer_meant c.program-a.result ≡ (run_call lent.args.program.now).answer = ap (λ (k : Reply Buffers). k.answer) c.program-a.ensures in
+    let answer-is : answer_meant c.program-a.result ≡ (run_call lent c.args.program.now).answer = ap (λ (k : Reply Buffers). k.answer) c.program-a.ensures in
     (c.wire.ensures ∙ ap Wire.wire answer-is, ap (λ (k : Reply Buffers). k.lent) c.program-a.ensures)

@@ -12,11 +12,11 @@ use Rattle.server_c.proofs.kivzurg_sheet.Goals as goal
 pub wire-requires : goal.wire-requires
 wire-requires c =
     let lent : SheetBuffers = let a = c.args in record { state = a.state.now; output = a.output.now } in
-    let answer-is : answer_meant c.variable-a.result ≡ (sheet_call lent.args.variable.now).answer = ap (λ (k : Reply SheetBuffers). k.answer) c.variable-a.ensures in
+    let answer-is : answer_meant c.variable-a.result ≡ (sheet_call lent c.args.variable.now).answer = ap (λ (k : Reply SheetBuffers). k.answer) c.variable-a.ensures in
     subst Fits (sym answer-is) (sheet_fits_answer lent _)
 
 pub returns : goal.returns
 returns c =
     let lent : SheetBuffers = let a = c.args in record { state = a.state.now; output = a.output.now } in
-    let answer-is : answer_meant c.variable-a.result ≡ (sheet_call lent.args.variable.now).answer = ap (λ (k : Reply SheetBuffers). k.answer) c.variable-a.ensures in
+    let answer-is : answer_meant c.variable-a.result ≡ (sheet_call lent c.args.variable.now).answer = ap (λ (k : Reply SheetBuffers). k.answer) c.variable-a.ensures in
     (c.wire.ensures ∙ ap Wire.wire answer-is, ap (λ (k : Reply SheetBuffers). k.lent) c.variable-a.ensures)

@@ -19,28 +19,28 @@ overflow_add-from c =
     let safe : Lies c.args.text.now c.nth-place.result = let a = c.args in
     let p = c.requires.0 in
     lies p.rows a.text.now a.count a.slots.now p.held a.number c.if-count-number.false c.nth-place.result (c.nth-place.ensures p.rows p.held) in
-    let l = safe (c) in omega (arith, l.first, l.middle, l.last)
+    let l = safe in omega (arith, l.first, l.middle, l.last)
 
 pub slice_bounds-write-count : goal.slice_bounds-write-count
 slice_bounds-write-count c =
     let safe : Lies c.args.text.now c.nth-place.result = let a = c.args in
     let p = c.requires.0 in
     lies p.rows a.text.now a.count a.slots.now p.held a.number c.if-count-number.false c.nth-place.result (c.nth-place.ensures p.rows p.held) in
-    let l = safe (c) in omega (arith, l.first, l.middle, l.last)
+    let l = safe in omega (arith, l.first, l.middle, l.last)
 
 pub slice_bounds-write-start : goal.slice_bounds-write-start
 slice_bounds-write-start c =
     let safe : Lies c.args.text.now c.nth-place.result = let a = c.args in
     let p = c.requires.0 in
     lies p.rows a.text.now a.count a.slots.now p.held a.number c.if-count-number.false c.nth-place.result (c.nth-place.ensures p.rows p.held) in
-    let l = safe (c) in omega (arith, l.first, l.middle, l.last)
+    let l = safe in omega (arith, l.first, l.middle, l.last)
 
 pub slice_bounds-write-end : goal.slice_bounds-write-end
 slice_bounds-write-end c =
     let safe : Lies c.args.text.now c.nth-place.result = let a = c.args in
     let p = c.requires.0 in
     lies p.rows a.text.now a.count a.slots.now p.held a.number c.if-count-number.false c.nth-place.result (c.nth-place.ensures p.rows p.held) in
-    let l = safe (c) in omega (arith, l.first, l.middle, l.last)
+    let l = safe in omega (arith, l.first, l.middle, l.last)
 
 pub write-requires : goal.write-requires
 write-requires c =

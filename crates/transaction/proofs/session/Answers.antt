@@ -62,7 +62,7 @@ settle-requires c =
     let left : Slices = slices c.perform-performed.new.principals c.perform-performed.new.principal_slots c.perform-performed.new.vars c.perform-performed.new.variable_slots c.perform-performed.new.locals c.perform-performed.new.local_slots c.perform-performed.new.assertions in
     let begun : Slices = let a = c.args in slices c.begin-start.new.principals a.principal_slots.now c.begin-start.new.vars a.variable_slots.now (replicate 32768 0) (replicate 4096 0) a.assertions.now in
     let begins : (a : Known) → Running (opened a.understood.state a.sent_by.opening) c.begin-start.result begun = λ a. c.begin-start.ensures a.understood.state (sent a.sent_by.opening []) a.understood.represents (store_valid a.understood) a.sent_by.logged_in a.sent_by.numbered in
-    let ends : (a : Known) → Ends c.perform-performed.result a.sent_by.opening.sender (end_on (opened a.understood.state a.sent_by.opening) (body_from c.args.program.now c.args.at)) left.args.output.now c.perform-performed.new.output = λ a. c.perform-performed.ensures (opened a.understood.state a.sent_by.opening) (begins a) in
+    let ends : (a : Known) → Ends c.perform-performed.result a.sent_by.opening.sender (end_on (opened a.understood.state a.sent_by.opening) (body_from c.args.program.now c.args.at)) left c.args.output.now c.perform-performed.new.output = λ a. c.perform-performed.ensures (opened a.understood.state a.sent_by.opening) (begins a) in
     let g = c.args in record {
       some_end = record { sender = c.requires.admitted.sent_by.opening.sender; end = end_on (opened c.requires.admitted.understood.state c.requires.admitted.sent_by.opening) (body_from g.program.now g.at); before = g.output.now; ends = ends c.requires.admitted };
       work_len = (
@@ -84,7 +84,7 @@ returns c a =
     let left : Slices = slices c.perform-performed.new.principals c.perform-performed.new.principal_slots c.perform-performed.new.vars c.perform-performed.new.variable_slots c.perform-performed.new.locals c.perform-performed.new.local_slots c.perform-performed.new.assertions in
     let begun : Slices = let a = c.args in slices c.begin-start.new.principals a.principal_slots.now c.begin-start.new.vars a.variable_slots.now (replicate 32768 0) (replicate 4096 0) a.assertions.now in
     let begins : (a : Known) → Running (opened a.understood.state a.sent_by.opening) c.begin-start.result begun = λ a. c.begin-start.ensures a.understood.state (sent a.sent_by.opening []) a.understood.represents (store_valid a.understood) a.sent_by.logged_in a.sent_by.numbered in
-    let ends : (a : Known) → Ends c.perform-performed.result a.sent_by.opening.sender (end_on (opened a.understood.state a.sent_by.opening) (body_from c.args.program.now c.args.at)) left.args.output.now c.perform-performed.new.output = λ a. c.perform-performed.ensures (opened a.understood.state a.sent_by.opening) (begins a) in
+    let ends : (a : Known) → Ends c.perform-performed.result a.sent_by.opening.sender (end_on (opened a.understood.state a.sent_by.opening) (body_from c.args.program.now c.args.at)) left c.args.output.now c.perform-performed.new.output = λ a. c.perform-performed.ensures (opened a.understood.state a.sent_by.opening) (begins a) in
     let g = c.args in
     let s = a.understood.state in
     let o = body_from g.program.now g.at in

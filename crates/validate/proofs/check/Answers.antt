@@ -30,4 +30,4 @@ body_at-requires c =
 pub returns : goal.returns
 returns c =
     let heads : Reads head_text fine_head any_text c.args.state.now 0 c.in-At.open c.in-At.from = subst (λ k. HeadMeant c.args.state.now k) c.in-At.is c.head_at-head.ensures in
-    headed_body c.args.state.now _ _ heads.requires.0 c.body_at.new.principals c.body_at.new.vars c.body_at.new.assertions c.body_at.result c.body_at.ensures
+    headed_body c.args.state.now _ _ heads c.requires.0 c.body_at.new.principals c.body_at.new.vars c.body_at.new.assertions c.body_at.result c.body_at.ensures

@@ -28,4 +28,4 @@ body_at-requires c =
 pub returns : goal.returns
 returns c =
     let heads : FormerTop c.args.state.now c.in-At.open c.in-At.from = subst (λ k. FormerHeadMeant c.args.state.now k) c.in-At.is c.former_head_at-head.ensures in
-    headed_former c.args.state.now _ _ heads.requires.0 c.body_at.new.principals c.body_at.new.vars c.body_at.new.assertions c.body_at.result c.body_at.ensures
+    headed_former c.args.state.now _ _ heads c.requires.0 c.body_at.new.principals c.body_at.new.vars c.body_at.new.assertions c.body_at.result c.body_at.ensures

@@ -14,12 +14,12 @@ use Rattle.validate_c.proofs.state_check.Goals as goal
 pub returns-then-state-ne65536 : goal.returns-then-state-ne65536
 returns-then-state-ne65536 c =
     let look : Store → Look = λ s. found 0 (figures s) in
-    no_size 2054 look.args.state.now c.args.out.now c.if-state-ne65536.true
+    no_size 2054 look c.args.state.now c.args.out.now c.if-state-ne65536.true
 
 pub returns-then-out-lt2054 : goal.returns-then-out-lt2054
 returns-then-out-lt2054 c =
     let look : Store → Look = λ s. found 0 (figures s) in
-    no_room 2054 look.args.state.now c.args.out.now c.if-out-lt2054.true
+    no_room 2054 look c.args.state.now c.args.out.now c.if-out-lt2054.true
 
 pub figures-requires : goal.figures-requires
 figures-requires c =
@@ -33,12 +33,12 @@ returns-in-Good c =
     let look : Store → Look = λ s. found 0 (figures s) in
     let understood : Understood c.args.state.now c.check-checked.new.principals c.check-checked.new.vars c.check-checked.new.assertions c.in-Good.parts = subst (λ k. CheckedMeant c.args.state.now c.check-checked.new.principals c.check-checked.new.vars c.check-checked.new.assertions k) c.in-Good.is c.check-checked.ensures in
     let U = understood in
-    formed 2054 look.args.state.now c.args.out.now c.if-state-ne65536.false c.if-out-lt2054.false U.state U.decoded
+    formed 2054 look c.args.state.now c.args.out.now c.if-state-ne65536.false c.if-out-lt2054.false U.state U.decoded
     (subst (λ (l : List ℕ). Says (found 0 l) c.args.out.now c.figures.new.out c.figures.result) (sym (figures_are _ _ _ _ _ _ U.represents))
     c.figures.ensures)
 
 pub returns-in-Bad : goal.returns-in-Bad
 returns-in-Bad c =
     let look : Store → Look = λ s. found 0 (figures s) in
-    not_formed 2054 look.args.state.now c.args.out.now c.if-state-ne65536.false c.if-out-lt2054.false
+    not_formed 2054 look c.args.state.now c.args.out.now c.if-state-ne65536.false c.if-out-lt2054.false
     (subst (λ k. CheckedMeant c.args.state.now c.check-checked.new.principals c.check-checked.new.vars c.check-checked.new.assertions k) c.in-Bad.is c.check-checked.ensures)

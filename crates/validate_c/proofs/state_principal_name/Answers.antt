@@ -16,12 +16,12 @@ use Rattle.validate_c.proofs.state_principal_name.Goals as goal
 pub returns-then-state-ne65536 : goal.returns-then-state-ne65536
 returns-then-state-ne65536 c =
     let look : Store → Look = λ s. name_of (principals_of s) c.args.number in
-    no_size 65536 look.args.state.now c.args.out.now c.if-state-ne65536.true
+    no_size 65536 look c.args.state.now c.args.out.now c.if-state-ne65536.true
 
 pub returns-then-out-lt65536 : goal.returns-then-out-lt65536
 returns-then-out-lt65536 c =
     let look : Store → Look = λ s. name_of (principals_of s) c.args.number in
-    no_room 65536 look.args.state.now c.args.out.now c.if-out-lt65536.true
+    no_room 65536 look c.args.state.now c.args.out.now c.if-out-lt65536.true
 
 pub slice_bounds-nth_name-count : goal.slice_bounds-nth_name-count
 slice_bounds-nth_name-count c =
@@ -50,12 +50,12 @@ returns-in-Good c =
     let look : Store → Look = λ s. name_of (principals_of s) c.args.number in
     let understood : Understood c.args.state.now c.check-checked.new.principals c.check-checked.new.vars c.check-checked.new.assertions c.in-Good.parts = subst (λ k. CheckedMeant c.args.state.now c.check-checked.new.principals c.check-checked.new.vars c.check-checked.new.assertions k) c.in-Good.is c.check-checked.ensures in
     let U = understood in
-    formed 65536 look.args.state.now c.args.out.now c.if-state-ne65536.false c.if-out-lt65536.false U.state U.decoded
+    formed 65536 look c.args.state.now c.args.out.now c.if-state-ne65536.false c.if-out-lt65536.false U.state U.decoded
     (subst (λ (l : List Name). Says (name_of l c.args.number) c.args.out.now c.nth_name.new.out c.nth_name.result) (principal_names_lem U.state.principals)
     (c.nth_name.ensures (map principal_row U.state.principals) (principal_rows _ _ _ _ _ _ U.represents)))
 
 pub returns-in-Bad : goal.returns-in-Bad
 returns-in-Bad c =
     let look : Store → Look = λ s. name_of (principals_of s) c.args.number in
-    not_formed 65536 look.args.state.now c.args.out.now c.if-state-ne65536.false c.if-out-lt65536.false
+    not_formed 65536 look c.args.state.now c.args.out.now c.if-state-ne65536.false c.if-out-lt65536.false
     (subst (λ k. CheckedMeant c.args.state.now c.check-checked.new.principals c.check-checked.new.vars c.check-checked.new.assertions k) c.in-Bad.is c.check-checked.ensures)

@@ -11,12 +11,12 @@ use Rattle.validate_c.proofs.state_variable.Goals as goal
 pub returns-then-state-ne65536 : goal.returns-then-state-ne65536
 returns-then-state-ne65536 c =
     let look : Store → Look = λ s. variable_of s.variables c.args.name.now in
-    no_size 65536 look.args.state.now c.args.out.now c.if-state-ne65536.true
+    no_size 65536 look c.args.state.now c.args.out.now c.if-state-ne65536.true
 
 pub returns-then-out-lt65536 : goal.returns-then-out-lt65536
 returns-then-out-lt65536 c =
     let look : Store → Look = λ s. variable_of s.variables c.args.name.now in
-    no_room 65536 look.args.state.now c.args.out.now c.if-out-lt65536.true
+    no_room 65536 look c.args.state.now c.args.out.now c.if-out-lt65536.true
 
 pub slice_bounds-variable-count : goal.slice_bounds-variable-count
 slice_bounds-variable-count c =
@@ -45,11 +45,11 @@ returns-in-Good c =
     let look : Store → Look = λ s. variable_of s.variables c.args.name.now in
     let understood : Understood c.args.state.now c.check-checked.new.principals c.check-checked.new.vars c.check-checked.new.assertions c.in-Good.parts = subst (λ k. CheckedMeant c.args.state.now c.check-checked.new.principals c.check-checked.new.vars c.check-checked.new.assertions k) c.in-Good.is c.check-checked.ensures in
     let U = understood in
-    formed 65536 look.args.state.now c.args.out.now c.if-state-ne65536.false c.if-out-lt65536.false U.state U.decoded
+    formed 65536 look c.args.state.now c.args.out.now c.if-state-ne65536.false c.if-out-lt65536.false U.state U.decoded
     (c.variable.ensures U.state.variables U.represents.variables)
 
 pub returns-in-Bad : goal.returns-in-Bad
 returns-in-Bad c =
     let look : Store → Look = λ s. variable_of s.variables c.args.name.now in
-    not_formed 65536 look.args.state.now c.args.out.now c.if-state-ne65536.false c.if-out-lt65536.false
+    not_formed 65536 look c.args.state.now c.args.out.now c.if-state-ne65536.false c.if-out-lt65536.false
     (subst (λ k. CheckedMeant c.args.state.now c.check-checked.new.principals c.check-checked.new.vars c.check-checked.new.assertions k) c.in-Bad.is c.check-checked.ensures)

@@ -38,28 +38,28 @@ overflow_add-from c =
     let chosen : (v : Value) → Holds v c.args.text.now → Candidate c.args.text.now c.args.label.now v c.loop-at.at = λ v h. candidate c.args.text.now c.args.label.now v c.loop-at.at (c.loop-at.invariant.1 v h) c.loop-at-test.true in
     let ended : (v : Value) (h : Holds v c.args.text.now) → let C = chosen v h in EndsOf c.args.text.now c.loop-at.at C.field (rest_of c.args.text.now c.args.label.now v c.loop-at.at C) c.field_ends-ends.result = λ v h. let C = chosen v h in
     c.field_ends-ends.ensures C.field (rest_of c.args.text.now c.args.label.now v c.loop-at.at C) (candidate_at c.args.text.now c.args.label.now v c.loop-at.at C) in
-    let e = ended (c) c.requires.value c.requires.held in omega (arith, e.label_end, e.text_end, e.within)
+    let e = ended c.requires.value c.requires.held in omega (arith, e.label_end, e.text_end, e.within)
 
 pub slice_bounds-same_bytes-count : goal.slice_bounds-same_bytes-count
 slice_bounds-same_bytes-count c =
     let chosen : (v : Value) → Holds v c.args.text.now → Candidate c.args.text.now c.args.label.now v c.loop-at.at = λ v h. candidate c.args.text.now c.args.label.now v c.loop-at.at (c.loop-at.invariant.1 v h) c.loop-at-test.true in
     let ended : (v : Value) (h : Holds v c.args.text.now) → let C = chosen v h in EndsOf c.args.text.now c.loop-at.at C.field (rest_of c.args.text.now c.args.label.now v c.loop-at.at C) c.field_ends-ends.result = λ v h. let C = chosen v h in
     c.field_ends-ends.ensures C.field (rest_of c.args.text.now c.args.label.now v c.loop-at.at C) (candidate_at c.args.text.now c.args.label.now v c.loop-at.at C) in
-    let e = ended (c) c.requires.value c.requires.held in omega (arith, e.label_end, e.text_end, e.within)
+    let e = ended c.requires.value c.requires.held in omega (arith, e.label_end, e.text_end, e.within)
 
 pub slice_bounds-same_bytes-start : goal.slice_bounds-same_bytes-start
 slice_bounds-same_bytes-start c =
     let chosen : (v : Value) → Holds v c.args.text.now → Candidate c.args.text.now c.args.label.now v c.loop-at.at = λ v h. candidate c.args.text.now c.args.label.now v c.loop-at.at (c.loop-at.invariant.1 v h) c.loop-at-test.true in
     let ended : (v : Value) (h : Holds v c.args.text.now) → let C = chosen v h in EndsOf c.args.text.now c.loop-at.at C.field (rest_of c.args.text.now c.args.label.now v c.loop-at.at C) c.field_ends-ends.result = λ v h. let C = chosen v h in
     c.field_ends-ends.ensures C.field (rest_of c.args.text.now c.args.label.now v c.loop-at.at C) (candidate_at c.args.text.now c.args.label.now v c.loop-at.at C) in
-    let e = ended (c) c.requires.value c.requires.held in omega (arith, e.label_end, e.text_end, e.within)
+    let e = ended c.requires.value c.requires.held in omega (arith, e.label_end, e.text_end, e.within)
 
 pub slice_bounds-same_bytes-end : goal.slice_bounds-same_bytes-end
 slice_bounds-same_bytes-end c =
     let chosen : (v : Value) → Holds v c.args.text.now → Candidate c.args.text.now c.args.label.now v c.loop-at.at = λ v h. candidate c.args.text.now c.args.label.now v c.loop-at.at (c.loop-at.invariant.1 v h) c.loop-at-test.true in
     let ended : (v : Value) (h : Holds v c.args.text.now) → let C = chosen v h in EndsOf c.args.text.now c.loop-at.at C.field (rest_of c.args.text.now c.args.label.now v c.loop-at.at C) c.field_ends-ends.result = λ v h. let C = chosen v h in
     c.field_ends-ends.ensures C.field (rest_of c.args.text.now c.args.label.now v c.loop-at.at C) (candidate_at c.args.text.now c.args.label.now v c.loop-at.at C) in
-    let e = ended (c) c.requires.value c.requires.held in omega (arith, e.label_end, e.text_end, e.within)
+    let e = ended c.requires.value c.requires.held in omega (arith, e.label_end, e.text_end, e.within)
 
 pub same_bytes-requires : goal.same_bytes-requires
 same_bytes-requires c = tt

@@ -37,10 +37,10 @@ returns c =
     let b : Text = c.copy-2.new.dst in
     let fits : r ≤ length a.buf.now = omega (arith, c.head-body.ensures.size, p.1) in record {
       size = omega (arith, c.head-body.ensures.size);
-      outside = added_outside a.buf.now b (line x w) a.len a.count r a.slots.now c.note.new.slots _ (omega arith) size fits written.note.ensures;
+      outside = added_outside a.buf.now b (line x w) a.len a.count r a.slots.now c.note.new.slots _ (omega arith) size fits written c.note.ensures;
       held = λ ks K h.
             principal_added ks x w (take r b) (a.count + 1) c.note.new.slots
             (added (map principal_row ks) (principal_row (record { name = x; password = some w; count = 0 })) a.buf.now b a.len a.count r a.slots.now c.note.new.slots
             (principals_rows ks (take a.len a.buf.now) a.count a.slots.now K) h (omega (arith, p.0)) (omega arith) p.2
-            size fits written.note.ensures);
+            size fits written c.note.ensures);
     }

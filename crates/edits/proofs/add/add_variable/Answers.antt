@@ -27,7 +27,7 @@ returns c =
     let t : Text = 86 ∷ 9 ∷ (x ++ (9 ∷ a.value.now)) in
     let fits : r ≤ length a.buf.now = omega (arith, c.head-body.ensures.size, p.1) in record {
       size = ap (λ (n : ℕ). n + length a.value.now) c.head-body.ensures.size;
-      outside = added_outside a.buf.now c.copy.new.dst t a.len a.count r a.slots.now c.note.new.slots _ (omega arith) size fits written.note.ensures;
+      outside = added_outside a.buf.now c.copy.new.dst t a.len a.count r a.slots.now c.note.new.slots _ (omega arith) size fits written c.note.ensures;
       held = λ vs v W h e.
             variable_added vs x v (take r c.copy.new.dst) (a.count + 1) c.note.new.slots
             (added (map variable_row vs) (variable_row (record { name = x; value = v })) a.buf.now c.copy.new.dst a.len a.count r a.slots.now c.note.new.slots

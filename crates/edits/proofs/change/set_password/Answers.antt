@@ -35,12 +35,12 @@ password_of-p-requires c =
 pub write_password-requires : goal.write_password-requires
 write_password-requires c =
     let text : Text = take c.args.len c.args.buf.now in
-    let by_number : (ks : List Principal) (p : Name) → Principals ks text.args.count c.args.slots.now → T (distinct (principal_names ks)) → c.args.number ≡ position (principal_names ks) p → map (changed p c.args.password.now) ks ≡ with_password ks c.args.number c.args.password.now = λ ks p K d n. let a = c.args in
+    let by_number : (ks : List Principal) (p : Name) → Principals ks text c.args.count c.args.slots.now → T (distinct (principal_names ks)) → c.args.number ≡ position (principal_names ks) p → map (changed p c.args.password.now) ks ≡ with_password ks c.args.number c.args.password.now = λ ks p K d n. let a = c.args in
     let b = below_principals ks text a.count a.slots.now K a.number c.requires.2.below in
     changed_at ks p a.password.now d (omega (arith, n, b)) ∙ ap (λ (k : ℕ). with_password ks k a.password.now) (sym n) in
     let room : length (principals_text (with_password c.requires.2.principals c.args.number c.args.password.now)) ≤ length c.args.buf.now = let S = c.requires.2 in
     subst (λ (l : List Principal). length (principals_text l) ≤ length c.args.buf.now) (by_number S.principals S.name S.held S.apart S.number) S.fits in
-    let kept : (ks : List Principal) → Principals ks text.args.count c.args.slots.now → (principal_at ks c.args.number).password ≡ some (part text.in-Kept.start c.in-Kept.end) = λ ks K. sym (ap (password_meant text) (sym c.in-Kept.is) ∙ (c.password_of-p.ensures ks K).meant) in
+    let kept : (ks : List Principal) → Principals ks text c.args.count c.args.slots.now → (principal_at ks c.args.number).password ≡ some (part text c.in-Kept.start c.in-Kept.end) = λ ks K. sym (ap (password_meant text) (sym c.in-Kept.is) ∙ (c.password_of-p.ensures ks K).meant) in
     let S = c.requires.2 in (
       c.requires.0,
       c.requires.1,
@@ -50,8 +50,8 @@ write_password-requires c =
 pub open_line-n-requires : goal.open_line-n-requires
 open_line-n-requires c =
     let text : Text = take c.args.len c.args.buf.now in
-    let bare : (ks : List Principal) → Principals ks text.args.count c.args.slots.now → (principal_at ks c.args.number).password ≡ none = λ ks K. sym (ap (password_meant text) (sym c.in-Absent.is) ∙ (c.password_of-p.ensures ks K).meant) in
-    let by_number : (ks : List Principal) (p : Name) → Principals ks text.args.count c.args.slots.now → T (distinct (principal_names ks)) → c.args.number ≡ position (principal_names ks) p → map (changed p c.args.password.now) ks ≡ with_password ks c.args.number c.args.password.now = λ ks p K d n. let a = c.args in
+    let bare : (ks : List Principal) → Principals ks text c.args.count c.args.slots.now → (principal_at ks c.args.number).password ≡ none = λ ks K. sym (ap (password_meant text) (sym c.in-Absent.is) ∙ (c.password_of-p.ensures ks K).meant) in
+    let by_number : (ks : List Principal) (p : Name) → Principals ks text c.args.count c.args.slots.now → T (distinct (principal_names ks)) → c.args.number ≡ position (principal_names ks) p → map (changed p c.args.password.now) ks ≡ with_password ks c.args.number c.args.password.now = λ ks p K d n. let a = c.args in
     let b = below_principals ks text a.count a.slots.now K a.number c.requires.2.below in
     changed_at ks p a.password.now d (omega (arith, n, b)) ∙ ap (λ (k : ℕ). with_password ks k a.password.now) (sym n) in
     let room : length (principals_text (with_password c.requires.2.principals c.args.number c.args.password.now)) ≤ length c.args.buf.now = let S = c.requires.2 in
@@ -68,13 +68,13 @@ open_line-n-requires c =
 pub write_password-requires-in-Absent : goal.write_password-requires-in-Absent
 write_password-requires-in-Absent c =
     let text : Text = take c.args.len c.args.buf.now in
-    let by_number : (ks : List Principal) (p : Name) → Principals ks text.args.count c.args.slots.now → T (distinct (principal_names ks)) → c.args.number ≡ position (principal_names ks) p → map (changed p c.args.password.now) ks ≡ with_password ks c.args.number c.args.password.now = λ ks p K d n. let a = c.args in
+    let by_number : (ks : List Principal) (p : Name) → Principals ks text c.args.count c.args.slots.now → T (distinct (principal_names ks)) → c.args.number ≡ position (principal_names ks) p → map (changed p c.args.password.now) ks ≡ with_password ks c.args.number c.args.password.now = λ ks p K d n. let a = c.args in
     let b = below_principals ks text a.count a.slots.now K a.number c.requires.2.below in
     changed_at ks p a.password.now d (omega (arith, n, b)) ∙ ap (λ (k : ℕ). with_password ks k a.password.now) (sym n) in
     let room : length (principals_text (with_password c.requires.2.principals c.args.number c.args.password.now)) ≤ length c.args.buf.now = let S = c.requires.2 in
     subst (λ (l : List Principal). length (principals_text l) ≤ length c.args.buf.now) (by_number S.principals S.name S.held S.apart S.number) S.fits in
-    let kept : (ks : List Principal) → Principals ks text.args.count c.args.slots.now → (principal_at ks c.args.number).password ≡ some (part text.in-Kept.start c.in-Kept.end) = λ ks K. sym (ap (password_meant text) (sym c.in-Kept.is) ∙ (c.password_of-p.ensures ks K).meant) in
-    let bare : (ks : List Principal) → Principals ks text.args.count c.args.slots.now → (principal_at ks c.args.number).password ≡ none = λ ks K. sym (ap (password_meant text) (sym c.in-Absent.is) ∙ (c.password_of-p.ensures ks K).meant) in
+    let kept : (ks : List Principal) → Principals ks text c.args.count c.args.slots.now → (principal_at ks c.args.number).password ≡ some (part text c.in-Kept.start c.in-Kept.end) = λ ks K. sym (ap (password_meant text) (sym c.in-Kept.is) ∙ (c.password_of-p.ensures ks K).meant) in
+    let bare : (ks : List Principal) → Principals ks text c.args.count c.args.slots.now → (principal_at ks c.args.number).password ≡ none = λ ks K. sym (ap (password_meant text) (sym c.in-Absent.is) ∙ (c.password_of-p.ensures ks K).meant) in
     let longer : c.args.len + 1 + length c.args.password.now ≤ length c.args.buf.now = let a = c.args in
     let S = c.requires.2 in
     omega (arith, room, bare_size S.principals text a.count a.slots.now S.held a.number S.below a.password.now (bare S.principals S.held), length-take-le a.len a.buf.now c.requires.1) in
@@ -99,10 +99,10 @@ write_password-requires-in-Absent c =
 pub returns-in-Kept : goal.returns-in-Kept
 returns-in-Kept c =
     let text : Text = take c.args.len c.args.buf.now in
-    let by_number : (ks : List Principal) (p : Name) → Principals ks text.args.count c.args.slots.now → T (distinct (principal_names ks)) → c.args.number ≡ position (principal_names ks) p → map (changed p c.args.password.now) ks ≡ with_password ks c.args.number c.args.password.now = λ ks p K d n. let a = c.args in
+    let by_number : (ks : List Principal) (p : Name) → Principals ks text c.args.count c.args.slots.now → T (distinct (principal_names ks)) → c.args.number ≡ position (principal_names ks) p → map (changed p c.args.password.now) ks ≡ with_password ks c.args.number c.args.password.now = λ ks p K d n. let a = c.args in
     let b = below_principals ks text a.count a.slots.now K a.number c.requires.2.below in
     changed_at ks p a.password.now d (omega (arith, n, b)) ∙ ap (λ (k : ℕ). with_password ks k a.password.now) (sym n) in
-    let kept : (ks : List Principal) → Principals ks text.args.count c.args.slots.now → (principal_at ks c.args.number).password ≡ some (part text.in-Kept.start c.in-Kept.end) = λ ks K. sym (ap (password_meant text) (sym c.in-Kept.is) ∙ (c.password_of-p.ensures ks K).meant) in
+    let kept : (ks : List Principal) → Principals ks text c.args.count c.args.slots.now → (principal_at ks c.args.number).password ≡ some (part text c.in-Kept.start c.in-Kept.end) = λ ks K. sym (ap (password_meant text) (sym c.in-Kept.is) ∙ (c.password_of-p.ensures ks K).meant) in
     let a = c.args in record {
       outside = c.write_password.ensures.outside;
       held = λ ks p K d n.
@@ -113,10 +113,10 @@ returns-in-Kept c =
 pub returns-in-Absent : goal.returns-in-Absent
 returns-in-Absent c =
     let text : Text = take c.args.len c.args.buf.now in
-    let by_number : (ks : List Principal) (p : Name) → Principals ks text.args.count c.args.slots.now → T (distinct (principal_names ks)) → c.args.number ≡ position (principal_names ks) p → map (changed p c.args.password.now) ks ≡ with_password ks c.args.number c.args.password.now = λ ks p K d n. let a = c.args in
+    let by_number : (ks : List Principal) (p : Name) → Principals ks text c.args.count c.args.slots.now → T (distinct (principal_names ks)) → c.args.number ≡ position (principal_names ks) p → map (changed p c.args.password.now) ks ≡ with_password ks c.args.number c.args.password.now = λ ks p K d n. let a = c.args in
     let b = below_principals ks text a.count a.slots.now K a.number c.requires.2.below in
     changed_at ks p a.password.now d (omega (arith, n, b)) ∙ ap (λ (k : ℕ). with_password ks k a.password.now) (sym n) in
-    let bare : (ks : List Principal) → Principals ks text.args.count c.args.slots.now → (principal_at ks c.args.number).password ≡ none = λ ks K. sym (ap (password_meant text) (sym c.in-Absent.is) ∙ (c.password_of-p.ensures ks K).meant) in
+    let bare : (ks : List Principal) → Principals ks text c.args.count c.args.slots.now → (principal_at ks c.args.number).password ≡ none = λ ks K. sym (ap (password_meant text) (sym c.in-Absent.is) ∙ (c.password_of-p.ensures ks K).meant) in
     let both-done : (ks : List Principal) → let a = c.args in Principals ks text a.count a.slots.now → Principals (with_password ks a.number a.password.now) (take c.write_password-in-Absent.result c.write_password-in-Absent.new.buf) a.count c.write_password-in-Absent.new.slots = λ ks K. let a = c.args in
     let l = below_principals ks text a.count a.slots.now K a.number c.requires.2.below in
     subst (λ (q : List Principal). Principals q (take c.write_password-in-Absent.result c.write_password-in-Absent.new.buf) a.count c.write_password-in-Absent.new.slots) (with_twice ks a.number [] a.password.now l)
@@ -132,7 +132,7 @@ returns-in-Absent c =
       length-take-le a.len a.buf.now c.requires.1,
     ) in
     let a = c.args in record {
-      outside = outside_on a.buf.now c.open_line-n.new.buf c.write_password-in-Absent.new.buf c.open_line-n.result c.write_password-in-Absent.result a.slots.now c.open_line-n.new.slots c.write_password-in-Absent.new.slots a.count grown.open_line-n.auto.buf c.open_line-n.ensures.outside c.write_password-in-Absent.ensures.outside;
+      outside = outside_on a.buf.now c.open_line-n.new.buf c.write_password-in-Absent.new.buf c.open_line-n.result c.write_password-in-Absent.result a.slots.now c.open_line-n.new.slots c.write_password-in-Absent.new.slots a.count grown c.open_line-n.auto.buf c.open_line-n.ensures.outside c.write_password-in-Absent.ensures.outside;
       held = λ ks p K d n.
           subst (λ (q : List Principal). Principals q (take c.write_password-in-Absent.result c.write_password-in-Absent.new.buf) a.count c.write_password-in-Absent.new.slots) (sym (by_number ks p K d n)) (both-done ks K);
     }

@@ -32,7 +32,7 @@ overflow_add-from c =
     let S = c.requires.2 in
     let t = take a.len a.buf.now in
     lies (map principal_row S.principals) t a.count a.slots.now (principals_rows S.principals t a.count a.slots.now S.held) a.number S.below c.nth-place.result (placed S.principals S.held) in
-    let l = safe (c) in omega (arith, l.middle, l.last, c.requires.2.held.small)
+    let l = safe in omega (arith, l.middle, l.last, c.requires.2.held.small)
 
 pub slice_bounds-count_at-end-2 : goal.slice_bounds-count_at-end-2
 slice_bounds-count_at-end-2 c = sym (length-take-le _ _ c.requires.1)

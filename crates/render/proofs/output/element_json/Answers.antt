@@ -26,30 +26,30 @@ until-end-requires c =
 pub slice_bounds-put_quoted-count : goal.slice_bounds-put_quoted-count
 slice_bounds-put_quoted-count c =
     let string : StringAt c.args.text.now c.args.at c.requires.element c.requires.rest = string_at c.args.text.now c.args.at c.requires.element c.requires.rest c.requires.stands c.if-text-at-eq83.true in
-    let ended : c.until-end.result + 1 ≤ length c.args.text.now = string_within c.args.text.now c.args.at c.requires.element c.requires.rest string.until-end.result c.until-end.ensures.ends in
+    let ended : c.until-end.result + 1 ≤ length c.args.text.now = string_within c.args.text.now c.args.at c.requires.element c.requires.rest string c.until-end.result c.until-end.ensures.ends in
     omega (arith, ended, c.until-end.ensures.within)
 
 pub slice_bounds-put_quoted-start : goal.slice_bounds-put_quoted-start
 slice_bounds-put_quoted-start c =
     let string : StringAt c.args.text.now c.args.at c.requires.element c.requires.rest = string_at c.args.text.now c.args.at c.requires.element c.requires.rest c.requires.stands c.if-text-at-eq83.true in
-    let ended : c.until-end.result + 1 ≤ length c.args.text.now = string_within c.args.text.now c.args.at c.requires.element c.requires.rest string.until-end.result c.until-end.ensures.ends in
+    let ended : c.until-end.result + 1 ≤ length c.args.text.now = string_within c.args.text.now c.args.at c.requires.element c.requires.rest string c.until-end.result c.until-end.ensures.ends in
     omega (arith, ended, c.until-end.ensures.within)
 
 pub slice_bounds-put_quoted-end : goal.slice_bounds-put_quoted-end
 slice_bounds-put_quoted-end c =
     let string : StringAt c.args.text.now c.args.at c.requires.element c.requires.rest = string_at c.args.text.now c.args.at c.requires.element c.requires.rest c.requires.stands c.if-text-at-eq83.true in
-    let ended : c.until-end.result + 1 ≤ length c.args.text.now = string_within c.args.text.now c.args.at c.requires.element c.requires.rest string.until-end.result c.until-end.ensures.ends in
+    let ended : c.until-end.result + 1 ≤ length c.args.text.now = string_within c.args.text.now c.args.at c.requires.element c.requires.rest string c.until-end.result c.until-end.ensures.ends in
     omega (arith, ended, c.until-end.ensures.within)
 
 pub put_quoted-p-requires : goal.put_quoted-p-requires
 put_quoted-p-requires c =
     let string : StringAt c.args.text.now c.args.at c.requires.element c.requires.rest = string_at c.args.text.now c.args.at c.requires.element c.requires.rest c.requires.stands c.if-text-at-eq83.true in
-    string_room c.args.text.now c.args.at c.requires.element c.requires.rest string.until-end.result c.until-end.ensures.ends c.args.o _ c.requires.room
+    string_room c.args.text.now c.args.at c.requires.element c.requires.rest string c.until-end.result c.until-end.ensures.ends c.args.o _ c.requires.room
 
 pub overflow_add-result : goal.overflow_add-result
 overflow_add-result c =
     let string : StringAt c.args.text.now c.args.at c.requires.element c.requires.rest = string_at c.args.text.now c.args.at c.requires.element c.requires.rest c.requires.stands c.if-text-at-eq83.true in
-    let ended : c.until-end.result + 1 ≤ length c.args.text.now = string_within c.args.text.now c.args.at c.requires.element c.requires.rest string.until-end.result c.until-end.ensures.ends in
+    let ended : c.until-end.result + 1 ≤ length c.args.text.now = string_within c.args.text.now c.args.at c.requires.element c.requires.rest string c.until-end.result c.until-end.ensures.ends in
     omega (arith, ended, c.until-end.ensures.within)
 
 pub returns-then-text-at-eq83 : goal.returns-then-text-at-eq83

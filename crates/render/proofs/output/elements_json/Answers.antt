@@ -20,7 +20,7 @@ put_byte-a-requires c =
     let Next : (es : List Element) → Type 0 = λ es. NextElement c.args.text.now es c.args.out.now c.args.o c.loop-i.i c.loop-i.p c.loop-i c.loop-i.out in
     let next : (es : List Element) → Elements c.args.text.now c.args.at es → Next es = λ es E. next_one c.args.text.now es c.args.out.now c.args.o c.loop-i.i c.loop-i.p c.loop-i c.loop-i.out (c.loop-i.invariant.2 es E) c.loop-i-test.true in
     let known : Next c.requires.elements = next c.requires.elements c.requires.stand in
-    omega (arith, one_room _ _ _ _ _ _ _ _ known.requires.room)
+    omega (arith, one_room _ _ _ _ _ _ _ _ known c.requires.room)
 
 pub element_json-m-requires : goal.element_json-m-requires
 element_json-m-requires c =

@@ -17,12 +17,12 @@ field_ends-ends-requires c = record { field = c.requires.field; rest = c.require
 pub overflow_add-from : goal.overflow_add-from
 overflow_add-from c =
     let ended : EndsOf c.args.text.now c.args.at c.requires.field c.requires.rest c.field_ends-ends.result = c.field_ends-ends.ensures c.requires.field c.requires.rest c.requires.stands in
-    let e = ended (c) in omega (arith, e.label_end, e.text_end, e.within)
+    let e = ended in omega (arith, e.label_end, e.text_end, e.within)
 
 pub overflow_add-start : goal.overflow_add-start
 overflow_add-start c =
     let ended : EndsOf c.args.text.now c.args.at c.requires.field c.requires.rest c.field_ends-ends.result = c.field_ends-ends.ensures c.requires.field c.requires.rest c.requires.stands in
-    let e = ended (c) in omega (arith, e.label_end, e.text_end, e.within)
+    let e = ended in omega (arith, e.label_end, e.text_end, e.within)
 
 pub slice_bounds-put_quoted-count : goal.slice_bounds-put_quoted-count
 slice_bounds-put_quoted-count c =

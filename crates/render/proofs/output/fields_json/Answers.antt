@@ -27,7 +27,7 @@ put_byte-a-requires c =
     let next : (fs : List Field) (rest : Text) → FieldsAt c.args.text.now c.args.at fs rest → Next fs rest = λ fs rest F. next_field c.args.text.now c.args.at fs rest c.args.out.now c.args.o c.loop-i.i c.loop-i.p c.loop-i.sep
     c.loop-i.out (c.loop-i.invariant.2 fs rest F) c.loop-i-test.true c.if-text-i-ne70.false in
     let known : Next c.requires.fields c.requires.rest = next c.requires.fields c.requires.rest c.requires.stand in
-    omega (arith, next_room _ _ _ _ _ _ _ _ _ _ known.requires.room)
+    omega (arith, next_room _ _ _ _ _ _ _ _ _ _ known c.requires.room)
 
 pub field_json-m-requires : goal.field_json-m-requires
 field_json-m-requires c =

@@ -28,7 +28,7 @@ returns-then-value-ne76 c v h =
 pub copy_in-requires : goal.copy_in-requires
 copy_in-requires c =
     let several : ListAt c.requires.value c.args.value.now = list_at c.requires.value c.args.value.now c.requires.held c.if-value-ne76.false in
-    omega (arith, c.requires.room, ap length (list_none c.requires.value c.args.value.now several.if-value-eq2.true))
+    omega (arith, c.requires.room, ap length (list_none c.requires.value c.args.value.now several c.if-value-eq2.true))
 
 pub returns-then-value-eq2 : goal.returns-then-value-eq2
 returns-then-value-eq2 c v h = rewritten (list_none v c.args.value.now (list_at v c.args.value.now h c.if-value-ne76.false) c.if-value-eq2.true) c.copy_in.ensures

@@ -27,5 +27,5 @@ pub returns : goal.returns
 returns c s r x v h a =
     let room : c.args.count ≤ length c.args.marks.now = omega (arith, c.requires.0.few, c.requires.1) in
     let old = c.args.marks.now in
-    ap (map length_marked) (marks_back c.lengths.new.marks old c.args.count room.lengths.auto.marks)
+    ap (map length_marked) (marks_back c.lengths.new.marks old c.args.count room c.lengths.auto.marks)
     ∙ c.lengths.ensures s r x v h (asks_lent old room a)

@@ -31,40 +31,40 @@ returns-in_default c =
     let text : List ℕ = c.args.state.now in
     let form : Form = form_meant c.args.form in
     let slots-p : List ℕ = c.principals-roster.new.slots in
-    bad_principals form text.args.«open» c.args.from
-    (subst (λ k. PrincipalsMeant form text.args.from slots-p k) c.in_default.is c.principals-roster.ensures)
+    bad_principals form text c.args.«open» c.args.from
+    (subst (λ k. PrincipalsMeant form text c.args.from slots-p k) c.in_default.is c.principals-roster.ensures)
 
 pub delegator_at-line-requires : goal.delegator_at-line-requires
 delegator_at-line-requires c =
     let text : List ℕ = c.args.state.now in
     let form : Form = form_meant c.args.form in
     let slots-p : List ℕ = c.principals-roster.new.slots in
-    let roster : Principals form text.args.from slots-p.in-Good.principals_to c.in-Good.n c.in-Good.w = subst (λ k. PrincipalsMeant form text.args.from slots-p k) c.in-Good.is c.principals-roster.ensures in
+    let roster : Principals form text c.args.from slots-p c.in-Good.principals_to c.in-Good.n c.in-Good.w = subst (λ k. PrincipalsMeant form text c.args.from slots-p k) c.in-Good.is c.principals-roster.ensures in
     let prows : List Row = map (row_in form) roster.records.rows in
     let P = roster in
-    (P.records.reads.low, P.records.reads.high, record { rows = prows; held = rows_of_principals form text.args.«open» c.args.from _ _ _ _ P })
+    (P.records.reads.low, P.records.reads.high, record { rows = prows; held = rows_of_principals form text c.args.«open» c.args.from _ _ _ _ P })
 
 pub returns-in_default-line : goal.returns-in_default-line
 returns-in_default-line c =
     let text : List ℕ = c.args.state.now in
     let form : Form = form_meant c.args.form in
     let slots-p : List ℕ = c.principals-roster.new.slots in
-    let roster : Principals form text.args.from slots-p.in-Good.principals_to c.in-Good.n c.in-Good.w = subst (λ k. PrincipalsMeant form text.args.from slots-p k) c.in-Good.is c.principals-roster.ensures in
+    let roster : Principals form text c.args.from slots-p c.in-Good.principals_to c.in-Good.n c.in-Good.w = subst (λ k. PrincipalsMeant form text c.args.from slots-p k) c.in-Good.is c.principals-roster.ensures in
     let prows : List Row = map (row_in form) roster.records.rows in
-    bad_delegator form text.args.«open» c.args.from _ _ _ _ roster
-    (subst (λ k. DelegatorMeant (row_names prows) text.in-Good.principals_to k) c.in_default-line.is
-    (c.delegator_at-line.ensures prows (rows_of_principals form text.args.«open» c.args.from _ _ _ _ roster)))
+    bad_delegator form text c.args.«open» c.args.from _ _ _ _ roster
+    (subst (λ k. DelegatorMeant (row_names prows) text c.in-Good.principals_to k) c.in_default-line.is
+    (c.delegator_at-line.ensures prows (rows_of_principals form text c.args.«open» c.args.from _ _ _ _ roster)))
 
 pub variables-values-requires : goal.variables-values-requires
 variables-values-requires c =
     let text : List ℕ = c.args.state.now in
     let form : Form = form_meant c.args.form in
     let slots-p : List ℕ = c.principals-roster.new.slots in
-    let roster : Principals form text.args.from slots-p.in-Good.principals_to c.in-Good.n c.in-Good.w = subst (λ k. PrincipalsMeant form text.args.from slots-p k) c.in-Good.is c.principals-roster.ensures in
+    let roster : Principals form text c.args.from slots-p c.in-Good.principals_to c.in-Good.n c.in-Good.w = subst (λ k. PrincipalsMeant form text c.args.from slots-p k) c.in-Good.is c.principals-roster.ensures in
     let prows : List Row = map (row_in form) roster.records.rows in
-    let delegating : Delegating (row_names prows) text.in-Good.principals_to c.in-At.delegator c.in-At.vars_from = subst (λ k. DelegatorMeant (row_names prows) text.in-Good.principals_to k) c.in-At.is
-    (c.delegator_at-line.ensures prows (rows_of_principals form text.args.«open» c.args.from _ _ _ _ roster)) in
-    let l = principals_light form text.args.«open» c.args.from _ _ _ _ roster in
+    let delegating : Delegating (row_names prows) text c.in-Good.principals_to c.in-At.delegator c.in-At.vars_from = subst (λ k. DelegatorMeant (row_names prows) text c.in-Good.principals_to k) c.in-At.is
+    (c.delegator_at-line.ensures prows (rows_of_principals form text c.args.«open» c.args.from _ _ _ _ roster)) in
+    let l = principals_light form text c.args.«open» c.args.from _ _ _ _ roster in
     (delegating.reads.high, omega (arith, c.requires.size), c.requires.variables_size, l)
 
 pub returns-in_default-values : goal.returns-in_default-values
@@ -72,30 +72,30 @@ returns-in_default-values c =
     let text : List ℕ = c.args.state.now in
     let form : Form = form_meant c.args.form in
     let slots-p : List ℕ = c.principals-roster.new.slots in
-    let roster : Principals form text.args.from slots-p.in-Good.principals_to c.in-Good.n c.in-Good.w = subst (λ k. PrincipalsMeant form text.args.from slots-p k) c.in-Good.is c.principals-roster.ensures in
+    let roster : Principals form text c.args.from slots-p c.in-Good.principals_to c.in-Good.n c.in-Good.w = subst (λ k. PrincipalsMeant form text c.args.from slots-p k) c.in-Good.is c.principals-roster.ensures in
     let prows : List Row = map (row_in form) roster.records.rows in
-    let delegating : Delegating (row_names prows) text.in-Good.principals_to c.in-At.delegator c.in-At.vars_from = subst (λ k. DelegatorMeant (row_names prows) text.in-Good.principals_to k) c.in-At.is
-    (c.delegator_at-line.ensures prows (rows_of_principals form text.args.«open» c.args.from _ _ _ _ roster)) in
+    let delegating : Delegating (row_names prows) text c.in-Good.principals_to c.in-At.delegator c.in-At.vars_from = subst (λ k. DelegatorMeant (row_names prows) text c.in-Good.principals_to k) c.in-At.is
+    (c.delegator_at-line.ensures prows (rows_of_principals form text c.args.«open» c.args.from _ _ _ _ roster)) in
     let slots_v : List ℕ = c.variables-values.new.slots in
-    bad_variables form text.args.«open» c.args.from _ _ _ _ roster _ _ delegating
-    (subst (λ k. VariablesMeant text.in-At.vars_from c.in-Good.w slots_v k) c.in_default-values.is c.variables-values.ensures)
+    bad_variables form text c.args.«open» c.args.from _ _ _ _ roster _ _ delegating
+    (subst (λ k. VariablesMeant text c.in-At.vars_from c.in-Good.w slots_v k) c.in_default-values.is c.variables-values.ensures)
 
 pub assertions-listed-requires : goal.assertions-listed-requires
 assertions-listed-requires c =
     let text : List ℕ = c.args.state.now in
     let form : Form = form_meant c.args.form in
     let slots-p : List ℕ = c.principals-roster.new.slots in
-    let roster : Principals form text.args.from slots-p.in-Good.principals_to c.in-Good.n c.in-Good.w = subst (λ k. PrincipalsMeant form text.args.from slots-p k) c.in-Good.is c.principals-roster.ensures in
+    let roster : Principals form text c.args.from slots-p c.in-Good.principals_to c.in-Good.n c.in-Good.w = subst (λ k. PrincipalsMeant form text c.args.from slots-p k) c.in-Good.is c.principals-roster.ensures in
     let prows : List Row = map (row_in form) roster.records.rows in
-    let delegating : Delegating (row_names prows) text.in-Good.principals_to c.in-At.delegator c.in-At.vars_from = subst (λ k. DelegatorMeant (row_names prows) text.in-Good.principals_to k) c.in-At.is
-    (c.delegator_at-line.ensures prows (rows_of_principals form text.args.«open» c.args.from _ _ _ _ roster)) in
+    let delegating : Delegating (row_names prows) text c.in-Good.principals_to c.in-At.delegator c.in-At.vars_from = subst (λ k. DelegatorMeant (row_names prows) text c.in-Good.principals_to k) c.in-At.is
+    (c.delegator_at-line.ensures prows (rows_of_principals form text c.args.«open» c.args.from _ _ _ _ roster)) in
     let slots_v : List ℕ = c.variables-values.new.slots in
-    let values : Values text.in-At.vars_from c.in-Good.w slots_v.in-Good-values.vars_to c.in-Good-values.m c.in-Good-values.v = subst (λ k. VariablesMeant text.in-At.vars_from c.in-Good.w slots_v k) c.in-Good-values.is c.variables-values.ensures in
+    let values : Values text c.in-At.vars_from c.in-Good.w slots_v c.in-Good-values.vars_to c.in-Good-values.m c.in-Good-values.v = subst (λ k. VariablesMeant text c.in-At.vars_from c.in-Good.w slots_v k) c.in-Good-values.is c.variables-values.ensures in
     let vrows : List Row = map variable_row values.records.rows in
     let P = roster in
     let W = values in
-    let p = rows_of_principals form text.args.«open» c.args.from _ _ _ _ P in
-    let v = values_rows form text.args.«open» c.args.from _ _ _ _ P _ _ delegating _ _ _ _ W in
+    let p = rows_of_principals form text c.args.«open» c.args.from _ _ _ _ P in
+    let v = values_rows form text c.args.«open» c.args.from _ _ _ _ P _ _ delegating _ _ _ _ W in
     let lp = slots_long prows _ _ _ p in
     let lv = slots_long vrows _ _ _ v in
     let kp : length slots-p ≡ length c.args.principals.now = c.principals-roster.auto.slots in
@@ -112,7 +112,7 @@ assertions-listed-requires c =
         vars_some = record { rows = vrows; held = v };
       },
       W.records.reads.high,
-      values_light form text.args.«open» c.args.from _ _ _ _ P _ _ delegating _ _ _ _ W,
+      values_light form text c.args.«open» c.args.from _ _ _ _ P _ _ delegating _ _ _ _ W,
       c.requires.assertions_size,
     )
 
@@ -121,37 +121,37 @@ returns-in_default-listed c =
     let text : List ℕ = c.args.state.now in
     let form : Form = form_meant c.args.form in
     let slots-p : List ℕ = c.principals-roster.new.slots in
-    let roster : Principals form text.args.from slots-p.in-Good.principals_to c.in-Good.n c.in-Good.w = subst (λ k. PrincipalsMeant form text.args.from slots-p k) c.in-Good.is c.principals-roster.ensures in
+    let roster : Principals form text c.args.from slots-p c.in-Good.principals_to c.in-Good.n c.in-Good.w = subst (λ k. PrincipalsMeant form text c.args.from slots-p k) c.in-Good.is c.principals-roster.ensures in
     let prows : List Row = map (row_in form) roster.records.rows in
-    let delegating : Delegating (row_names prows) text.in-Good.principals_to c.in-At.delegator c.in-At.vars_from = subst (λ k. DelegatorMeant (row_names prows) text.in-Good.principals_to k) c.in-At.is
-    (c.delegator_at-line.ensures prows (rows_of_principals form text.args.«open» c.args.from _ _ _ _ roster)) in
+    let delegating : Delegating (row_names prows) text c.in-Good.principals_to c.in-At.delegator c.in-At.vars_from = subst (λ k. DelegatorMeant (row_names prows) text c.in-Good.principals_to k) c.in-At.is
+    (c.delegator_at-line.ensures prows (rows_of_principals form text c.args.«open» c.args.from _ _ _ _ roster)) in
     let slots_v : List ℕ = c.variables-values.new.slots in
-    let values : Values text.in-At.vars_from c.in-Good.w slots_v.in-Good-values.vars_to c.in-Good-values.m c.in-Good-values.v = subst (λ k. VariablesMeant text.in-At.vars_from c.in-Good.w slots_v k) c.in-Good-values.is c.variables-values.ensures in
+    let values : Values text c.in-At.vars_from c.in-Good.w slots_v c.in-Good-values.vars_to c.in-Good-values.m c.in-Good-values.v = subst (λ k. VariablesMeant text c.in-At.vars_from c.in-Good.w slots_v k) c.in-Good-values.is c.variables-values.ensures in
     let vrows : List Row = map variable_row values.records.rows in
     let packed : List ℕ = c.assertions-listed.new.assertions in
-    bad_assertions form text.args.«open» c.args.from _ _ _ _ roster _ _ delegating _ _ _ _ values
-    (subst (λ k. AssertionsMeant (row_names prows) (row_names vrows) text.in-Good-values.vars_to c.in-Good-values.v packed k) c.in_default-listed.is
+    bad_assertions form text c.args.«open» c.args.from _ _ _ _ roster _ _ delegating _ _ _ _ values
+    (subst (λ k. AssertionsMeant (row_names prows) (row_names vrows) text c.in-Good-values.vars_to c.in-Good-values.v packed k) c.in_default-listed.is
     (c.assertions-listed.ensures prows vrows
-    (rows_of_principals form text.args.«open» c.args.from _ _ _ _ roster)
-    (values_rows form text.args.«open» c.args.from _ _ _ _ roster _ _ delegating _ _ _ _ values)))
+    (rows_of_principals form text c.args.«open» c.args.from _ _ _ _ roster)
+    (values_rows form text c.args.«open» c.args.from _ _ _ _ roster _ _ delegating _ _ _ _ values)))
 
 pub zeros_from-requires : goal.zeros_from-requires
 zeros_from-requires c =
     let text : List ℕ = c.args.state.now in
     let form : Form = form_meant c.args.form in
     let slots-p : List ℕ = c.principals-roster.new.slots in
-    let roster : Principals form text.args.from slots-p.in-Good.principals_to c.in-Good.n c.in-Good.w = subst (λ k. PrincipalsMeant form text.args.from slots-p k) c.in-Good.is c.principals-roster.ensures in
+    let roster : Principals form text c.args.from slots-p c.in-Good.principals_to c.in-Good.n c.in-Good.w = subst (λ k. PrincipalsMeant form text c.args.from slots-p k) c.in-Good.is c.principals-roster.ensures in
     let prows : List Row = map (row_in form) roster.records.rows in
-    let delegating : Delegating (row_names prows) text.in-Good.principals_to c.in-At.delegator c.in-At.vars_from = subst (λ k. DelegatorMeant (row_names prows) text.in-Good.principals_to k) c.in-At.is
-    (c.delegator_at-line.ensures prows (rows_of_principals form text.args.«open» c.args.from _ _ _ _ roster)) in
+    let delegating : Delegating (row_names prows) text c.in-Good.principals_to c.in-At.delegator c.in-At.vars_from = subst (λ k. DelegatorMeant (row_names prows) text c.in-Good.principals_to k) c.in-At.is
+    (c.delegator_at-line.ensures prows (rows_of_principals form text c.args.«open» c.args.from _ _ _ _ roster)) in
     let slots_v : List ℕ = c.variables-values.new.slots in
-    let values : Values text.in-At.vars_from c.in-Good.w slots_v.in-Good-values.vars_to c.in-Good-values.m c.in-Good-values.v = subst (λ k. VariablesMeant text.in-At.vars_from c.in-Good.w slots_v k) c.in-Good-values.is c.variables-values.ensures in
+    let values : Values text c.in-At.vars_from c.in-Good.w slots_v c.in-Good-values.vars_to c.in-Good-values.m c.in-Good-values.v = subst (λ k. VariablesMeant text c.in-At.vars_from c.in-Good.w slots_v k) c.in-Good-values.is c.variables-values.ensures in
     let vrows : List Row = map variable_row values.records.rows in
     let packed : List ℕ = c.assertions-listed.new.assertions in
-    let granted : Granted (row_names prows) (row_names vrows) text.in-Good-values.vars_to c.in-Good-values.v packed.in-Good-listed.end c.in-Good-listed.asserted c.in-Good-listed.weight = subst (λ k. AssertionsMeant (row_names prows) (row_names vrows) text.in-Good-values.vars_to c.in-Good-values.v packed k) c.in-Good-listed.is
+    let granted : Granted (row_names prows) (row_names vrows) text c.in-Good-values.vars_to c.in-Good-values.v packed c.in-Good-listed.end c.in-Good-listed.asserted c.in-Good-listed.weight = subst (λ k. AssertionsMeant (row_names prows) (row_names vrows) text c.in-Good-values.vars_to c.in-Good-values.v packed k) c.in-Good-listed.is
     (c.assertions-listed.ensures prows vrows
-    (rows_of_principals form text.args.«open» c.args.from _ _ _ _ roster)
-    (values_rows form text.args.«open» c.args.from _ _ _ _ roster _ _ delegating _ _ _ _ values)) in
+    (rows_of_principals form text c.args.«open» c.args.from _ _ _ _ roster)
+    (values_rows form text c.args.«open» c.args.from _ _ _ _ roster _ _ delegating _ _ _ _ values)) in
     (granted.records.reads.high, omega (arith, c.requires.size))
 
 pub shape_of-principals-then-not-zeros_from : goal.shape_of-principals-then-not-zeros_from
@@ -162,19 +162,19 @@ returns-then-not-zeros_from c =
     let text : List ℕ = c.args.state.now in
     let form : Form = form_meant c.args.form in
     let slots-p : List ℕ = c.principals-roster.new.slots in
-    let roster : Principals form text.args.from slots-p.in-Good.principals_to c.in-Good.n c.in-Good.w = subst (λ k. PrincipalsMeant form text.args.from slots-p k) c.in-Good.is c.principals-roster.ensures in
+    let roster : Principals form text c.args.from slots-p c.in-Good.principals_to c.in-Good.n c.in-Good.w = subst (λ k. PrincipalsMeant form text c.args.from slots-p k) c.in-Good.is c.principals-roster.ensures in
     let prows : List Row = map (row_in form) roster.records.rows in
-    let delegating : Delegating (row_names prows) text.in-Good.principals_to c.in-At.delegator c.in-At.vars_from = subst (λ k. DelegatorMeant (row_names prows) text.in-Good.principals_to k) c.in-At.is
-    (c.delegator_at-line.ensures prows (rows_of_principals form text.args.«open» c.args.from _ _ _ _ roster)) in
+    let delegating : Delegating (row_names prows) text c.in-Good.principals_to c.in-At.delegator c.in-At.vars_from = subst (λ k. DelegatorMeant (row_names prows) text c.in-Good.principals_to k) c.in-At.is
+    (c.delegator_at-line.ensures prows (rows_of_principals form text c.args.«open» c.args.from _ _ _ _ roster)) in
     let slots_v : List ℕ = c.variables-values.new.slots in
-    let values : Values text.in-At.vars_from c.in-Good.w slots_v.in-Good-values.vars_to c.in-Good-values.m c.in-Good-values.v = subst (λ k. VariablesMeant text.in-At.vars_from c.in-Good.w slots_v k) c.in-Good-values.is c.variables-values.ensures in
+    let values : Values text c.in-At.vars_from c.in-Good.w slots_v c.in-Good-values.vars_to c.in-Good-values.m c.in-Good-values.v = subst (λ k. VariablesMeant text c.in-At.vars_from c.in-Good.w slots_v k) c.in-Good-values.is c.variables-values.ensures in
     let vrows : List Row = map variable_row values.records.rows in
     let packed : List ℕ = c.assertions-listed.new.assertions in
-    let granted : Granted (row_names prows) (row_names vrows) text.in-Good-values.vars_to c.in-Good-values.v packed.in-Good-listed.end c.in-Good-listed.asserted c.in-Good-listed.weight = subst (λ k. AssertionsMeant (row_names prows) (row_names vrows) text.in-Good-values.vars_to c.in-Good-values.v packed k) c.in-Good-listed.is
+    let granted : Granted (row_names prows) (row_names vrows) text c.in-Good-values.vars_to c.in-Good-values.v packed c.in-Good-listed.end c.in-Good-listed.asserted c.in-Good-listed.weight = subst (λ k. AssertionsMeant (row_names prows) (row_names vrows) text c.in-Good-values.vars_to c.in-Good-values.v packed k) c.in-Good-listed.is
     (c.assertions-listed.ensures prows vrows
-    (rows_of_principals form text.args.«open» c.args.from _ _ _ _ roster)
-    (values_rows form text.args.«open» c.args.from _ _ _ _ roster _ _ delegating _ _ _ _ values)) in
-    bad_behind form text.args.«open» c.args.from _ _ _ _ roster _ _ delegating _ _ _ _ values _ _ _ _ granted
+    (rows_of_principals form text c.args.«open» c.args.from _ _ _ _ roster)
+    (values_rows form text c.args.«open» c.args.from _ _ _ _ roster _ _ delegating _ _ _ _ values)) in
+    bad_behind form text c.args.«open» c.args.from _ _ _ _ roster _ _ delegating _ _ _ _ values _ _ _ _ granted
     (eqb-false (total (drop c.in-Good-listed.end text)) 0 (sym c.zeros_from.ensures ∙ not-true c.zeros_from.result c.if-not-zeros_from.true-raw))
 
 pub shape_of-principals : goal.shape_of-principals
@@ -185,17 +185,17 @@ returns c =
     let text : List ℕ = c.args.state.now in
     let form : Form = form_meant c.args.form in
     let slots-p : List ℕ = c.principals-roster.new.slots in
-    let roster : Principals form text.args.from slots-p.in-Good.principals_to c.in-Good.n c.in-Good.w = subst (λ k. PrincipalsMeant form text.args.from slots-p k) c.in-Good.is c.principals-roster.ensures in
+    let roster : Principals form text c.args.from slots-p c.in-Good.principals_to c.in-Good.n c.in-Good.w = subst (λ k. PrincipalsMeant form text c.args.from slots-p k) c.in-Good.is c.principals-roster.ensures in
     let prows : List Row = map (row_in form) roster.records.rows in
-    let delegating : Delegating (row_names prows) text.in-Good.principals_to c.in-At.delegator c.in-At.vars_from = subst (λ k. DelegatorMeant (row_names prows) text.in-Good.principals_to k) c.in-At.is
-    (c.delegator_at-line.ensures prows (rows_of_principals form text.args.«open» c.args.from _ _ _ _ roster)) in
+    let delegating : Delegating (row_names prows) text c.in-Good.principals_to c.in-At.delegator c.in-At.vars_from = subst (λ k. DelegatorMeant (row_names prows) text c.in-Good.principals_to k) c.in-At.is
+    (c.delegator_at-line.ensures prows (rows_of_principals form text c.args.«open» c.args.from _ _ _ _ roster)) in
     let slots_v : List ℕ = c.variables-values.new.slots in
-    let values : Values text.in-At.vars_from c.in-Good.w slots_v.in-Good-values.vars_to c.in-Good-values.m c.in-Good-values.v = subst (λ k. VariablesMeant text.in-At.vars_from c.in-Good.w slots_v k) c.in-Good-values.is c.variables-values.ensures in
+    let values : Values text c.in-At.vars_from c.in-Good.w slots_v c.in-Good-values.vars_to c.in-Good-values.m c.in-Good-values.v = subst (λ k. VariablesMeant text c.in-At.vars_from c.in-Good.w slots_v k) c.in-Good-values.is c.variables-values.ensures in
     let vrows : List Row = map variable_row values.records.rows in
     let packed : List ℕ = c.assertions-listed.new.assertions in
-    let granted : Granted (row_names prows) (row_names vrows) text.in-Good-values.vars_to c.in-Good-values.v packed.in-Good-listed.end c.in-Good-listed.asserted c.in-Good-listed.weight = subst (λ k. AssertionsMeant (row_names prows) (row_names vrows) text.in-Good-values.vars_to c.in-Good-values.v packed k) c.in-Good-listed.is
+    let granted : Granted (row_names prows) (row_names vrows) text c.in-Good-values.vars_to c.in-Good-values.v packed c.in-Good-listed.end c.in-Good-listed.asserted c.in-Good-listed.weight = subst (λ k. AssertionsMeant (row_names prows) (row_names vrows) text c.in-Good-values.vars_to c.in-Good-values.v packed k) c.in-Good-listed.is
     (c.assertions-listed.ensures prows vrows
-    (rows_of_principals form text.args.«open» c.args.from _ _ _ _ roster)
-    (values_rows form text.args.«open» c.args.from _ _ _ _ roster _ _ delegating _ _ _ _ values)) in
-    all_good form text.args.«open» c.args.from _ _ _ _ roster _ _ delegating _ _ _ _ values _ _ _ _ granted
+    (rows_of_principals form text c.args.«open» c.args.from _ _ _ _ roster)
+    (values_rows form text c.args.«open» c.args.from _ _ _ _ roster _ _ delegating _ _ _ _ values)) in
+    all_good form text c.args.«open» c.args.from _ _ _ _ roster _ _ delegating _ _ _ _ values _ _ _ _ granted
     (eqb-true (total (drop c.in-Good-listed.end text)) 0 (sym c.zeros_from.ensures ∙ not-false c.zeros_from.result c.if-not-zeros_from.false-raw))

@@ -84,7 +84,7 @@ shape_of-slots-in_default c =
     let lowest : c.args.w + 2 * c.loop-at.n ≤ c.loop-at.now = let l = c.loop-at in sharing_low c.args.text.now c.args.at c.args.w l.slots l.i l.n l.now l.invariant.2 in
     let few : c.loop-at.n ≤ length c.loop-at.slots = let k = lowest in let w = whole in omega (arith, k, w, c.loop-at.invariant.1) in
     let slots-then : List ℕ = lent c.loop-at.n c.loop-at.slots c.variable_at-line.new.slots in
-    let same : length slots-then ≡ length c.loop-at.slots = lent_length c.loop-at.n c.loop-at.slots c.variable_at-line.new.slots few.variable_at-line.auto.slots in
+    let same : length slots-then ≡ length c.loop-at.slots = lent_length c.loop-at.n c.loop-at.slots c.variable_at-line.new.slots few c.variable_at-line.auto.slots in
     same ∙ c.loop-at.invariant.0
 
 pub returns-in_default : goal.returns-in_default
@@ -102,13 +102,13 @@ enter-requires c =
     let slots-then : List ℕ = lent c.loop-at.n c.loop-at.slots c.variable_at-line.new.slots in
     let lowest : c.args.w + 2 * c.loop-at.n ≤ c.loop-at.now = let l = c.loop-at in sharing_low c.args.text.now c.args.at c.args.w l.slots l.i l.n l.now l.invariant.2 in
     let few : c.loop-at.n ≤ length c.loop-at.slots = let k = lowest in let w = whole in omega (arith, k, w, c.loop-at.invariant.1) in
-    let same : length slots-then ≡ length c.loop-at.slots = lent_length c.loop-at.n c.loop-at.slots c.variable_at-line.new.slots few.variable_at-line.auto.slots in
-    let sharing : Sharing c.args.text.now c.args.at c.args.w slots-then.loop-at.i c.loop-at.n c.loop-at.now = let l = c.loop-at in
+    let same : length slots-then ≡ length c.loop-at.slots = lent_length c.loop-at.n c.loop-at.slots c.variable_at-line.new.slots few c.variable_at-line.auto.slots in
+    let sharing : Sharing c.args.text.now c.args.at c.args.w slots-then c.loop-at.i c.loop-at.n c.loop-at.now = let l = c.loop-at in
     reindexed c.args.text.now c.args.at c.args.w l.slots slots-then l.i l.n l.now (lent_front l.n l.slots c.variable_at-line.new.slots few) l.invariant.2 in
     let entitled : Entitled (λ (v : Variable). v.name) text_of valid_variable variable_weight off_element c.args.text.now c.loop-at.i c.loop-at.now c.in-Good.m c.in-Good.e c.in-Good.after = subst (λ k. VariableMeant c.args.text.now c.loop-at.i c.loop-at.now k) c.in-Good.is c.variable_at-line.ensures in
     let a = c.args in
     let l = c.loop-at in
-    variable_entering a.text.now a.at a.w slots-then l.i l.n l.now sharing on _ _ _ entitled.requires.1 (same ∙ whole)
+    variable_entering a.text.now a.at a.w slots-then l.i l.n l.now sharing on _ _ _ entitled c.requires.1 (same ∙ whole)
 
 pub shape_of-slots-then-not-enter : goal.shape_of-slots-then-not-enter
 shape_of-slots-then-not-enter c =
@@ -116,7 +116,7 @@ shape_of-slots-then-not-enter c =
     let lowest : c.args.w + 2 * c.loop-at.n ≤ c.loop-at.now = let l = c.loop-at in sharing_low c.args.text.now c.args.at c.args.w l.slots l.i l.n l.now l.invariant.2 in
     let few : c.loop-at.n ≤ length c.loop-at.slots = let k = lowest in let w = whole in omega (arith, k, w, c.loop-at.invariant.1) in
     let slots-then : List ℕ = lent c.loop-at.n c.loop-at.slots c.variable_at-line.new.slots in
-    let same : length slots-then ≡ length c.loop-at.slots = lent_length c.loop-at.n c.loop-at.slots c.variable_at-line.new.slots few.variable_at-line.auto.slots in
+    let same : length slots-then ≡ length c.loop-at.slots = lent_length c.loop-at.n c.loop-at.slots c.variable_at-line.new.slots few c.variable_at-line.auto.slots in
     c.enter.auto.slots ∙ (same ∙ c.loop-at.invariant.0)
 
 pub returns-then-not-enter : goal.returns-then-not-enter
@@ -126,13 +126,13 @@ returns-then-not-enter c =
     let whole : length c.loop-at.slots ≡ 4096 = c.loop-at.invariant.0 ∙ c.requires.2 in
     let lowest : c.args.w + 2 * c.loop-at.n ≤ c.loop-at.now = let l = c.loop-at in sharing_low c.args.text.now c.args.at c.args.w l.slots l.i l.n l.now l.invariant.2 in
     let few : c.loop-at.n ≤ length c.loop-at.slots = let k = lowest in let w = whole in omega (arith, k, w, c.loop-at.invariant.1) in
-    let sharing : Sharing c.args.text.now c.args.at c.args.w slots-then.loop-at.i c.loop-at.n c.loop-at.now = let l = c.loop-at in
+    let sharing : Sharing c.args.text.now c.args.at c.args.w slots-then c.loop-at.i c.loop-at.n c.loop-at.now = let l = c.loop-at in
     reindexed c.args.text.now c.args.at c.args.w l.slots slots-then l.i l.n l.now (lent_front l.n l.slots c.variable_at-line.new.slots few) l.invariant.2 in
     let entitled : Entitled (λ (v : Variable). v.name) text_of valid_variable variable_weight off_element c.args.text.now c.loop-at.i c.loop-at.now c.in-Good.m c.in-Good.e c.in-Good.after = subst (λ k. VariableMeant c.args.text.now c.loop-at.i c.loop-at.now k) c.in-Good.is c.variable_at-line.ensures in
-    let entered : (b : Bool) → c.enter.result ≡ b → (rows : List Row) → let l = c.loop-at in let t = c.args.text.now in Rows rows (part t c.args.at l.i) l.n slots-then → Entered rows (part t (l.i + 2) c.in-Good.m) (l.i - c.args.at) l.n slots-then.enter.new.slots b = λ b e rows H. let l = c.loop-at in subst (λ k. Entered rows (part c.args.text.now (l.i + 2) c.in-Good.m) (l.i - c.args.at) l.n slots-then.enter.new.slots k) e (c.enter.ensures rows H) in
+    let entered : (b : Bool) → c.enter.result ≡ b → (rows : List Row) → let l = c.loop-at in let t = c.args.text.now in Rows rows (part t c.args.at l.i) l.n slots-then → Entered rows (part t (l.i + 2) c.in-Good.m) (l.i - c.args.at) l.n slots-then c.enter.new.slots b = λ b e rows H. let l = c.loop-at in subst (λ k. Entered rows (part c.args.text.now (l.i + 2) c.in-Good.m) (l.i - c.args.at) l.n slots-then c.enter.new.slots k) e (c.enter.ensures rows H) in
     let a = c.args in
     let l = c.loop-at in
-    variable_again a.text.now a.at a.w slots-then l.i l.n l.now sharing on _ _ _ entitled.requires.1 c.enter.new.slots
+    variable_again a.text.now a.at a.w slots-then l.i l.n l.now sharing on _ _ _ entitled c.requires.1 c.enter.new.slots
     (entered false (not-true c.enter.result c.if-not-enter.true-raw))
 
 pub overflow_add-n : goal.overflow_add-n
@@ -159,16 +159,16 @@ loop-at-preserved c =
     let slots-then : List ℕ = lent c.loop-at.n c.loop-at.slots c.variable_at-line.new.slots in
     let lowest : c.args.w + 2 * c.loop-at.n ≤ c.loop-at.now = let l = c.loop-at in sharing_low c.args.text.now c.args.at c.args.w l.slots l.i l.n l.now l.invariant.2 in
     let few : c.loop-at.n ≤ length c.loop-at.slots = let k = lowest in let w = whole in omega (arith, k, w, c.loop-at.invariant.1) in
-    let same : length slots-then ≡ length c.loop-at.slots = lent_length c.loop-at.n c.loop-at.slots c.variable_at-line.new.slots few.variable_at-line.auto.slots in
-    let sharing : Sharing c.args.text.now c.args.at c.args.w slots-then.loop-at.i c.loop-at.n c.loop-at.now = let l = c.loop-at in
+    let same : length slots-then ≡ length c.loop-at.slots = lent_length c.loop-at.n c.loop-at.slots c.variable_at-line.new.slots few c.variable_at-line.auto.slots in
+    let sharing : Sharing c.args.text.now c.args.at c.args.w slots-then c.loop-at.i c.loop-at.n c.loop-at.now = let l = c.loop-at in
     reindexed c.args.text.now c.args.at c.args.w l.slots slots-then l.i l.n l.now (lent_front l.n l.slots c.variable_at-line.new.slots few) l.invariant.2 in
     let entitled : Entitled (λ (v : Variable). v.name) text_of valid_variable variable_weight off_element c.args.text.now c.loop-at.i c.loop-at.now c.in-Good.m c.in-Good.e c.in-Good.after = subst (λ k. VariableMeant c.args.text.now c.loop-at.i c.loop-at.now k) c.in-Good.is c.variable_at-line.ensures in
-    let entered : (b : Bool) → c.enter.result ≡ b → (rows : List Row) → let l = c.loop-at in let t = c.args.text.now in Rows rows (part t c.args.at l.i) l.n slots-then → Entered rows (part t (l.i + 2) c.in-Good.m) (l.i - c.args.at) l.n slots-then.enter.new.slots b = λ b e rows H. let l = c.loop-at in subst (λ k. Entered rows (part c.args.text.now (l.i + 2) c.in-Good.m) (l.i - c.args.at) l.n slots-then.enter.new.slots k) e (c.enter.ensures rows H) in
+    let entered : (b : Bool) → c.enter.result ≡ b → (rows : List Row) → let l = c.loop-at in let t = c.args.text.now in Rows rows (part t c.args.at l.i) l.n slots-then → Entered rows (part t (l.i + 2) c.in-Good.m) (l.i - c.args.at) l.n slots-then c.enter.new.slots b = λ b e rows H. let l = c.loop-at in subst (λ k. Entered rows (part c.args.text.now (l.i + 2) c.in-Good.m) (l.i - c.args.at) l.n slots-then c.enter.new.slots k) e (c.enter.ensures rows H) in
     let a = c.args in
     let l = c.loop-at in (
       c.enter.auto.slots ∙ (same ∙ l.invariant.0),
       variable_light a.text.now a.at a.w l.slots l.i l.n l.now l.invariant.2 on _ _ _ entitled,
-      variable_next a.text.now a.at a.w slots-then l.i l.n l.now sharing on _ _ _ entitled.requires.1 c.enter.new.slots (same ∙ whole)
+      variable_next a.text.now a.at a.w slots-then l.i l.n l.now sharing on _ _ _ entitled c.requires.1 c.enter.new.slots (same ∙ whole)
           (entered true (not-false c.enter.result c.if-not-enter.false-raw)),
     )
 
@@ -179,4 +179,4 @@ pub returns : goal.returns
 returns c =
     let off : T (off_variable (drop c.loop-at.i c.args.text.now)) = subst (λ (b : Bool). T b) (sym (not-false (off_variable (drop c.loop-at.i c.args.text.now)) (sym c.goes_on.ensures ∙ c.loop-at-test.false))) tt in
     let l = c.loop-at in
-    variables_good c.args.text.now c.args.at c.args.w l.slots l.i l.n l.now l.invariant.2 (off (c)) l.invariant.1 c.requires.1
+    variables_good c.args.text.now c.args.at c.args.w l.slots l.i l.n l.now l.invariant.2 off l.invariant.1 c.requires.1
