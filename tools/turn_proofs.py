@@ -250,7 +250,7 @@ def is_turned_whole(segs, fn):
         return False
     if plain(left[0]) in ("loop",) or re.fullmatch(r"loop\d*", left[0]):
         return False
-    return plain(left[0]) in fn.fields
+    return re.sub("_lem$", "", plain(left[0])) in fn.fields or plain(left[0]) in fn.fields
 
 
 def inline(text, fn, roots):

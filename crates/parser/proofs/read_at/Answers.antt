@@ -65,9 +65,8 @@ returns-else-not-stars_at c =
     let no_command : command_line (line_from c.args.text.now c.in-Tokens.s) ≡ none = told (line_read_meant c.args.text.now) c.command_line-line.ensures.meant c.in_default.is in
     let t = c.args.text.now in
     let q = placed in
-    let y = c.ending_line-ending in
     first_ending t c.args.at c.in-Tokens.s c.in-Tokens.n q.0 q.1 q.2 (after-comments _ c.in-Tokens.is) no_command c.in-Found-ending.c
-    (known (LineWithin t) y.ensures.1 c.in-Found-ending.is) (told (line_read_meant t) y.ensures.0 c.in-Found-ending.is) (sym c.stars_at.ensures ∙ not-false c.stars_at.result c.if-not-stars_at.false-raw)
+    (known (LineWithin t) c.ending_line-ending.ensures.placed c.in-Found-ending.is) (told (line_read_meant t) c.ending_line-ending.ensures.meant c.in-Found-ending.is) (sym c.stars_at.ensures ∙ not-false c.stars_at.result c.if-not-stars_at.false-raw)
 
 pub returns-in-Stars : goal.returns-in-Stars
 returns-in-Stars c =

@@ -57,9 +57,8 @@ write-requires c =
     let F = variable_found p.rows a.text.now a.count a.slots.now p.held a.name.now c.in-At.number c.in-At.start c.in-At.end (here p.rows p.held) in
     omega (arith, F.below, p.held.counted) in
     let p = c.requires in
-    let g = c.value_of-span.result in
     let w = c.value_of-span.ensures p.0.rows p.0.held in
-    let n = length_part c.args.text.now g.start g.end w.order w.within in
+    let n = length_part c.args.text.now c.value_of-span.result.start c.value_of-span.result.end w.order w.within in
     (omega (arith, below, p.1), omega (arith, n, w.within, p.2), omega (arith, n, w.within, p.2, p.3))
 
 pub returns : goal.returns
@@ -67,7 +66,6 @@ returns c vs W =
     let here : (vs : List Variable) → let a = c.args in Variables vs a.text.now a.count a.slots.now → At c.in-At.number c.in-At.start c.in-At.end ≡ place (map variable_row vs) a.name.now = λ vs W. let a = c.args in
     sym c.in-At.is ∙ c.find-place.ensures (map variable_row vs) (variables_rows vs a.text.now a.count a.slots.now W) in
     let a = c.args in
-    let g = c.value_of-span.result in
     subst (λ (l : Look). Says l a.out.now c.write.new.out c.write.result)
-    (sym (variable_here vs a.name.now c.in-At.number c.in-At.start c.in-At.end (here vs W) a.text.now g.start g.end (c.value_of-span.ensures vs W)))
+    (sym (variable_here vs a.name.now c.in-At.number c.in-At.start c.in-At.end (here vs W) a.text.now c.value_of-span.result.start c.value_of-span.result.end (c.value_of-span.ensures vs W)))
     c.write.ensures

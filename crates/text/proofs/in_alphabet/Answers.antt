@@ -1,6 +1,5 @@
 use mathlib.Core.Path.{sym, ap, ◌∙◌}
 use Rattle.text.specs.Meaning.{in_alphabet}
-use borrow.Author.Rules.{rules}
 use Rattle.text.proofs.in_alphabet.Goals as goal
 
 pub returns-in-Word : goal.returns-in-Word

@@ -1,13 +1,11 @@
 -- `text::run_end` meets its contract. The loop's invariant: what is passed and the run that is left make up the whole run.
 -- Assumes nothing.
 use mathlib.Core.Path.{◌≡◌, sym, ap, ◌∙◌}
-use Prim.Native.Nat.{◌+◌, ◌-◌, ◌≤◌}
 use native.Mathlib.Omega.{arith}
 use borrow.Author.Rules.{rules}
 use borrow.Author.Tests.{not-true, not-false}
-use lib.ListN.{length, drop, get_or}
+use lib.ListN.{length, get_or}
 use mathlib.Core.Bool.{true, false}
-use Rattle.language.specs.Text.{front}
 use Rattle.text.specs.Meaning.{in_alphabet}
 use Rattle.text.proofs.Runs.{run_on, run_stop, run_none}
 use Rattle.text.proofs.run_end.Goals as goal

@@ -1,10 +1,7 @@
 -- `text::same_bytes` meets its contract. The loop's invariant: the lists are the same where what is left of them is.
 -- Assumes nothing.
-use mathlib.Core.Path.{◌≡◌, sym, ◌∙◌}
-use Prim.Native.Nat.{◌-◌, ◌≤◌}
+use mathlib.Core.Path.{sym, ◌∙◌}
 use borrow.Author.Tests.{eq-eqb, ne_eqb}
-use lib.ListN.{length, drop}
-use Rattle.language.specs.Text.{◌≟◌}
 use Rattle.text.proofs.Words.{same_step, same_none, same_length}
 use borrow.Author.Rules.{rules}
 use Rattle.text.proofs.same_bytes.Goals as goal

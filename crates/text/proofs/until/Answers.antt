@@ -1,12 +1,10 @@
 -- `text::until` meets its contract. The loop's invariant: what is passed and the run that is left make up the whole run.
 -- Assumes nothing.
-use mathlib.Core.Path.{◌≡◌, ap}
+use mathlib.Core.Path.{ap}
 use mathlib.Core.Bool.{not}
-use Prim.Native.Nat.{◌+◌, ◌-◌, ◌≤◌}
 use native.Mathlib.Omega.{arith}
 use borrow.Author.Tests.{eq-eqb, ne_eqb}
-use lib.ListN.{length, drop}
-use Rattle.language.specs.Text.{front}
+use lib.ListN.{length}
 use Rattle.text.specs.Meaning.{is_not}
 use Rattle.text.proofs.Runs.{run_on, run_stop, run_none}
 use borrow.Author.Rules.{rules}
