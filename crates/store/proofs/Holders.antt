@@ -9,7 +9,7 @@ use lib.Dec.{T}
 use lib.ListN.{length, length-map}
 use Rattle.language.specs.Text.{Text, joined, all}
 use Rattle.language.specs.Syntax.{Name}
-use Rattle.language.specs.State.{string, fields, Value, single, list, Principal, Variable, named}
+use Rattle.language.specs.State.{string, fields, Value, single, list, Principal, Variable}
 use Rattle.language.specs.Identifiers.{is_name}
 use Rattle.language.specs.Encode.{tab, newline, field_text, element_text, principal_line, principal_text, variable_text, principals_text, variables_text, value_text}
 use Rattle.language.specs.Former.{Form, current, former, former_line, former_principal, principal_in}

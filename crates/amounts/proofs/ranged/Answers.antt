@@ -1,5 +1,4 @@
 -- `amounts::ranged` meets its contract. Assumes nothing.
-use borrow.Author.Rules.{rules}
 use mathlib.Core.Path.{◌≡◌, sym, ap, ◌∙◌}
 use mathlib.Core.Option.{some}
 use lib.IntN.{ℤ, pos, negsuc}

@@ -1,6 +1,5 @@
 use native.Mathlib.Omega.{arith}
 use Rattle.assertion.specs.Packed.{pack}
-use borrow.Author.Rules.{rules}
 use Rattle.assertion.proofs.pack.Goals as goal
 
 pub returns : goal.returns

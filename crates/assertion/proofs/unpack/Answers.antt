@@ -1,6 +1,5 @@
 use mathlib.Core.Path.{refl}
 use Rattle.assertion.specs.Packed.{fields}
-use borrow.Author.Rules.{rules}
 use Rattle.assertion.proofs.unpack.Goals as goal
 
 pub returns : goal.returns

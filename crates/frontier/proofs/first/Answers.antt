@@ -1,7 +1,6 @@
 -- `frontier::first` meets its contract.
 use Prim.Native.Nat.{◌*◌}
 use native.Mathlib.Omega.{arith}
-use borrow.Author.Rules.{rules}
 use Rattle.frontier.proofs.first.Goals as goal
 
 pub overflow_cast-i : goal.overflow_cast-i

@@ -1,7 +1,6 @@
 -- `frontier::next` meets its contract.
 use Prim.Native.Nat.{◌+◌, ◌*◌}
 use native.Mathlib.Omega.{arith}
-use borrow.Author.Rules.{rules}
 use Rattle.frontier.proofs.next.Goals as goal
 
 pub overflow_cast-result : goal.overflow_cast-result

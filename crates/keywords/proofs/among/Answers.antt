@@ -5,12 +5,12 @@ use borrow.Author.Rules.{rules}
 use mathlib.Core.Path.{◌≡◌, sym, ap, ◌∙◌}
 use mathlib.Core.List.{List}
 use mathlib.Core.Bool.{true, false}
-use Prim.Native.Nat.{ℕ, ◌+◌, ◌-◌, ◌≤◌}
+use Prim.Native.Nat.{ℕ, ◌-◌, ◌≤◌}
 use native.Mathlib.Omega.{arith}
 use borrow.Author.Tests.{lt-leb}
 use lib.ListN.{length, drop, take}
-use Rattle.language.specs.Text.{◌≟◌, parts, member}
-use Rattle.text.proofs.Words.{parts_from, parts_step}
+use Rattle.language.specs.Text.{◌≟◌, member}
+use Rattle.text.proofs.Words.{parts_step}
 use Rattle.keywords.proofs.among.Goals as goal
 
 pub loop-p-init : goal.loop-p-init

@@ -1,14 +1,8 @@
-use borrow.Author.Tests.{le-leb}
-use borrow.Author.Rules.{rules}
-use mathlib.Core.Path.{◌≡◌, sym, ap, ◌∙◌}
-use mathlib.Core.List.{List}
-use mathlib.Core.Bool.{true, false}
-use Prim.Native.Nat.{ℕ, ◌+◌, ◌-◌, ◌≤◌}
-use native.Mathlib.Omega.{arith}
-use borrow.Author.Tests.{lt-leb}
-use lib.ListN.{length, drop, take}
-use Rattle.language.specs.Text.{◌≟◌, parts, member}
-use Rattle.text.proofs.Words.{parts_from, parts_step}
+use mathlib.Core.Path.{◌≡◌}
+use Prim.Native.Nat.{◌+◌, ◌-◌, ◌≤◌}
+use lib.ListN.{length}
+use Rattle.language.specs.Text.{parts, member}
+use Rattle.text.proofs.Words.{parts_from}
 use Rattle.keywords.proofs.among.Given as goal
 
 abbrev pub invariant-loop-p : goal.invariant-loop-p

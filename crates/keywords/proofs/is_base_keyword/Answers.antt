@@ -1,12 +1,9 @@
 use mathlib.Core.Path.{◌≡◌, refl, sym, ap, ◌∙◌}
 use native.Mathlib.Omega.{arith}
 use mathlib.Core.List.{[]}
-use lib.ListN.{get_or}
-use borrow.Author.Tests.{ne_eqb}
 use Rattle.language.specs.Text.{bytes, member, parts}
 use Rattle.language.specs.Identifiers.{base_keywords}
-use Rattle.keywords.proofs.Keywords.{no_bytes, one_of_lem, none_of}
-use borrow.Author.Rules.{rules}
+use Rattle.keywords.proofs.Keywords.{no_bytes, one_of_lem}
 use Rattle.keywords.proofs.is_base_keyword.Goals as goal
 
 pub returns-then-w-eq0 : goal.returns-then-w-eq0
@@ -78,4 +75,3 @@ pub returns-in-119 : goal.returns-in-119
 returns-in-119 c =
     let w = c.args.w.now in
     c.among-in-119.ensures ∙ one_of_lem w 119 (omega arith) c.in-119.is base_keywords (parts 32 (bytes "write with")) refl
-

@@ -5,7 +5,6 @@ use mathlib.Core.Bool.{Bool, ◌||◌}
 use Rattle.language.specs.Text.{Text, ◌≟◌, member}
 use Rattle.language.specs.Identifiers.{base_keywords, price_keywords}
 use Rattle.language.proofs.Logic.Lists.{any_joined}
-use borrow.Author.Rules.{rules}
 use Rattle.keywords.proofs.is_keyword.Goals as goal
 
 pub returns-then-is_base_keyword : goal.returns-then-is_base_keyword

@@ -3,12 +3,9 @@
 use mathlib.Core.Path.{◌≡◌, refl, sym, ap, ◌∙◌}
 use native.Mathlib.Omega.{arith}
 use mathlib.Core.List.{[]}
-use lib.ListN.{get_or}
-use borrow.Author.Tests.{ne_eqb}
 use Rattle.language.specs.Text.{bytes, member, parts}
 use Rattle.language.specs.Identifiers.{price_keywords}
-use Rattle.keywords.proofs.Keywords.{no_bytes, one_of_lem, none_of}
-use borrow.Author.Rules.{rules}
+use Rattle.keywords.proofs.Keywords.{no_bytes, one_of_lem}
 use Rattle.keywords.proofs.is_price_keyword.Goals as goal
 
 pub returns-then-w-eq0 : goal.returns-then-w-eq0
@@ -35,4 +32,3 @@ pub returns-in-116 : goal.returns-in-116
 returns-in-116 c =
     let w = c.args.w.now in
     c.among-in-116.ensures ∙ one_of_lem w 116 (omega arith) c.in-116.is price_keywords (parts 32 (bytes "times")) refl
-

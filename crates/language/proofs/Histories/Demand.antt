@@ -14,7 +14,7 @@ use Rattle.language.specs.Values.{Session}
 use Rattle.language.specs.Run.{login, right, begin}
 use Rattle.language.specs.Programs.{parse}
 use Rattle.language.specs.Decode.{Holds}
-use Rattle.language.specs.Calls.{ready, make_call, bring_call}
+use Rattle.language.specs.Calls.{make_call, bring_call}
 use Rattle.language.specs.Events.{Event, after_events, Stands}
 use Rattle.language.specs.History.{Call, leaves, Book, book_of, entries_of, history_of, Reaches, Governed, Answered, Demand3}
 use Rattle.language.proofs.Logic.Tests.{both}

@@ -11,7 +11,7 @@ use Rattle.language.specs.Tokens.{Token, sign, ident, text, wrong}
 use Rattle.language.specs.Syntax.{Name, Right, read, write, append, delegate, Operand, name, dot, quoted, Binding, Function, Comparison, Term, single, nothing, fields, tolower, call, compare, Expr, term, let_in}
 use Rattle.language.specs.Syntax.{Target, every, only, Command, create_principal, change_password, set, append_to, local, foreach, filtereach, set_delegation, delete_delegation, default_delegator, exit, return}
 use Rattle.language.specs.Identifiers.{is_identifier, is_string}
-use Rattle.language.specs.Grammar.{Reader, ◌>>=◌, ◌>>◌, any_operand, any_fields, function_of, ahead, any_function, comparison_of, any_comparison, any_call, any_term, any_lets, any_expression, any_right, any_target, set_form, any_command, any_ending, any_login, spent, whole}
+use Rattle.language.specs.Grammar.{Reader, ◌>>=◌, any_operand, any_fields, function_of, ahead, any_function, comparison_of, any_comparison, any_call, any_term, any_lets, any_expression, any_right, any_target, set_form, any_command, any_ending, any_login, spent, whole}
 use Rattle.language.proofs.Parsing.ValidPrograms.{valid_operand, valid_binding, valid_term, valid_expr, valid_target, valid_command, is_ending}
 use Rattle.language.proofs.Logic.Tests.{both, and, and_three}
 use Rattle.language.proofs.Logic.Outcomes.{Where}

@@ -1,5 +1,4 @@
 -- `amounts::signed::plain` meets its contract. Assumes nothing.
-use borrow.Author.Rules.{rules}
 use native.Mathlib.Omega.{arith}
 use mathlib.Core.Path.{sym, subst}
 use lib.IntN.{ℤ, nat_abs}

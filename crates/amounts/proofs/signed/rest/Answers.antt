@@ -1,7 +1,7 @@
 -- `amounts::signed::rest` meets its contract. Assumes nothing.
-use lib.Signed.{quot_z, rem_z, mag_rem}
+use lib.Signed.{rem_z, mag_rem}
 use mir.ValLaws.{sfits_le}
-use Rattle.amounts.proofs.Fitting.{result_fits, result_is, quotient_fits, bits_not_zero}
+use Rattle.amounts.proofs.Fitting.{result_is}
 use Rattle.amounts.proofs.signed.rest.Goals as goal
 
 pub returns : goal.returns

@@ -1,6 +1,6 @@
 -- `amounts::signed::whole` meets its contract. Assumes nothing.
 use lib.Signed.{quot_z}
-use Rattle.amounts.proofs.Fitting.{result_fits, result_is, quotient_fits, bits_not_zero}
+use Rattle.amounts.proofs.Fitting.{result_is, quotient_fits}
 use Rattle.amounts.proofs.signed.whole.Goals as goal
 
 pub returns : goal.returns

@@ -1,14 +1,8 @@
 -- `search_steps::tables::reach_rest` meets its contract. The loop's invariant: the first i are as they are to be, the others as they were.
 -- Assumes nothing.
-use borrow.Author.Rules.{rules}
-use mathlib.Core.Path.{◌≡◌, refl, ap, ◌∙◌}
-use mathlib.Core.List.{◌++◌}
-use mathlib.Core.Logic.{⊎_elim}
-use Prim.Native.Nat.{◌-◌, ◌≤◌}
+use mathlib.Core.Path.{refl}
 use native.Mathlib.Omega.{arith}
-use lib.ListN.{length, take, drop, length-set}
-use Rattle.search_steps.specs.Steps.{rest_reached}
-use Rattle.search_steps.proofs.Filling.{rest_reached_lem, rest_kept, rest_done}
+use Rattle.search_steps.proofs.Filling.{rest_done}
 use Rattle.search_steps.proofs.tables.reach_rest.Goals as goal
 
 pub loop-i-init : goal.loop-i-init

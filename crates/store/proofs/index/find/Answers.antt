@@ -1,7 +1,7 @@
 use mathlib.Core.Path.{◌≡◌, sym, ap, ◌∙◌}
 use mathlib.Core.List.{List}
 use mathlib.Core.Bool.{true}
-use Prim.Native.Nat.{ℕ, suc, ◌+◌, ◌-◌, ◌≤◌, ◌<◌}
+use Prim.Native.Nat.{ℕ, suc, ◌+◌, ◌≤◌, ◌<◌}
 use native.Mathlib.Omega.{arith}
 use borrow.Author.Count.{below_more}
 use lib.ListN.{length}
@@ -84,8 +84,7 @@ loop-i-preserved c =
     let h : c.scan-k.result < a.count = omega (arith, c.scan-k.ensures.high, c.if-k-count.false) in
     let P = c.nth-at.ensures rows H in
     ap (λ (s : ℕ). part a.text.now (s + 2) c.nth-at.result.mid) P.starts
-    ∙ name_part rows a.text.now a.count a.slots.now H c.scan-k.result h c.nth-at.result.mid P.name_ends in
-    (
+    ∙ name_part rows a.text.now a.count a.slots.now H c.scan-k.result h c.nth-at.result.mid P.name_ends in (
       omega (arith, c.scan-k.ensures.high, c.if-k-count.false),
       λ rows H. below_more _ _ (passed rows H)
           (ap (λ (y : Name). y ≟ c.args.name.now) (sym (name_is rows H)) ∙ sym c.is_named.ensures ∙ c.if-is_named.false),

@@ -1,10 +1,5 @@
-use mathlib.Core.Path.{◌≡◌}
-use Prim.Native.Nat.{ℕ, ◌-◌, ◌/◌, ◌≤◌, ◌<◌}
 use native.Mathlib.Omega.{arith}
-use borrow.Author.Rules.{rules}
-use lib.ListN.{get_or}
 use borrow.Author.Count.{below_more}
-use Rattle.store.specs.Held.{places}
 use Rattle.store.proofs.index.first_of.Goals as goal
 
 pub loop-i-init : goal.loop-i-init

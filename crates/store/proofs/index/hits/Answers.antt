@@ -1,9 +1,7 @@
 use mathlib.Core.Path.{◌≡◌, sym, subst}
 use mathlib.Core.Bool.{Bool}
-use mathlib.Core.Logic.{⊎_elim}
-use Prim.Native.Nat.{ℕ, ◌+◌, ◌-◌, ◌≤◌}
+use Prim.Native.Nat.{ℕ, ◌+◌}
 use native.Mathlib.Omega.{arith}
-use borrow.Author.Rules.{rules}
 use Rattle.store.specs.Scans.{HitMeant}
 use Rattle.store.proofs.Scanning.{hit_now, hit_on}
 use Rattle.store.proofs.index.hits.Goals as goal
@@ -18,9 +16,10 @@ loop-i-preserved c =
     let a = c.args in (
       omega arith,
       omega arith,
-      elim c.if-slots-i.branch [ then-slots-i w ↦ subst (λ (b : Bool). HitMeant a.slots.now a.from (l.i + 1) a.p b) (sym w.hit-is) (hit_now a.slots.now a.from a.p l.i l.invariant.0 w.if-slots-i.true)
-    | else-slots-i w ↦ subst (λ (b : Bool). HitMeant a.slots.now a.from (l.i + 1) a.p b) (sym w.hit-is) (hit_on a.slots.now a.from a.p l.hit l.i l.invariant.2 w.if-slots-i.false)
-    ],
+      elim c.if-slots-i.branch [
+        | then-slots-i w ↦ subst (λ (b : Bool). HitMeant a.slots.now a.from (l.i + 1) a.p b) (sym w.hit-is) (hit_now a.slots.now a.from a.p l.i l.invariant.0 w.if-slots-i.true)
+        | else-slots-i w ↦ subst (λ (b : Bool). HitMeant a.slots.now a.from (l.i + 1) a.p b) (sym w.hit-is) (hit_on a.slots.now a.from a.p l.hit l.i l.invariant.2 w.if-slots-i.false)
+      ],
     )
 
 pub returns : goal.returns

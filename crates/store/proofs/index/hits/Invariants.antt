@@ -1,15 +1,9 @@
-use mathlib.Core.Path.{◌≡◌, sym, subst}
-use mathlib.Core.Bool.{Bool}
-use mathlib.Core.Logic.{⊎_elim}
-use Prim.Native.Nat.{ℕ, ◌+◌, ◌-◌, ◌≤◌}
-use native.Mathlib.Omega.{arith}
-use borrow.Author.Rules.{rules}
+use Prim.Native.Nat.{◌-◌, ◌≤◌}
 use Rattle.store.specs.Scans.{HitMeant}
-use Rattle.store.proofs.Scanning.{hit_now, hit_on}
 use Rattle.store.proofs.index.hits.Given as goal
 
 abbrev pub invariant-loop-i : goal.invariant-loop-i
-invariant-loop-i l =    (l.from ≤ l.i) × (l.i ≤ l.to) × HitMeant l.slots l.from l.i l.p l.hit
+invariant-loop-i l = (l.from ≤ l.i) × (l.i ≤ l.to) × HitMeant l.slots l.from l.i l.p l.hit
 
 abbrev pub decreases-loop-i : goal.decreases-loop-i
-decreases-loop-i l =    l.to - l.i
+decreases-loop-i l = l.to - l.i

@@ -1,5 +1,4 @@
 use native.Mathlib.Omega.{arith}
-use borrow.Author.Rules.{rules}
 use Rattle.store.proofs.Records.{slots_long}
 use Rattle.store.proofs.Lookups.{name_starts, starts_at, name_ends_at, ends_before, ends_last}
 use Rattle.store.proofs.index.nth.Goals as goal

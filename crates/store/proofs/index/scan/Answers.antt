@@ -1,9 +1,6 @@
-use mathlib.Core.Path.{◌≡◌, subst}
+use mathlib.Core.Path.{subst}
 use mathlib.Core.Bool.{Bool}
-use Prim.Native.Nat.{ℕ, ◌-◌, ◌/◌, ◌≤◌, ◌<◌}
 use native.Mathlib.Omega.{arith}
-use lib.ListN.{get_or}
-use Rattle.store.specs.Held.{places}
 use Rattle.store.specs.Scans.{HitMeant}
 use Rattle.store.proofs.Scanning.{block_passed, block_first}
 use Rattle.store.proofs.index.scan.Goals as goal
@@ -33,8 +30,7 @@ loop-i-smaller c = omega (arith, c.block_end-next.ensures)
 pub loop-i-preserved : goal.loop-i-preserved
 loop-i-preserved c =
     let a = c.args in
-    let l = c.loop-i in
-    (
+    let l = c.loop-i in (
       omega (arith, l.invariant.0, c.block_end-next.ensures),
       c.block_end-next.ensures.1,
       block_passed a.slots.now a.from a.p l.i c.block_end-next.result l.invariant.2
