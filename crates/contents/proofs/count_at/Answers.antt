@@ -4,7 +4,6 @@ use Rattle.store.specs.Rows.{principal_row}
 use Rattle.store.proofs.Holders.{principals_rows}
 use Rattle.store.proofs.Places.{Lies, lies}
 use Rattle.contents.proofs.Passwords.{second_byte, count_there}
-use borrow.Author.Rules.{rules}
 use Rattle.contents.proofs.count_at.Goals as goal
 
 pub overflow_add-from : goal.overflow_add-from

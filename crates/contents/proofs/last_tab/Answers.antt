@@ -1,7 +1,5 @@
-use Prim.Native.Nat.{◌≤◌, ◌<◌}
 use native.Mathlib.Omega.{arith}
-use borrow.Author.Rules.{rules}
-use Rattle.contents.proofs.Tabs.{NoTab, tab_lower, no_tab_lower}
+use Rattle.contents.proofs.Tabs.{tab_lower, no_tab_lower}
 use Rattle.contents.proofs.last_tab.Goals as goal
 
 pub loop-i-init : goal.loop-i-init

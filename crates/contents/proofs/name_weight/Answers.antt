@@ -4,7 +4,6 @@ use Rattle.language.specs.Text.{◌≟◌}
 use Rattle.language.specs.State.{admin, anyone}
 use Rattle.store.proofs.NameWeights.{weighs_one, weighs_all}
 use Rattle.language.proofs.Logic.Tests.{or_second}
-use borrow.Author.Rules.{rules}
 use Rattle.contents.proofs.name_weight.Goals as goal
 
 pub returns-then-same_bytes : goal.returns-then-same_bytes

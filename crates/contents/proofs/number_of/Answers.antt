@@ -5,7 +5,6 @@ use lib.Seq.{length-take-le}
 use Rattle.store.specs.Rows.{Row, row_names}
 use Rattle.store.proofs.Positions.{position_most}
 use Rattle.store.proofs.Answers.{answered, unanswered}
-use borrow.Author.Rules.{rules}
 use Rattle.contents.proofs.number_of.Goals as goal
 
 pub slice_bounds-find-end : goal.slice_bounds-find-end

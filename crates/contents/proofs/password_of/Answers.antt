@@ -4,7 +4,6 @@ use Rattle.store.specs.Rows.{principal_row}
 use Rattle.store.proofs.Holders.{principals_rows}
 use Rattle.store.proofs.Places.{Lies, lies}
 use Rattle.contents.proofs.Passwords.{no_password, kept_password}
-use borrow.Author.Rules.{rules}
 use Rattle.contents.proofs.password_of.Goals as goal
 
 pub bounds-text-first : goal.bounds-text-first

@@ -4,7 +4,6 @@ use native.Mathlib.Omega.{arith}
 use Rattle.language.specs.Weight.{name_weight}
 use Rattle.store.proofs.Places.{Lies, lies}
 use Rattle.store.proofs.NameWeights.{name_is}
-use borrow.Author.Rules.{rules}
 use Rattle.contents.proofs.principal_weight.Goals as goal
 
 pub overflow_add-from : goal.overflow_add-from

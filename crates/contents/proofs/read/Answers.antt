@@ -9,7 +9,6 @@ use Rattle.store.specs.Rows.{variable_row}
 use Rattle.contents.specs.Contents.{value_bytes}
 use Rattle.store.proofs.Holders.{variables_rows}
 use Rattle.store.proofs.Answers.{FoundRow, found_row, FoundVariable, variable_found, variable_missing}
-use borrow.Author.Rules.{rules}
 use Rattle.contents.proofs.read.Goals as goal
 
 pub overflow_add-from : goal.overflow_add-from

@@ -4,7 +4,6 @@ use Rattle.store.specs.Rows.{variable_row}
 use Rattle.store.proofs.Holders.{variables_rows}
 use Rattle.store.proofs.Places.{lies}
 use Rattle.contents.proofs.Passwords.{value_there}
-use borrow.Author.Rules.{rules}
 use Rattle.contents.proofs.value_of.Goals as goal
 
 pub overflow_add-start : goal.overflow_add-start

@@ -1,6 +1,5 @@
 use mathlib.Core.Path.{sym}
 use native.Mathlib.Omega.{arith}
-use borrow.Author.Rules.{rules}
 use lib.ListN.{drop}
 use Rattle.language.specs.Tokens.{lex}
 use Rattle.tokens.specs.Readers.{next_meant, NextPlaced, found_meant, FoundPlaced}

@@ -5,10 +5,9 @@ use Rattle.language.specs.Text.{bytes}
 use Rattle.language.specs.Tokens.{lex}
 use Rattle.tokens.specs.Readers.{next_meant, NextPlaced, found_meant, FoundPlaced}
 use Rattle.syntax.specs.Values.{operand_read_meant, OperandPlaced}
-use Rattle.tokens.proofs.Reading.{told, known, sign_none, sign_same, sign_other}
+use Rattle.tokens.proofs.Reading.{told, known, sign_same}
 use Rattle.syntax.proofs.Fuel.{record_step}
 use Rattle.syntax.proofs.Fields.{comma_field}
-use borrow.Author.Rules.{rules}
 use Rattle.syntax.proofs.field_at.Goals as goal
 
 pub returns-in_default : goal.returns-in_default
@@ -92,4 +91,3 @@ is_sign-requires-2 c =
     let t = c.args.text.now in
     let p4 = known (FoundPlaced t c.in-Found.e) c.sign_at-sign.ensures.placed c.in-At-sign.is in
     omega arith
-

@@ -5,7 +5,6 @@ use Rattle.text.specs.Meaning.{part}
 use Rattle.language.specs.Tokens.{lex}
 use Rattle.language.specs.Grammar.{any_operand, field_or_variable}
 use Rattle.tokens.proofs.Reading.{read_as, placed_as, or_else_none}
-use borrow.Author.Rules.{rules}
 use Rattle.syntax.proofs.operand_at.Goals as goal
 
 pub dotted-requires : goal.dotted-requires

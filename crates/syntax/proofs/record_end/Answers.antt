@@ -1,10 +1,7 @@
-use mathlib.Core.Path.{◌≡◌, sym, ap, ◌∙◌}
+use mathlib.Core.Path.{sym, ap, ◌∙◌}
 use native.Mathlib.Omega.{arith}
-use borrow.Author.Rules.{rules}
-use lib.ListN.{length}
 use Rattle.syntax.specs.Values.{field_meant, FieldPlaced, record_at}
 use Rattle.tokens.proofs.Reading.{told, known}
-use Prim.Native.Nat.{◌-◌, ◌≤◌}
 use borrow.Author.Tests.{not-true, not-false}
 use Rattle.language.specs.Syntax.{Binding}
 use Rattle.text.specs.Meaning.{part}

@@ -1,12 +1,10 @@
 -- `value_text::copy_in` meets its contract. The loop's invariant: the first i bytes are copied.
 -- Assumes nothing.
 use mathlib.Core.Path.{◌≡◌, refl}
-use Prim.Native.Nat.{◌-◌, ◌≤◌}
 use native.Mathlib.Omega.{arith}
 use native.Mathlib.Nat.{le_antisymm}
 use native.Mathlib.Numerals.{add-one}
-use borrow.Author.Rules.{rules}
-use lib.ListN.{length, length-set}
+use lib.ListN.{length-set}
 use lib.Seq.{paste, paste-zero, paste-suc}
 use Rattle.value_text.proofs.Pieces.{copy_written}
 use Rattle.value_text.proofs.copy_in.Goals as goal

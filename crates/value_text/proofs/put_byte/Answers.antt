@@ -1,7 +1,6 @@
 -- `value_text::put_byte` meets its contract. One store.
 -- Assumes nothing.
 use Rattle.value_text.proofs.Pieces.{byte_written}
-use borrow.Author.Rules.{rules}
 use Rattle.value_text.proofs.put_byte.Goals as goal
 
 pub returns : goal.returns

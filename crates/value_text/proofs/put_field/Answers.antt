@@ -1,7 +1,6 @@
 -- `value_text::put_field` meets its contract. Five pieces in a row.
 -- Assumes nothing.
 use Rattle.value_text.proofs.Pieces.{◌▸◌}
-use borrow.Author.Rules.{rules}
 use Rattle.value_text.proofs.put_field.Goals as goal
 
 pub returns : goal.returns

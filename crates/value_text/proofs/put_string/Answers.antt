@@ -1,7 +1,6 @@
 -- `value_text::put_string` meets its contract. Three pieces in a row.
 -- Assumes nothing.
 use Rattle.value_text.proofs.Pieces.{◌▸◌}
-use borrow.Author.Rules.{rules}
 use Rattle.value_text.proofs.put_string.Goals as goal
 
 pub returns : goal.returns
