@@ -1,12 +1,12 @@
-//! Links the proved functions: the archive that `rt staticlib server_c` writes at the root of the repository.
+//! Links the proved functions: the archive that `rt lib` writes in crates/server_c.
 
 use std::path::Path;
 
 fn main() {
-    let archives = Path::new(env!("CARGO_MANIFEST_DIR")).join("../target/staticlib");
+    let archives = Path::new(env!("CARGO_MANIFEST_DIR")).join("../crates/server_c/out");
     let archive = archives.join("libserver_c.a");
     if !archive.exists() {
-        panic!("target/staticlib/libserver_c.a is missing: run `rt staticlib server_c` at the root of the repository first");
+        panic!("crates/server_c/out/libserver_c.a is missing: run `rt lib` in crates/server_c first");
     }
     println!("cargo:rerun-if-changed={}", archive.display());
     println!("cargo:rustc-link-search=native={}", archives.display());

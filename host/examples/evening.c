@@ -1,6 +1,6 @@
 /* A host in C: it makes a server, runs two programs, prints their lines, asks who may append and prints a sheet for the wall.
  *
- *     cc -I host/include host/examples/evening.c target/staticlib/libserver_c.a -o evening
+ *     cc -I host/include host/examples/evening.c crates/server_c/out/libserver_c.a -o evening
  */
 #include "kivzurg.h"
 

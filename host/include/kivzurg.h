@@ -12,7 +12,7 @@
  *
  * The state holds every password in clear. It is a secret: keep it where only the host can read it. So is a former state.
  *
- * For x86-64 Linux. Build: `rt staticlib server_c` at the root of the repository writes target/staticlib/libserver_c.a; link that archive and the
+ * For x86-64 Linux. Build: `rt lib` in crates/server_c writes crates/server_c/out/libserver_c.a; link that archive and the
  * C library. host/README.md has all limits in one place, host/examples/evening.c a whole program.
  */
 #ifndef KIVZURG_H

@@ -15,7 +15,7 @@ fn printed(source: &str) -> String {
         .args(["-std=c99", "-pedantic", "-Wall", "-Wextra", "-Werror", "-I"])
         .arg(root.join("include"))
         .arg(root.join(source))
-        .arg(root.join("../target/staticlib/libserver_c.a"))
+        .arg(root.join("../crates/server_c/out/libserver_c.a"))
         .arg("-o")
         .arg(&program)
         .status()

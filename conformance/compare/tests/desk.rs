@@ -1,4 +1,4 @@
-//! The program `desk` as it is built (target/bin/desk): streams in pieces, programs that are too long, unfinished ones, and what it leaves unread.
+//! The program `desk` as it is built (crates/desk/out/desk): streams in pieces, programs that are too long, unfinished ones, and what it leaves unread.
 
 use std::env;
 use std::fs::{self, File};
@@ -15,8 +15,8 @@ fn root() -> PathBuf {
 }
 
 fn program() -> Command {
-    let path = root().join("target/bin/desk");
-    assert!(path.exists(), "target/bin/desk is missing: run `rt check desk` at the root of the repository first");
+    let path = root().join("crates/desk/out/desk");
+    assert!(path.exists(), "crates/desk/out/desk is missing: run `rt run <stdin` in crates/desk first");
     Command::new(path)
 }
 
