@@ -7,7 +7,6 @@ use Rattle.tokens.proofs.Reading.{told, known}
 use Rattle.syntax.specs.Values.{function_meant}
 use Rattle.call_readers.specs.Functions.{function_read_meant, pair_read_meant, PairPlaced}
 use Rattle.call_readers.proofs.Calls.{lower_call, function_call, other_call}
-use borrow.Author.Rules.{rules}
 use Rattle.call_readers.proofs.called.Goals as goal
 
 pub returns-then-is_sign : goal.returns-then-is_sign

@@ -7,7 +7,6 @@ use Rattle.tokens.proofs.Reading.{told, known}
 use Rattle.syntax.specs.Values.{comparison_meant}
 use Rattle.call_readers.specs.Functions.{comparison_read_meant, pair_read_meant, PairPlaced}
 use Rattle.call_readers.proofs.Calls.{one_comparison, no_comparing}
-use borrow.Author.Rules.{rules}
 use Rattle.call_readers.proofs.compared.Goals as goal
 
 pub returns-in_default : goal.returns-in_default

@@ -1,7 +1,6 @@
 use mathlib.Core.Path.{sym, ◌∙◌}
 use Rattle.text.specs.Meaning.{part}
 use Rattle.call_readers.proofs.Calls.{is_equal, is_notequal, no_comparison}
-use borrow.Author.Rules.{rules}
 use Rattle.call_readers.proofs.comparison_of.Goals as goal
 
 pub returns-then-is_sign : goal.returns-then-is_sign

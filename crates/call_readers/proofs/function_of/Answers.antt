@@ -5,7 +5,6 @@ use Rattle.language.specs.Grammar.{function_for}
 use Rattle.text.specs.Meaning.{part}
 use Rattle.call_readers.specs.Functions.{operation_read_meant}
 use Rattle.call_readers.proofs.Calls.{is_split, is_concat, is_arithmetic}
-use borrow.Author.Rules.{rules}
 use Rattle.call_readers.proofs.function_of.Goals as goal
 
 pub returns-then-is_sign : goal.returns-then-is_sign

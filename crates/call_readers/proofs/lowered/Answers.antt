@@ -6,7 +6,6 @@ use Rattle.tokens.specs.Readers.{next_meant, NextPlaced}
 use Rattle.tokens.proofs.Reading.{told, known}
 use Rattle.syntax.specs.Values.{operand_read_meant, OperandPlaced}
 use Rattle.call_readers.proofs.Calls.{lower_not_open, lower_no_value, lower_not_closed, lower_read}
-use borrow.Author.Rules.{rules}
 use Rattle.call_readers.proofs.lowered.Goals as goal
 
 pub returns-in_default : goal.returns-in_default

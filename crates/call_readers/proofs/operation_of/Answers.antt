@@ -3,7 +3,6 @@
 use mathlib.Core.Path.{sym, ◌∙◌}
 use Rattle.text.specs.Meaning.{part}
 use Rattle.call_readers.proofs.Calls.{is_add, is_sub, is_times, is_per, no_operation}
-use borrow.Author.Rules.{rules}
 use Rattle.call_readers.proofs.operation_of.Goals as goal
 
 pub returns-then-is_sign : goal.returns-then-is_sign

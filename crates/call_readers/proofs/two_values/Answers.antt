@@ -6,7 +6,6 @@ use Rattle.tokens.specs.Readers.{next_meant, NextPlaced}
 use Rattle.tokens.proofs.Reading.{told, known}
 use Rattle.syntax.specs.Values.{operand_read_meant, OperandPlaced}
 use Rattle.call_readers.proofs.Calls.{not_open, no_first, no_comma, no_second, not_closed, two_read}
-use borrow.Author.Rules.{rules}
 use Rattle.call_readers.proofs.two_values.Goals as goal
 
 pub returns-in_default : goal.returns-in_default

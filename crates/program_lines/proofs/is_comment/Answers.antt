@@ -1,6 +1,5 @@
 use mathlib.Core.Path.{sym}
 use native.Mathlib.Omega.{arith}
-use borrow.Author.Rules.{rules}
 use Rattle.program_lines.proofs.Comments.{short_line, no_slash, one_slash, slashes}
 use Rattle.program_lines.proofs.is_comment.Goals as goal
 

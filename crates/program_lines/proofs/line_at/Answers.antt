@@ -1,6 +1,5 @@
 use mathlib.Core.Path.{sym, ◌∙◌}
 use native.Mathlib.Omega.{arith}
-use borrow.Author.Rules.{rules}
 use Rattle.program_lines.proofs.Rows.{stars, stars_more, no_newline, comment_row, token_row}
 use Rattle.program_lines.proofs.line_at.Goals as goal
 

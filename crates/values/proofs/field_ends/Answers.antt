@@ -2,7 +2,6 @@
 -- Assumes nothing.
 use native.Mathlib.Omega.{arith}
 use Rattle.values.proofs.Standing.{label_within, text_within, field_ends}
-use borrow.Author.Rules.{rules}
 use Rattle.values.proofs.field_ends.Goals as goal
 
 pub until-label-requires : goal.until-label-requires

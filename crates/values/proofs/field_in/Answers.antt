@@ -1,14 +1,12 @@
 -- `values::field_in` meets its contract. The loop's invariant: for every value that the text is of, the fields not looked at yet give the same answer as all.
 -- Assumes nothing.
 use mathlib.Core.Path.{sym, ◌∙◌}
-use Prim.Native.Nat.{◌-◌, ◌≤◌}
 use native.Mathlib.Omega.{arith}
-use lib.ListN.{length}
 use Rattle.language.specs.State.{Value}
 use Rattle.values.specs.Encoding.{Holds}
 use Rattle.values.specs.Answers.{EndsOf}
 use Rattle.values.proofs.Texts.{some_bytes}
-use Rattle.values.proofs.Searching.{Unseen, unseen_start, no_fields, unseen_none, Candidate, candidate, rest_of, candidate_at, some_field, matched, unmatched}
+use Rattle.values.proofs.Searching.{unseen_start, no_fields, unseen_none, Candidate, candidate, rest_of, candidate_at, some_field, matched, unmatched}
 use Rattle.values.proofs.field_in.Goals as goal
 
 pub bounds-text-0 : goal.bounds-text-0
@@ -22,11 +20,10 @@ returns-then-text-ne82 c =
     }
 
 pub loop-at-init : goal.loop-at-init
-loop-at-init c =
-    (
-      omega (arith, some_bytes c.requires.value c.args.text.now c.requires.held),
-      λ v h. unseen_start c.args.text.now c.args.label.now v h c.if-text-ne82.false,
-    )
+loop-at-init c = (
+  omega (arith, some_bytes c.requires.value c.args.text.now c.requires.held),
+  λ v h. unseen_start c.args.text.now c.args.label.now v h c.if-text-ne82.false,
+)
 
 pub field_ends-ends-requires : goal.field_ends-ends-requires
 field_ends-ends-requires c =

@@ -1,16 +1,12 @@
-use mathlib.Core.Path.{sym, ◌∙◌}
 use Prim.Native.Nat.{◌-◌, ◌≤◌}
-use native.Mathlib.Omega.{arith}
 use lib.ListN.{length}
 use Rattle.language.specs.State.{Value}
 use Rattle.values.specs.Encoding.{Holds}
-use Rattle.values.specs.Answers.{EndsOf}
-use Rattle.values.proofs.Texts.{some_bytes}
-use Rattle.values.proofs.Searching.{Unseen, unseen_start, no_fields, unseen_none, Candidate, candidate, rest_of, candidate_at, some_field, matched, unmatched}
+use Rattle.values.proofs.Searching.{Unseen}
 use Rattle.values.proofs.field_in.Given as goal
 
 abbrev pub invariant-loop-at : goal.invariant-loop-at
-invariant-loop-at l =    (l.at ≤ length l.text) × ((v : Value) → Holds v l.text → Unseen l.text l.label v l.at)
+invariant-loop-at l = (l.at ≤ length l.text) × ((v : Value) → Holds v l.text → Unseen l.text l.label v l.at)
 
 abbrev pub decreases-loop-at : goal.decreases-loop-at
-decreases-loop-at l =    length l.text - l.at
+decreases-loop-at l = length l.text - l.at

@@ -1,6 +1,6 @@
 -- `values::fields_end` meets its contract. The loop's invariant: what is left of the lines ends where all of them do.
 -- Assumes nothing.
-use Prim.Native.Nat.{◌+◌, ◌-◌, ◌≤◌}
+use Prim.Native.Nat.{◌+◌, ◌≤◌}
 use native.Mathlib.Omega.{arith}
 use mathlib.Core.List.{List}
 use lib.ListN.{length}
@@ -35,8 +35,7 @@ loop-i-smaller c =
 pub loop-i-preserved : goal.loop-i-preserved
 loop-i-preserved c =
     let stepped : (fs : List Field) (rest : Text) → let a = c.args in FieldsAt a.text.now a.at fs rest → FieldsLeft a.text.now a.at fs rest (c.until-i.result + 1) × (c.until-i.result + 1 ≤ length a.text.now) = λ fs rest F. let a = c.args in
-    fields_step a.text.now a.at fs rest c.loop-i.i c.until-i.result (c.loop-i.invariant.1 fs rest F) c.loop-i-test.true c.if-text-i-ne70.false c.until-i.ensures.ends in
-    (
+    fields_step a.text.now a.at fs rest c.loop-i.i c.until-i.result (c.loop-i.invariant.1 fs rest F) c.loop-i-test.true c.if-text-i-ne70.false c.until-i.ensures.ends in (
       (stepped c.requires.fields c.requires.rest c.requires.stand).1,
       λ fs rest F. (stepped fs rest F).0,
     )

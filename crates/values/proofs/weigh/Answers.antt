@@ -1,9 +1,8 @@
 -- `values::weigh` meets its contract. The loop's invariant: the tabs and newlines passed and those left make up all, and one.
 -- Assumes nothing.
-use mathlib.Core.Path.{◌≡◌, refl, ap}
-use Prim.Native.Nat.{◌+◌, ◌-◌, ◌≤◌}
+use mathlib.Core.Path.{refl, ap}
 use native.Mathlib.Omega.{arith}
-use lib.ListN.{length, drop, drop_of_length-le}
+use lib.ListN.{drop_of_length-le}
 use Rattle.values.specs.Breaks.{breaks}
 use Rattle.values.proofs.Weighing.{weighed, break_step}
 use Rattle.values.proofs.weigh.Goals as goal
