@@ -41,6 +41,14 @@ def blocks(text):
     return [(n, "\n".join(b).strip("\n")) for n, b in out if "\n".join(b).strip()]
 
 
+def inner(segs):
+    """A path without the '.before's that lead it; a variable of the code may have that name too."""
+    k = 0
+    while k < len(segs) and segs[k] == "before":
+        k += 1
+    return segs[k:]
+
+
 def plain(name):
     return name.replace("-", "_").lower()
 
@@ -202,7 +210,7 @@ class Function:
 
     def path(self, segs):
         """What stands behind 'c', turned."""
-        segs = [SEGMENTS.get(s, s) for s in segs if s != "before"]
+        segs = [SEGMENTS.get(s, s) for s in inner(segs)]
         if not segs:
             return []
         for n in (2, 1):
@@ -241,7 +249,7 @@ class Function:
 
 def is_turned_whole(segs, fn):
     """Whether an alias for this path has to be written out, since what stands behind it is named otherwise now."""
-    left = [s for s in segs if s != "before"]
+    left = inner(segs)
     if not left:
         return True
     if left[0] in ("requires", "pre"):
@@ -430,7 +438,7 @@ def turn(text, fn, crate, where):
         code = inline(code, fn, {var})
         used = []
         for h in lets:
-            if re.search(rf"(?<![^\s(\[,]){re.escape(h)}(?![^\s).,;\]])", code):
+            if re.search(rf"(?<![^\s(\[,]){re.escape(h)}\s+\(*{re.escape(var)}(?![^\s).,;\]])", code):
                 used.append(h)
         code = turned(code, fn, {var})
         return code, used

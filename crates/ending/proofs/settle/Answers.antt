@@ -20,7 +20,7 @@ save-requires c =
     let lent : Slices = let a = c.args in slices a.principals.now a.principal_slots.now a.work.now a.variable_slots.now a.locals.now a.local_slots.now a.assertions.now in
     let Ending : Name → Option End → Text → Performed → Type 0 = λ p e before d. Ends d p e lent before c.args.output.now in
     let completes : (p : Name) (e : Option End) (before : Text) → Ending p e before c.args.performed → Completes p e c.in-Completed.l c.in-Completed.n c.in-Completed.lines lent before c.args.output.now = λ p e before D. subst (Ending p e before) c.in-Completed.is D in
-    let C = completes c.requires.some_end.sender c.requires.some_end.end c.requires.some_end c.requires.some_end.ends in record {
+    let C = completes c.requires.some_end.sender c.requires.some_end.end c.requires.some_end.before c.requires.some_end.ends in record {
       some_running = record { session = C.session; running = C.running };
       state_len = (c.requires.work_len.1, c.requires.work_len.3, c.requires.work_len.4);
     }
@@ -30,7 +30,7 @@ close-requires c =
     let lent : Slices = let a = c.args in slices a.principals.now a.principal_slots.now a.work.now a.variable_slots.now a.locals.now a.local_slots.now a.assertions.now in
     let Ending : Name → Option End → Text → Performed → Type 0 = λ p e before d. Ends d p e lent before c.args.output.now in
     let completes : (p : Name) (e : Option End) (before : Text) → Ending p e before c.args.performed → Completes p e c.in-Completed.l c.in-Completed.n c.in-Completed.lines lent before c.args.output.now = λ p e before D. subst (Ending p e before) c.in-Completed.is D in
-    let C = completes c.requires.some_end.sender c.requires.some_end.end c.requires.some_end c.requires.some_end.ends in
+    let C = completes c.requires.some_end.sender c.requires.some_end.end c.requires.some_end.before c.requires.some_end.ends in
     (c.requires.work_len.0, c.requires.work_len.2, omega (arith, C.printed.fits, written_length C.printed, c.requires.work_len.2))
 
 pub returns-in-Broken : goal.returns-in-Broken

@@ -1,9 +1,6 @@
 use mathlib.Core.Path.{◌≡◌, sym, ap, ◌∙◌}
 use mathlib.Core.List.{◌∷◌}
-use Prim.Native.Nat.{◌-◌, ◌≤◌}
 use native.Mathlib.Omega.{arith}
-use borrow.Author.Rules.{rules}
-use lib.ListN.{length}
 use Rattle.language.specs.Text.{present}
 use Rattle.tokens.proofs.Reading.{known}
 use Rattle.parser.specs.Bodies.{body_from, rest_from, First, ReadFrom}

@@ -1,18 +1,12 @@
-use mathlib.Core.Path.{◌≡◌, sym, ap, ◌∙◌}
-use mathlib.Core.List.{◌∷◌}
+use mathlib.Core.Path.{◌≡◌}
 use Prim.Native.Nat.{◌-◌, ◌≤◌}
-use native.Mathlib.Omega.{arith}
-use borrow.Author.Rules.{rules}
 use lib.ListN.{length}
 use Rattle.language.specs.Text.{present}
-use Rattle.tokens.proofs.Reading.{known}
-use Rattle.parser.specs.Bodies.{body_from, rest_from, First, ReadFrom}
-use Rattle.parser.specs.declared.Rest.{Rest}
-use Rattle.parser.proofs.Bodies.{bound}
+use Rattle.parser.specs.Bodies.{body_from}
 use Rattle.parser.proofs.body_at.Given as goal
 
 abbrev pub invariant-loop-rest : goal.invariant-loop-rest
-invariant-loop-rest l =    (l.p ≤ length l.text) × (present (body_from l.text l.at) ≡ present (body_from l.text l.p))
+invariant-loop-rest l = (l.p ≤ length l.text) × (present (body_from l.text l.at) ≡ present (body_from l.text l.p))
 
 abbrev pub decreases-loop-rest : goal.decreases-loop-rest
-decreases-loop-rest l =    length l.text - l.p
+decreases-loop-rest l = length l.text - l.p

@@ -2,7 +2,6 @@ use mathlib.Core.Path.{◌≡◌, ap, ◌∙◌}
 use mathlib.Core.Option.{Option}
 use mathlib.Core.List.{List}
 use native.Mathlib.Omega.{arith}
-use borrow.Author.Rules.{rules}
 use Rattle.language.specs.Text.{Text, ◌>>=◌}
 use Rattle.language.specs.Programs.{program, parse}
 use Rattle.tokens.proofs.Reading.{told, known}

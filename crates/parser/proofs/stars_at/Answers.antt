@@ -1,5 +1,4 @@
 use mathlib.Core.Path.{sym, ap, ◌∙◌}
-use borrow.Author.Rules.{rules}
 use Rattle.program_lines.specs.Lines.{written_from, line_from, step_meant}
 use Rattle.parser.specs.Bodies.{is_empty}
 use Rattle.parser.proofs.Bodies.{ahead_more}

@@ -12,7 +12,7 @@ use Rattle.parser_c.proofs.Walking.{Going, begins, below, not_broken, write_fits
 use Rattle.parser_c.proofs.list.Given as goal
 
 abbrev pub invariant-loop-c : goal.invariant-loop-c
-invariant-loop-c l = Going l.text l.at l.initial.kinds l.kinds l.p l.n
+invariant-loop-c l =    Going l.text l.at l.initial.kinds l.kinds l.p l.n
 
 abbrev pub decreases-loop-c : goal.decreases-loop-c
-decreases-loop-c l = length l.text - l.p
+decreases-loop-c l =    length l.text - l.p

@@ -9,7 +9,6 @@ use Rattle.store.specs.Rows.{principal_row}
 use Rattle.splice.specs.Splices.{over}
 use Rattle.store.proofs.Holders.{principals_rows}
 use Rattle.edits.proofs.Adding.{added, added_outside, principal_written, principal_added, written_on, head_length}
-use borrow.Author.Rules.{rules}
 use Rattle.edits.proofs.add.add_principal.Goals as goal
 
 -- the line that is written
@@ -39,8 +38,8 @@ returns c =
       size = omega (arith, c.head-body.ensures.size);
       outside = added_outside a.buf.now b (line x w) a.len a.count r a.slots.now c.note.new.slots _ (omega arith) size fits written c.note.ensures;
       held = λ ks K h.
-            principal_added ks x w (take r b) (a.count + 1) c.note.new.slots
-            (added (map principal_row ks) (principal_row (record { name = x; password = some w; count = 0 })) a.buf.now b a.len a.count r a.slots.now c.note.new.slots
-            (principals_rows ks (take a.len a.buf.now) a.count a.slots.now K) h (omega (arith, p.0)) (omega arith) p.2
-            size fits written c.note.ensures);
+          principal_added ks x w (take r b) (a.count + 1) c.note.new.slots
+          (added (map principal_row ks) (principal_row (record { name = x; password = some w; count = 0 })) a.buf.now b a.len a.count r a.slots.now c.note.new.slots
+          (principals_rows ks (take a.len a.buf.now) a.count a.slots.now K) h (omega (arith, p.0)) (omega arith) p.2
+          size fits written c.note.ensures);
     }

@@ -8,7 +8,6 @@ use Rattle.store.specs.Rows.{variable_row}
 use Rattle.splice.specs.Splices.{over}
 use Rattle.store.proofs.Holders.{variables_rows}
 use Rattle.edits.proofs.Adding.{added, added_outside, variable_written, variable_added, written_on, head_length}
-use borrow.Author.Rules.{rules}
 use Rattle.edits.proofs.add.add_variable.Goals as goal
 
 pub returns : goal.returns
@@ -29,9 +28,9 @@ returns c =
       size = ap (λ (n : ℕ). n + length a.value.now) c.head-body.ensures.size;
       outside = added_outside a.buf.now c.copy.new.dst t a.len a.count r a.slots.now c.note.new.slots _ (omega arith) size fits written c.note.ensures;
       held = λ vs v W h e.
-            variable_added vs x v (take r c.copy.new.dst) (a.count + 1) c.note.new.slots
-            (added (map variable_row vs) (variable_row (record { name = x; value = v })) a.buf.now c.copy.new.dst a.len a.count r a.slots.now c.note.new.slots
-            (variables_rows vs (take a.len a.buf.now) a.count a.slots.now W) h p.0 (omega arith) p.2
-            (size ∙ ap (λ (o : Text). a.len + length (86 ∷ 9 ∷ (x ++ (9 ∷ o)))) e) fits
-            (written ∙ ap (λ (o : Text). over a.buf.now a.len (86 ∷ 9 ∷ (x ++ (9 ∷ o)))) e) c.note.ensures);
+          variable_added vs x v (take r c.copy.new.dst) (a.count + 1) c.note.new.slots
+          (added (map variable_row vs) (variable_row (record { name = x; value = v })) a.buf.now c.copy.new.dst a.len a.count r a.slots.now c.note.new.slots
+          (variables_rows vs (take a.len a.buf.now) a.count a.slots.now W) h p.0 (omega arith) p.2
+          (size ∙ ap (λ (o : Text). a.len + length (86 ∷ 9 ∷ (x ++ (9 ∷ o)))) e) fits
+          (written ∙ ap (λ (o : Text). over a.buf.now a.len (86 ∷ 9 ∷ (x ++ (9 ∷ o)))) e) c.note.ensures);
     }

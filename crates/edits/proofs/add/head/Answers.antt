@@ -4,7 +4,6 @@ use native.Mathlib.Omega.{arith}
 use lib.ListN.{length, set, length-set}
 use Rattle.language.specs.Text.{Text}
 use Rattle.edits.proofs.Adding.{head_over}
-use borrow.Author.Rules.{rules}
 use Rattle.edits.proofs.add.head.Goals as goal
 
 pub bounds-buf-tab : goal.bounds-buf-tab

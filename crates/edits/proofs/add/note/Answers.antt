@@ -4,7 +4,6 @@ use native.Mathlib.Omega.{arith}
 use lib.ListN.{set}
 use Rattle.store.specs.Held.{places}
 use Rattle.store.proofs.Hashes.{hash_small}
-use borrow.Author.Rules.{rules}
 use Rattle.edits.proofs.add.note.Goals as goal
 
 pub overflow_cast-place : goal.overflow_cast-place

@@ -2,7 +2,6 @@ use mathlib.Core.Path.{◌≡◌, sym, ◌∙◌}
 use mathlib.Core.List.{List, [], ◌∷◌, map}
 use Prim.Native.Nat.{◌+◌, ◌≤◌, ◌<◌}
 use native.Mathlib.Omega.{arith}
-use borrow.Author.Rules.{rules}
 use lib.ListN.{length, take}
 use lib.Seq.{length-take-le}
 use Rattle.language.specs.State.{Principal}
@@ -79,8 +78,8 @@ returns c =
       size = size;
       outside = store_outside a.buf.now c.rewrite-n.new.buf c.rewrite-n.result a.slots.now c.rewrite-n.new.slots a.count c.nth-place.result.start 80 (omega (arith, f, size)) c.rewrite-n.ensures.outside;
       held = λ ks K e.
-            opened ks t a.count a.slots.now K a.number k c.rewrite-n.new.buf c.rewrite-n.result c.nth-place.result.start c.rewrite-n.new.slots
-            (c.rewrite-n.ensures.held (map principal_row ks) (tabbed (principal_at ks a.number)) (principals_rows ks t a.count a.slots.now K)
-            (bare_respelled ks t a.count a.slots.now K a.number k c.nth-place.result (placed ks K) e))
-            (placed ks K).starts (omega (arith, f, size));
+          opened ks t a.count a.slots.now K a.number k c.rewrite-n.new.buf c.rewrite-n.result c.nth-place.result.start c.rewrite-n.new.slots
+          (c.rewrite-n.ensures.held (map principal_row ks) (tabbed (principal_at ks a.number)) (principals_rows ks t a.count a.slots.now K)
+          (bare_respelled ks t a.count a.slots.now K a.number k c.nth-place.result (placed ks K) e))
+          (placed ks K).starts (omega (arith, f, size));
     }

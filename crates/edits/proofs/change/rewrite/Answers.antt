@@ -1,6 +1,5 @@
 use Prim.Native.Nat.{◌≤◌}
 use native.Mathlib.Omega.{arith}
-use borrow.Author.Rules.{rules}
 use lib.ListN.{length, take}
 use lib.Seq.{length-take-le}
 use Rattle.store.proofs.Records.{slots_long}
@@ -57,8 +56,8 @@ returns c =
     let fits : c.splice-n.result ≤ length a.buf.now = omega (arith, c.splice-n.ensures.size, p.3) in record {
       size = c.splice-n.ensures.size;
       outside = outside a.buf.now a.src.now c.splice-n.new.buf a.len a.count a.number a.from a.to c.splice-n.result a.slots.now c.shift.new.slots p.2.below i.1 p.1 p.2.order i.0
-            c.splice-n.ensures.size fits c.splice-n.ensures.left c.shift.ensures;
+          c.splice-n.ensures.size fits c.splice-n.ensures.left c.shift.ensures;
       held = λ rows row H R.
-            rewritten rows row a.buf.now a.src.now c.splice-n.new.buf a.len a.count a.number a.from a.to c.splice-n.result a.slots.now c.shift.new.slots H p.2.below i.1 p.0 p.1
-            p.2.order i.0 R c.splice-n.ensures.size fits c.splice-n.ensures.left c.shift.ensures;
+          rewritten rows row a.buf.now a.src.now c.splice-n.new.buf a.len a.count a.number a.from a.to c.splice-n.result a.slots.now c.shift.new.slots H p.2.below i.1 p.0 p.1
+          p.2.order i.0 R c.splice-n.ensures.size fits c.splice-n.ensures.left c.shift.ensures;
     }

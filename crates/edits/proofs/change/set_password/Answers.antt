@@ -3,7 +3,6 @@ use mathlib.Core.List.{List, [], map}
 use mathlib.Core.Option.{none, some}
 use Prim.Native.Nat.{ℕ, ◌+◌, ◌≤◌}
 use native.Mathlib.Omega.{arith}
-use borrow.Author.Rules.{rules}
 use lib.Dec.{T}
 use lib.ListN.{length, take}
 use lib.Seq.{length-take-le}
@@ -63,6 +62,36 @@ open_line-n-requires c =
       c.requires.0,
       omega (arith, longer),
       record { principals = S.principals; held = S.held; below = S.below; bare = bare S.principals S.held },
+    )
+
+pub write_password-requires-in-Absent : goal.write_password-requires-in-Absent
+write_password-requires-in-Absent c =
+    let text : Text = take c.args.len c.args.buf.now in
+    let by_number : (ks : List Principal) (p : Name) → Principals ks text c.args.count c.args.slots.now → T (distinct (principal_names ks)) → c.args.number ≡ position (principal_names ks) p → map (changed p c.args.password.now) ks ≡ with_password ks c.args.number c.args.password.now = λ ks p K d n. let a = c.args in
+    let b = below_principals ks text a.count a.slots.now K a.number c.requires.2.below in
+    changed_at ks p a.password.now d (omega (arith, n, b)) ∙ ap (λ (k : ℕ). with_password ks k a.password.now) (sym n) in
+    let room : length (principals_text (with_password c.requires.2.principals c.args.number c.args.password.now)) ≤ length c.args.buf.now = let S = c.requires.2 in
+    subst (λ (l : List Principal). length (principals_text l) ≤ length c.args.buf.now) (by_number S.principals S.name S.held S.apart S.number) S.fits in
+    let bare : (ks : List Principal) → Principals ks text c.args.count c.args.slots.now → (principal_at ks c.args.number).password ≡ none = λ ks K. sym (ap (password_meant text) (sym c.in-Absent.is) ∙ (c.password_of-p.ensures ks K).meant) in
+    let longer : c.args.len + 1 + length c.args.password.now ≤ length c.args.buf.now = let a = c.args in
+    let S = c.requires.2 in
+    omega (arith, room, bare_size S.principals text a.count a.slots.now S.held a.number S.below a.password.now (bare S.principals S.held), length-take-le a.len a.buf.now c.requires.1) in
+    let a = c.args in
+    let S = c.requires.2 in
+    let ks = S.principals in
+    let w = a.password.now in
+    let l = below_principals ks text a.count a.slots.now S.held a.number S.below in
+    let z : length c.open_line-n.new.buf ≡ length a.buf.now = c.open_line-n.auto.buf in (
+      omega (arith, z, c.requires.0),
+      omega (arith, z, c.open_line-n.ensures.size, longer),
+      record {
+        principals = with_password ks a.number [];
+        old = [];
+        held = c.open_line-n.ensures.held ks S.held (bare ks S.held);
+        below = S.below;
+        kept = with_kept ks a.number [] l;
+        fits = subst (λ (q : List Principal). length (principals_text q) ≤ length c.open_line-n.new.buf) (sym (with_twice ks a.number [] w l)) (omega (arith, room, z));
+      },
     )
 
 pub returns-in-Kept : goal.returns-in-Kept

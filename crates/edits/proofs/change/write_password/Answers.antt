@@ -2,7 +2,6 @@ use mathlib.Core.Path.{sym}
 use mathlib.Core.List.{List, map}
 use Prim.Native.Nat.{◌+◌, ◌-◌}
 use native.Mathlib.Omega.{arith}
-use borrow.Author.Rules.{rules}
 use lib.ListN.{take}
 use lib.Seq.{length-take-le}
 use Rattle.language.specs.State.{Principal}
