@@ -2,7 +2,6 @@
 -- Assumes nothing.
 use mathlib.Core.Path.{sym, ap, ◌∙◌}
 use Rattle.parser_c.specs.Kinds.{code}
-use borrow.Author.Rules.{rules}
 use Rattle.parser_c.proofs.kind.Goals as goal
 
 pub returns-in-Administer : goal.returns-in-Administer

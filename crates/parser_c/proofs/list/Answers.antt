@@ -1,11 +1,9 @@
 use mathlib.Core.Path.{◌≡◌, refl, sym, ap, subst, ◌∙◌}
-use Prim.Native.Nat.{ℕ, ◌+◌, ◌-◌}
+use Prim.Native.Nat.{ℕ, ◌+◌}
 use lib.ListN.{length, set as put, length-set}
-use Rattle.language.specs.Syntax as Syntax
 use Rattle.tokens.proofs.Reading.{known}
 use Rattle.parser.specs.declared.Rest.{Rest}
 use Rattle.parser.specs.Bodies.{First, ReadFrom}
-use borrow.Author.Rules.{rules}
 use native.Mathlib.Omega.{arith}
 use Rattle.parser_c.specs.Kinds.{Listed}
 use Rattle.parser_c.proofs.Walking.{Going, begins, below, not_broken, write_fits, goes_on, ends}

@@ -9,7 +9,6 @@ use Rattle.parser.specs.declared.Head.TheVariants.{Login}
 use Rattle.parser_c.specs.Kinds.{SomeCommands}
 use Rattle.parser_c.proofs.Walking.{some_commands, no_commands, parsed_as, answers_some, answers_none}
 use borrow.Author.Tests.{not-true, not-false}
-use borrow.Author.Rules.{rules}
 use Rattle.parser_c.proofs.parser_kinds.Goals as goal
 
 pub returns-then-kinds-lt16384 : goal.returns-then-kinds-lt16384
