@@ -140,9 +140,13 @@ def parts(text):
 
 def by_clause(body, names):
     """The answer to a goal of several clauses, by their names."""
-    if len(names) < 2 or "" in names:
+    if not names or "" in names:
         return body
     lead, last = ending(body)
+    if len(names) == 1:
+        if re.match(r"\s*(?:search|grind|omega)\b", last):
+            return body
+        return lead + (" " if lead else "") + "record { " + names[0] + " = " + last.strip() + " }"
     members = parts(last)
     if members is None:
         if re.match(r"\s*(?:search|grind|omega|elim|λ|record|absurd|cc|rw|simp|subst)\b", last):
@@ -224,7 +228,7 @@ class Function:
         if first not in self.fields and first.endswith("_lem") and first[:-4] in self.fields:
             first = first[:-4]
         rest = segs[1:]
-        if first == "requires" and rest and len(self.own["requires"]) > 1:
+        if first == "requires" and (rest and len(self.own["requires"]) > 1 or len(self.own["requires"]) == 1 and self.own["requires"][0]):
             return ["requires", *(by_name(rest, self.own["requires"]) or rest)]
         for n in range(len(rest), 0, -1):
             hit = self.arm.get((first, tuple(rest[:n])))
@@ -235,7 +239,7 @@ class Function:
             out = [new[0]]
             if rest and (first, rest[0]) in self.sub:
                 rest = [self.sub[(first, rest[0])], *rest[1:]]
-            if rest[:1] == ["ensures"] and first in self.clause and len(rest) > 1 and len(self.clause[first]) > 1:
+            if rest[:1] == ["ensures"] and first in self.clause and (len(rest) > 1 or len(self.clause[first]) == 1):
                 rest = ["ensures", *(by_name(rest[1:], self.clause[first]) or rest[1:])]
             if len(rest) > 1 and rest[0] in ("new", "auto", "kept", "last") and self.params.get(first):
                 k = 1
@@ -508,7 +512,7 @@ def turn(text, fn, crate, where):
             continue
         body, used = body_of(name, body)
         if re.match(r"returns(-|$)", new):
-            if extra and len(fn.own["ensures"]) > 1:
+            if extra and (len(fn.own["ensures"]) > 1 or "" not in fn.own["ensures"]):
                 notes.append(f"{new} takes {args} and has several clauses")
             else:
                 body = by_clause(body, fn.own["ensures"])

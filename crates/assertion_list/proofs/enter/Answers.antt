@@ -4,7 +4,6 @@ use native.Mathlib.Omega.{arith}
 use lib.ListN.{take}
 use lib.Seq.{drop-set-lt}
 use Rattle.assertion_list.proofs.Lists.{enter_stands, enter_new}
-use borrow.Author.Rules.{rules}
 use Rattle.assertion_list.proofs.enter.Goals as goal
 
 pub returns-then-stands : goal.returns-then-stands

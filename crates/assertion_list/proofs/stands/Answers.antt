@@ -1,12 +1,8 @@
 use mathlib.Core.Path.{◌≡◌, refl, ap, ◌∙◌}
-use Prim.Native.Nat.{ℕ, ◌+◌, ◌-◌, ◌≤◌, ◌<◌}
-use mathlib.Core.Logic.{⊎_elim}
+use Prim.Native.Nat.{ℕ}
 use native.Mathlib.Omega.{arith}
-use borrow.Author.Rules.{rules}
-use lib.Dec.{ltb}
-use lib.ListN.{length, take}
+use lib.ListN.{take}
 use Rattle.assertion_list.specs.Asserting.{stands_in}
-use Rattle.assertion_list.proofs.Lists.{stands_hit, stands_miss}
 use Rattle.assertion_list.proofs.stands.Goals as goal
 
 pub loop-i-init : goal.loop-i-init

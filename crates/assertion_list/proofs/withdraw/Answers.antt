@@ -3,7 +3,6 @@ use Prim.Native.Nat.{◌<◌}
 use native.Mathlib.Omega.{arith}
 use lib.ListN.{drop}
 use Rattle.assertion_list.proofs.Lists.{withdrawn_at, withdrawn_none, closed_rest}
-use borrow.Author.Rules.{rules}
 use Rattle.assertion_list.proofs.withdraw.Goals as goal
 
 pub returns-then-k-n : goal.returns-then-k-n

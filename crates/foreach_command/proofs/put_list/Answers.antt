@@ -51,10 +51,10 @@ pub returns-in_default : goal.returns-in_default
 returns-in_default c s k line o R D n e =
     let x-of : Text = part c.args.text.now c.args.x in
     let light : (o : Outcome (List Element)) → Drafted AsList o c.args.new.now c.args.d → Light AsList o c.args.new.now c.args.d = λ o D. D.light c.if-weight-gt8192.false in
+    let lent : Slices = let a = c.args in slices a.principals.now a.principal_slots.now a.vars.now a.variable_slots.now a.locals.now a.local_slots.now a.assertions.now in
     let weighs : (o : Outcome (List Element)) (D : Drafted AsList o c.args.new.now c.args.d) → Weighs (list (light o D).result) (take c.args.d.len c.args.new.now) c.args.d.weight = λ o D. let L = light o D in record { held = L.held; weighs = L.weighs; light = c.if-weight-gt8192.false } in
-    let assigned : (s : Session) (o : Outcome (List Element)) (R : Running s (start-after-test c).args.l (lent (start-after-test c))) (D : Drafted AsList o (start-after-test c).args.new.now (start-after-test c).args.d) (r : Assigned) → c.assign-put.result ≡ r → let z = start-after-test c in Assigns r (assign s (x-of z) (list (light o D).result)) (slices z.args.principals.now z.args.principal_slots.now c.assign-put.new.vars c.assign-put.new.variable_slots c.assign-put.new.locals c.assign-put.new.local_slots c.assign-put.new.assertions) = λ s o R D r e. let z = start-after-test c in
-    subst (λ (m : Assigned). Assigns m (assign s (x-of z) (list (light o D).result))
-    (slices z.args.principals.now z.args.principal_slots.now c.assign-put.new.vars c.assign-put.new.variable_slots c.assign-put.new.locals c.assign-put.new.local_slots c.assign-put.new.assertions)) e
+    let assigned : (s : Session) (o : Outcome (List Element)) (R : Running s c.args.l lent) (D : Drafted AsList o c.args.new.now c.args.d) (r : Assigned) → c.assign-put.result ≡ r → Assigns r (assign s x-of (list (light o D).result)) (slices c.args.principals.now c.args.principal_slots.now c.assign-put.new.vars c.assign-put.new.variable_slots c.assign-put.new.locals c.assign-put.new.local_slots c.assign-put.new.assertions) = λ s o R D r e. subst (λ (m : Assigned). Assigns m (assign s x-of (list (light o D).result))
+    (slices c.args.principals.now c.args.principal_slots.now c.assign-put.new.vars c.assign-put.new.variable_slots c.assign-put.new.locals c.assign-put.new.local_slots c.assign-put.new.assertions)) e
     (c.assign-put.ensures s (list (light o D).result) R (weighs o D)) in
     let L = light o D in
     ends_full s k (put_in s x-of line L.result) n (list_put s k x-of line o n e L.result L.is_result) (assigned s o R D _ c.in_default.is)
@@ -63,10 +63,10 @@ pub returns : goal.returns
 returns c s k line o R D n e =
     let x-of : Text = part c.args.text.now c.args.x in
     let light : (o : Outcome (List Element)) → Drafted AsList o c.args.new.now c.args.d → Light AsList o c.args.new.now c.args.d = λ o D. D.light c.if-weight-gt8192.false in
+    let lent : Slices = let a = c.args in slices a.principals.now a.principal_slots.now a.vars.now a.variable_slots.now a.locals.now a.local_slots.now a.assertions.now in
     let weighs : (o : Outcome (List Element)) (D : Drafted AsList o c.args.new.now c.args.d) → Weighs (list (light o D).result) (take c.args.d.len c.args.new.now) c.args.d.weight = λ o D. let L = light o D in record { held = L.held; weighs = L.weighs; light = c.if-weight-gt8192.false } in
-    let assigned : (s : Session) (o : Outcome (List Element)) (R : Running s (start-after-test c).args.l (lent (start-after-test c))) (D : Drafted AsList o (start-after-test c).args.new.now (start-after-test c).args.d) (r : Assigned) → c.assign-put.result ≡ r → let z = start-after-test c in Assigns r (assign s (x-of z) (list (light o D).result)) (slices z.args.principals.now z.args.principal_slots.now c.assign-put.new.vars c.assign-put.new.variable_slots c.assign-put.new.locals c.assign-put.new.local_slots c.assign-put.new.assertions) = λ s o R D r e. let z = start-after-test c in
-    subst (λ (m : Assigned). Assigns m (assign s (x-of z) (list (light o D).result))
-    (slices z.args.principals.now z.args.principal_slots.now c.assign-put.new.vars c.assign-put.new.variable_slots c.assign-put.new.locals c.assign-put.new.local_slots c.assign-put.new.assertions)) e
+    let assigned : (s : Session) (o : Outcome (List Element)) (R : Running s c.args.l lent) (D : Drafted AsList o c.args.new.now c.args.d) (r : Assigned) → c.assign-put.result ≡ r → Assigns r (assign s x-of (list (light o D).result)) (slices c.args.principals.now c.args.principal_slots.now c.assign-put.new.vars c.assign-put.new.variable_slots c.assign-put.new.locals c.assign-put.new.local_slots c.assign-put.new.assertions) = λ s o R D r e. subst (λ (m : Assigned). Assigns m (assign s x-of (list (light o D).result))
+    (slices c.args.principals.now c.args.principal_slots.now c.assign-put.new.vars c.assign-put.new.variable_slots c.assign-put.new.locals c.assign-put.new.local_slots c.assign-put.new.assertions)) e
     (c.assign-put.ensures s (list (light o D).result) R (weighs o D)) in
     let L = light o D in
     ends_done s k (put_in s x-of line L.result) n (list_put s k x-of line o n e L.result L.is_result) _ _ (assigned s o R D _ c.in-Done.is)

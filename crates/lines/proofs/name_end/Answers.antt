@@ -13,7 +13,7 @@ use Rattle.language.proofs.StateText.Clean.{name_word}
 use borrow.Author.Rules.{rules}
 use Rattle.lines.proofs.name_end.Reads as reads
 use Rattle.lines.proofs.name_end.Lts as lts
-use Rattle.lines.proofs.name_holds.Reads as is-name-reads
+use Rattle.lines.proofs.is_name.Reads as is-name-reads
 use Rattle.lines.proofs.run_cut.Reads as run-cut-reads
 use Rattle.lines.proofs.name_end.Goals as goal
 

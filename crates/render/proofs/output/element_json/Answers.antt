@@ -5,7 +5,6 @@ use Prim.Native.Nat.{◌+◌, ◌≤◌}
 use lib.ListN.{length}
 use Rattle.value_text.proofs.Pieces.{written_length}
 use Rattle.render.proofs.Elements.{StringAt, string_at, string_within, string_room, string_renders, RecordAt, record_at_lem, record_room, record_renders, element_within}
-use borrow.Author.Rules.{rules}
 use Rattle.render.proofs.output.element_json.Goals as goal
 
 pub bounds-text-at : goal.bounds-text-at

@@ -1,15 +1,14 @@
 -- `render::output::elements_json` meets its contract. The loop's invariant: for all elements that stand in the text, what is written and what is left are linked to the whole.
 -- Assumes nothing.
-use mathlib.Core.Path.{◌≡◌, refl}
-use Prim.Native.Nat.{◌-◌, ◌≤◌, ◌<◌}
+use mathlib.Core.Path.{refl}
+use Prim.Native.Nat.{◌≤◌, ◌<◌}
 use native.Mathlib.Omega.{arith}
-use borrow.Author.Rules.{rules}
 use mathlib.Core.List.{List}
 use lib.ListN.{length}
 use Rattle.language.specs.State.{Element}
 use Rattle.values.specs.Places.{Elements}
 use Rattle.value_text.proofs.Pieces.{written_length}
-use Rattle.render.proofs.Elements.{ElementsGoing, elements_begin, elements_finish, NextElement, next_one, one_at, one_room, one_within, one_going}
+use Rattle.render.proofs.Elements.{elements_begin, elements_finish, NextElement, next_one, one_at, one_room, one_within, one_going}
 use Rattle.render.proofs.output.elements_json.Goals as goal
 
 pub loop-i-init : goal.loop-i-init
@@ -50,8 +49,7 @@ loop-i-preserved c =
     let next : (es : List Element) → Elements c.args.text.now c.args.at es → Next es = λ es E. next_one c.args.text.now es c.args.out.now c.args.o c.loop-i.i c.loop-i.p c.loop-i.before c.loop-i.out (c.loop-i.invariant.2 es E) c.loop-i-test.true in
     let known : Next c.requires.elements = next c.requires.elements c.requires.stand in
     let moves : (c.loop-i.i < c.element_json-m.result.read) × (c.element_json-m.result.read ≤ length c.args.text.now) = let N = known in
-    one_within _ _ _ _ _ _ _ _ N c.element_json-m.result.read (c.element_json-m.ensures N.element _ (one_at _ _ _ _ _ _ _ _ N)).read_to in
-    (
+    one_within _ _ _ _ _ _ _ _ N c.element_json-m.result.read (c.element_json-m.ensures N.element _ (one_at _ _ _ _ _ _ _ _ N)).read_to in (
       moves.1,
       omega arith,
       λ es E.

@@ -8,7 +8,6 @@ use Rattle.value_text.proofs.Pieces.{◌▸◌}
 use mathlib.Core.Path.{◌≡◌}
 use Rattle.render.proofs.Linking.{quoted_ends}
 use Rattle.render.proofs.Rendering.{field_room, field_renders}
-use borrow.Author.Rules.{rules}
 use Rattle.render.proofs.output.field_json.Goals as goal
 
 pub field_ends-ends-requires : goal.field_ends-ends-requires

@@ -1,16 +1,15 @@
 -- `render::output::fields_json` meets its contract. The loop's invariant: for all fields that stand in the text, what is written and what is left are linked to the whole.
 -- Assumes nothing.
-use mathlib.Core.Path.{◌≡◌, refl}
-use Prim.Native.Nat.{◌-◌, ◌≤◌, ◌<◌}
+use mathlib.Core.Path.{refl}
+use Prim.Native.Nat.{◌≤◌, ◌<◌}
 use native.Mathlib.Omega.{arith}
-use borrow.Author.Rules.{rules}
 use mathlib.Core.List.{List}
 use lib.ListN.{length}
 use Rattle.language.specs.Text.{Text}
 use Rattle.language.specs.State.{Field}
 use Rattle.values.specs.Places.{FieldsAt}
 use Rattle.value_text.proofs.Pieces.{written_length}
-use Rattle.render.proofs.Rendering.{FieldsGoing, fields_begin, fields_finish, NextField, next_field, next_at, next_room, next_within, next_going}
+use Rattle.render.proofs.Rendering.{fields_begin, fields_finish, NextField, next_field, next_at, next_room, next_within, next_going}
 use Rattle.render.proofs.output.fields_json.Goals as goal
 
 pub loop-i-init : goal.loop-i-init
@@ -60,8 +59,7 @@ loop-i-preserved c =
     c.loop-i.out (c.loop-i.invariant.2 fs rest F) c.loop-i-test.true c.if-text-i-ne70.false in
     let known : Next c.requires.fields c.requires.rest = next c.requires.fields c.requires.rest c.requires.stand in
     let moves : (c.loop-i.i < c.field_json-m.result.read) × (c.field_json-m.result.read ≤ length c.args.text.now) = let N = known in
-    next_within _ _ _ _ _ _ _ _ _ _ N c.field_json-m.result.read (c.field_json-m.ensures N.field _ (next_at _ _ _ _ _ _ _ _ _ _ N)).read_to in
-    (
+    next_within _ _ _ _ _ _ _ _ _ _ N c.field_json-m.result.read (c.field_json-m.ensures N.field _ (next_at _ _ _ _ _ _ _ _ _ _ N)).read_to in (
       moves.1,
       omega arith,
       λ fs rest F.

@@ -8,7 +8,6 @@ use Rattle.language.specs.Output.{value_json}
 use Rattle.values.proofs.Texts.{some_bytes}
 use Rattle.value_text.proofs.Pieces.{◌▸◌, rewritten, written_length}
 use Rattle.render.proofs.Elements.{SingleAt, single_at, ListAt, list_at, list_none, list_some, list_room}
-use borrow.Author.Rules.{rules}
 use Rattle.render.proofs.output.json.Goals as goal
 
 pub bounds-value-0 : goal.bounds-value-0

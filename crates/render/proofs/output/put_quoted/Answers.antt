@@ -1,7 +1,6 @@
 -- `render::output::put_quoted` meets its contract. Three pieces in a row.
 -- Assumes nothing.
 use Rattle.value_text.proofs.Pieces.{◌▸◌}
-use borrow.Author.Rules.{rules}
 use Rattle.render.proofs.output.put_quoted.Goals as goal
 
 pub returns : goal.returns

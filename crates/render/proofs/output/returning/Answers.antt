@@ -2,7 +2,6 @@
 -- Assumes nothing.
 use native.Mathlib.Omega.{arith}
 use Rattle.value_text.proofs.Pieces.{◌▸◌, written_length}
-use borrow.Author.Rules.{rules}
 use Rattle.render.proofs.output.returning.Goals as goal
 
 pub json-b-requires : goal.json-b-requires
