@@ -225,6 +225,8 @@ class Function:
         if first == "pre":
             segs = ["requires", *segs[1:]]
             first = "requires"
+        if first == "name_holds" and "is_name" in self.fields:
+            first = "is_name"
         if first not in self.fields and first.endswith("_lem") and first[:-4] in self.fields:
             first = first[:-4]
         rest = segs[1:]

@@ -1,5 +1,5 @@
 -- The fields of a line of the state text: a field is cut off where the byte that ends it stands.
-use Rattle.std.specs.Prelude.{◌≡◌, ℕ, ◌+◌, ◌-◌, ◌≤◌, ◌<◌, Bool, ◌&&◌, ◌∷◌, ◌++◌, T, leb, length, take, drop}
+use Rattle.std.specs.Prelude.{◌≡◌, ℕ, ◌+◌, ◌≤◌, ◌<◌, Bool, ◌&&◌, ◌∷◌, ◌++◌, T, leb, length, drop}
 use Rattle.language.specs.Text.{Text, decimal}
 use Rattle.language.specs.State.{last_count}
 use Rattle.language.specs.Decode.{number}

@@ -114,7 +114,7 @@ module _ (s : Session) (t : Text) (at p : ℕ) (R : Reached s t at p) (b : Bindi
     rest_only = head_first ∙ ap (λ (c : Bool). c || unread s (binding_names N.after)) q
 
     pub all_readable : more ≡ false → unread_in s (record_at t at) ≡ false
-    all_readable m = rest_only ∙ ap (λ (l : List Binding). unread s (binding_names l)) (N.is_last m)
+    all_readable m = rest_only ∙ ap (λ (l : List Binding). unread s (binding_names l)) (N.is_last_lem m)
 
     pub reached_on : more ≡ true → Reached s t at n
     reached_on m = record { rest = N.after; others = R.others; here = N.go_on m; total = rest_only ∙ sym (ap (unread_in s) (N.go_on m)) }

@@ -13,14 +13,6 @@ use Rattle.equality.specs.Elements.{ElementIn, compared_to}
 use Rattle.equality.proofs.Said.{One, no_element, one}
 use Rattle.equality.proofs.Weighed.{no_second, first_heavy, second_heavy, answered}
 use borrow.Author.Tests.{not-true, not-false}
-use borrow.Author.Rules.{rules}
-use Rattle.equality.proofs.compare.Reads as reads
-use Rattle.equality.proofs.compare.Lts as lts
-use Rattle.equality.proofs.holds.Reads as holds-reads
-use Rattle.equality.proofs.is_element.Reads as is-element-reads
-use Rattle.equality.proofs.put_answer.Reads as put-answer-reads
-use Rattle.equality.proofs.same_element.Reads as same-element-reads
-use Rattle.equality.proofs.weight_of.Reads as weight-of-reads
 use Rattle.equality.proofs.compare.Goals as goal
 
 pub returns-then-not-is_element : goal.returns-then-not-is_element

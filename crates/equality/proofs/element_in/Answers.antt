@@ -4,12 +4,6 @@ use mathlib.Core.Path.{sym, subst, ◌∙◌}
 use Rattle.language.specs.Values.{as_element}
 use Rattle.equality.specs.Elements.{ElementIn}
 use Rattle.equality.proofs.Said.{text_value, record_value_lem, list_value}
-use borrow.Author.Rules.{rules}
-use Rattle.equality.proofs.element_in.Reads as reads
-use Rattle.equality.proofs.element_in.Lts as lts
-use Rattle.equality.proofs.text_found.Reads as text-found-reads
-use Rattle.values.proofs.kind_of.Reads as kind-of-reads
-use Rattle.values.proofs.string_in.Reads as string-in-reads
 use Rattle.equality.proofs.element_in.Goals as goal
 
 pub returns-in-Text : goal.returns-in-Text

@@ -5,9 +5,6 @@ use mathlib.Core.Bool.{not}
 use Rattle.language.specs.Functions as Functions
 use Rattle.syntax.specs.declared.Comparison.{Comparison}
 use Rattle.syntax.specs.Values.{comparison_meant}
-use borrow.Author.Rules.{rules}
-use Rattle.equality.proofs.holds.Reads as reads
-use Rattle.equality.proofs.holds.Lts as lts
 use Rattle.equality.proofs.holds.Goals as goal
 
 pub returns-in-Equal : goal.returns-in-Equal

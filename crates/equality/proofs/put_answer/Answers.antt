@@ -9,10 +9,6 @@ use Rattle.language.specs.State.{single, string}
 use Rattle.language.specs.Outcomes.{gives}
 use Rattle.language.specs.Functions.{answer}
 use Rattle.evaluated.proofs.Putting.{value_put}
-use borrow.Author.Rules.{rules}
-use Rattle.equality.proofs.put_answer.Reads as reads
-use Rattle.equality.proofs.put_answer.Lts as lts
-use Rattle.value_text.proofs.put_string.Reads as put-string-reads
 use Rattle.equality.proofs.put_answer.Goals as goal
 
 pub returns-then-so : goal.returns-then-so

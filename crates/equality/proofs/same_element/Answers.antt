@@ -8,11 +8,6 @@ use Rattle.language.specs.Functions.{same_element}
 use Rattle.text.specs.Meaning.{Within}
 use Rattle.equality.specs.Elements.{ElementIn}
 use Rattle.equality.proofs.Said.{is_text_lem, is_fields, is_none}
-use borrow.Author.Rules.{rules}
-use Rattle.equality.proofs.same_element.Reads as reads
-use Rattle.equality.proofs.same_element.Lts as lts
-use Rattle.equality.proofs.same_fields.Reads as same-fields-reads
-use Rattle.equality.proofs.same_text.Reads as same-text-reads
 use Rattle.equality.proofs.same_element.Goals as goal
 
 pub slice_bounds-same_text-count : goal.slice_bounds-same_text-count

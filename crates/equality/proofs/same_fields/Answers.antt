@@ -6,10 +6,6 @@ use Rattle.language.specs.State.{fields}
 use Rattle.language.specs.Functions.{same_element}
 use Rattle.equality.specs.Elements.{ElementIn}
 use Rattle.equality.proofs.Said.{is_text_lem, is_fields, is_none}
-use borrow.Author.Rules.{rules}
-use Rattle.equality.proofs.same_fields.Reads as reads
-use Rattle.equality.proofs.same_fields.Lts as lts
-use Rattle.comparison.proofs.same_record.Reads as same-record-reads
 use Rattle.equality.proofs.same_fields.Goals as goal
 
 pub same_record-requires : goal.same_record-requires

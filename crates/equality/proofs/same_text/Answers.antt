@@ -8,10 +8,6 @@ use Rattle.language.specs.Functions.{same_element}
 use Rattle.text.specs.Meaning.{Within}
 use Rattle.equality.specs.Elements.{ElementIn}
 use Rattle.equality.proofs.Said.{is_text_lem, is_fields, is_none}
-use borrow.Author.Rules.{rules}
-use Rattle.equality.proofs.same_text.Reads as reads
-use Rattle.equality.proofs.same_text.Lts as lts
-use Rattle.text.proofs.same_bytes.Reads as same-bytes-reads
 use Rattle.equality.proofs.same_text.Goals as goal
 
 pub slice_bounds-same_bytes-count : goal.slice_bounds-same_bytes-count

@@ -2,9 +2,6 @@
 -- Assumes nothing.
 use mathlib.Core.Path.{sym, ap}
 use Rattle.equality.specs.Elements.{found_as}
-use borrow.Author.Rules.{rules}
-use Rattle.equality.proofs.text_found.Reads as reads
-use Rattle.equality.proofs.text_found.Lts as lts
 use Rattle.equality.proofs.text_found.Goals as goal
 
 pub returns-in-At : goal.returns-in-At

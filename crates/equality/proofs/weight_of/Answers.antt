@@ -8,10 +8,6 @@ use Rattle.language.specs.Weight.{element_weight}
 use Rattle.text.specs.Meaning.{Within}
 use Rattle.equality.specs.Elements.{ElementIn}
 use Rattle.equality.proofs.Said.{is_fields, is_none, text_weight}
-use borrow.Author.Rules.{rules}
-use Rattle.equality.proofs.weight_of.Reads as reads
-use Rattle.equality.proofs.weight_of.Lts as lts
-use Rattle.values.proofs.weigh.Reads as weigh-reads
 use Rattle.equality.proofs.weight_of.Goals as goal
 
 pub overflow_sub-result : goal.overflow_sub-result

@@ -1,9 +1,6 @@
 use lib.ListN.{get_or-eq_default}
 use native.Mathlib.Omega.{arith}
 use mathlib.Core.Path.{sym}
-use borrow.Author.Rules.{rules}
-use Rattle.lines.proofs.byte_at.Reads as reads
-use Rattle.lines.proofs.byte_at.Lts as lts
 use Rattle.lines.proofs.byte_at.Goals as goal
 
 pub returns : goal.returns

@@ -1,14 +1,10 @@
 use borrow.Author.Rules.{rules}
-use mathlib.Core.Path.{◌≡◌, ap}
-use Prim.Native.Nat.{◌+◌, ◌-◌, ◌≤◌}
+use mathlib.Core.Path.{ap}
 use native.Mathlib.Omega.{arith}
-use lib.ListN.{length, drop, get_or}
-use Rattle.language.specs.Text.{front}
+use lib.ListN.{length, get_or}
 use Rattle.lines.specs.Cuts.{is_digit}
 use Rattle.lines.proofs.Decimals.{digit_low, digit_high, digit_in}
 use Rattle.text.proofs.Runs.{run_on, run_stop, run_none}
-use Rattle.lines.proofs.digits_end.Reads as reads
-use Rattle.lines.proofs.digits_end.Lts as lts
 use Rattle.lines.proofs.digits_end.Goals as goal
 
 pub returns-then-text-i-lt48 : goal.returns-then-text-i-lt48

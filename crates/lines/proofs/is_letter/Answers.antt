@@ -1,10 +1,6 @@
 use mathlib.Core.Path.{sym, ap, ◌∙◌}
 use Rattle.language.specs.Bytes.{is_letter}
 use Rattle.text.specs.Meaning.{class_meant}
-use borrow.Author.Rules.{rules}
-use Rattle.lines.proofs.is_letter.Reads as reads
-use Rattle.lines.proofs.is_letter.Lts as lts
-use Rattle.text.proofs.class_of.Reads as class-of-reads
 use Rattle.lines.proofs.is_letter.Goals as goal
 
 pub returns-in-Letter : goal.returns-in-Letter

@@ -5,7 +5,6 @@ use borrow.Author.Tests.{not-true, not-false}
 use Rattle.language.specs.Bytes.{class, is_letter}
 use mathlib.Core.Bool.{true, not}
 use lib.ListN.{get_or}
-use borrow.Author.Rules.{rules}
 use Rattle.lines.proofs.is_name.Goals as goal
 
 pub returns-then-w-eq0 : goal.returns-then-w-eq0

@@ -10,11 +10,6 @@ use Rattle.lines.specs.Cuts.{CutMeant, Field}
 use Rattle.text.specs.Parts.{part}
 use Rattle.lines.proofs.Cuts.{narrower, refused}
 use Rattle.language.proofs.StateText.Clean.{name_word}
-use borrow.Author.Rules.{rules}
-use Rattle.lines.proofs.name_end.Reads as reads
-use Rattle.lines.proofs.name_end.Lts as lts
-use Rattle.lines.proofs.is_name.Reads as is-name-reads
-use Rattle.lines.proofs.run_cut.Reads as run-cut-reads
 use Rattle.lines.proofs.name_end.Goals as goal
 
 pub returns-in_default : goal.returns-in_default
@@ -52,12 +47,12 @@ returns-then-not-is_name c =
     let field : let a = c.args in Field (all word_byte) a.stop a.text.now a.at c.in-At.e = let a = c.args in
     subst (λ k. CutMeant (all word_byte) a.stop a.text.now a.at k) c.in-At.is c.run_cut-cut.ensures in
     let a = c.args in
-    refused word_byte is_name name_word a.stop c.requires.1 a.text.now a.at c.in-At.e field (sym c.name_holds.ensures ∙ not-true _ c.if-not-is_name.true-raw)
+    refused word_byte is_name name_word a.stop c.requires.1 a.text.now a.at c.in-At.e field (sym c.is_name.ensures ∙ not-true _ c.if-not-is_name.true-raw)
 
 pub returns : goal.returns
 returns c =
     let field : let a = c.args in Field (all word_byte) a.stop a.text.now a.at c.in-At.e = let a = c.args in
     subst (λ k. CutMeant (all word_byte) a.stop a.text.now a.at k) c.in-At.is c.run_cut-cut.ensures in
     let a = c.args in
-    let n : is_name (part a.text.now a.at c.in-At.e) ≡ true = sym c.name_holds.ensures ∙ not-false _ c.if-not-is_name.false-raw in
+    let n : is_name (part a.text.now a.at c.in-At.e) ≡ true = sym c.is_name.ensures ∙ not-false _ c.if-not-is_name.false-raw in
     narrower word_byte is_name name_word a.stop c.requires.1 a.text.now a.at c.in-At.e field (subst (λ (b : Bool). T b) (sym n) tt)

@@ -1,5 +1,4 @@
 use mathlib.Core.Path.{◌≡◌, refl}
-use mathlib.Core.Logic.{⊎_elim}
 use mathlib.Core.List.{◌∷◌, ◌++◌}
 use Prim.Native.Nat.{ℕ, ◌≤◌, ◌<◌}
 use native.Mathlib.Omega.{arith}
@@ -10,12 +9,8 @@ use Rattle.text.specs.Parts.{part}
 use Rattle.lines.proofs.Cuts.{found, is_field}
 use Rattle.language.proofs.StateText.Digits.{decimal_digits}
 use Rattle.lines.proofs.Decimals.{Spelled, one_decimal, not_decimal, worth_much, is_decimal}
-use borrow.Author.Rules.{rules}
-use Rattle.lines.proofs.number_at.Reads as reads
-use Rattle.lines.proofs.number_at.Lts as lts
-use Rattle.lines.proofs.digits_end.Reads as digits-end-reads
-use Rattle.lines.proofs.value_of.Reads as value-of-reads
 use Rattle.lines.proofs.number_at.Goals as goal
+use Rattle.lines.proofs.number_at.Goals.{then-text-at-eq48+else-e-at-gt1, else-text-at-eq48}
 
 pub returns-then-e-text : goal.returns-then-e-text
 returns-then-e-text c =
@@ -60,5 +55,5 @@ pub returns : goal.returns
 returns c =
     let field : Field (all is_digit) 10 c.args.text.now c.args.at c.digits_end-e.result = is_field is_digit 10 refl c.args.text.now c.args.at c.digits_end-e.result c.requires c.digits_end-e.ensures.ends (omega arith) c.if-text-e-ne10.false in
     let spelled : Spelled (part c.args.text.now c.args.at c.digits_end-e.result) = one_decimal c.args.text.now c.args.at c.digits_end-e.result field c.if-e-at.false c.if-e-at-gt10.false
-    (⊎_elim (λ w e. omega arith) (λ w e. absurd (w.left e)) c.if-text-at-eq48.branch) in
+    (elim c.if-text-at-eq48.branch [ then-text-at-eq48+else-e-at-gt1 w ↦ λ e. omega arith | else-text-at-eq48 w ↦ λ e. absurd (w.if-text-at-eq48.false e) ]) in
     is_decimal c.args.text.now c.args.at c.digits_end-e.result field spelled c.value_of-n.result c.value_of-n.ensures c.if-n-gt4294967295.false

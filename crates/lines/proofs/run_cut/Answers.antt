@@ -1,10 +1,6 @@
 use native.Mathlib.Omega.{arith}
 use Rattle.text.specs.Meaning.{in_alphabet}
 use Rattle.lines.proofs.Cuts.{found, is_field}
-use borrow.Author.Rules.{rules}
-use Rattle.lines.proofs.run_cut.Reads as reads
-use Rattle.lines.proofs.run_cut.Lts as lts
-use Rattle.text.proofs.run_end.Reads as run-end-reads
 use Rattle.lines.proofs.run_cut.Goals as goal
 
 pub returns-then-e-text : goal.returns-then-e-text

@@ -3,12 +3,10 @@ use mathlib.Core.Path.{◌≡◌, sym, ap, ◌∙◌, refl}
 use mathlib.Core.List.{[]}
 use Prim.Native.Nat.{◌+◌, ◌*◌, ◌-◌, ◌≤◌}
 use native.Mathlib.Omega.{arith}
-use lib.ListN.{length, drop, get_or, drop_of_length-le}
+use lib.ListN.{drop, get_or, drop_of_length-le}
 use Rattle.language.specs.Decode.{number}
 use Rattle.lines.specs.Cuts.{is_digit}
 use Rattle.lines.proofs.Decimals.{all_at, digit_range, number_step, number_grows}
-use Rattle.lines.proofs.value_of.Reads as reads
-use Rattle.lines.proofs.value_of.Lts as lts
 use Rattle.lines.proofs.value_of.Goals as goal
 
 pub loop-i-init : goal.loop-i-init

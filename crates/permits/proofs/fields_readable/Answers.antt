@@ -38,14 +38,6 @@ returns-then-not-operand_readable c s bs us W e =
     sym (ap (unread_in s) e)
     ∙ not_readable s c.args.text.now c.args.at l.p (l.invariant.1 s W) head c.in-Found.more c.in-Found.next read_here (c.operand_readable.ensures s W ∙ c.if-not-operand_readable.true-raw)
 
-pub returns-then-not-more : goal.returns-then-not-more
-returns-then-not-more c s bs us W e =
-    let head : Binding = record { label = part c.args.text.now c.in-Found.field-0; operand = operand_meant c.args.text.now c.in-Found.v } in
-    let read_here : with_field c.args.text.now head c.in-Found.more c.in-Found.next ≡ record_at c.args.text.now c.loop-v.p = sym (ap (field_meant c.args.text.now) c.in-Found.is) ∙ c.field_at-field.ensures.meant in
-    let l = c.loop-v in
-    sym (ap (unread_in s) e)
-    ∙ all_readable s c.args.text.now c.args.at l.p (l.invariant.1 s W) head c.in-Found.more c.in-Found.next read_here (c.operand_readable.ensures s W ∙ c.if-not-operand_readable.false-raw) (not-true c.in-Found.more c.if-not-more.true-raw)
-
 pub loop-v-smaller : goal.loop-v-smaller
 loop-v-smaller c =
     let placed : FieldPlaced c.args.text.now c.loop-v.p (FieldIs.Found c.in-Found.field-0 c.in-Found.v c.in-Found.more c.in-Found.next) = subst (FieldPlaced c.args.text.now c.loop-v.p) c.in-Found.is c.field_at-field.ensures.placed in

@@ -45,22 +45,3 @@ returns-in-Compare c s x W m =
     let is_call = compare_meant c.args.text.now c.args.e c.in-Compare.field-0 c.in-Compare.v c.in-Compare.w x c.in-Compare.is m in
     ap (λ (y : Term). unread s (term_names y)) is_call ∙ c.both_readable-in-Compare.ensures s W
 
-pub operand_readable-requires : goal.operand_readable-requires
-operand_readable-requires c =
-    let one_value : OneValue c.args.text.now c.args.e c.in-Single.v = let t = c.args.text.now in
-    let e = c.args.e in
-    ⊎_elim
-    (λ h. subst (OneValue t e) (sym h.3) (of_single t e c.requires.1 h.1.given.0.0 h.1.given.1))
-    (λ h. subst (OneValue t e) (sym h.3) (of_lower t e c.requires.1 h.1.given.0.0 h.1.given.1))
-    c.in-Single.branch in
-    (c.requires.0, one_value.within)
-
-pub returns : goal.returns
-returns c s x W m =
-    let one_value : OneValue c.args.text.now c.args.e c.in-Single.v = let t = c.args.text.now in
-    let e = c.args.e in
-    ⊎_elim
-    (λ h. subst (OneValue t e) (sym h.3) (of_single t e c.requires.1 h.1.given.0.0 h.1.given.1))
-    (λ h. subst (OneValue t e) (sym h.3) (of_lower t e c.requires.1 h.1.given.0.0 h.1.given.1))
-    c.in-Single.branch in
-    ap (unread s) (one_value.evaluates x m) ∙ c.operand_readable.ensures s W

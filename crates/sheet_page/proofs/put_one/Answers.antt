@@ -8,7 +8,6 @@ use Rattle.store.proofs.Places.{Lies, lies}
 use Rattle.store.proofs.NameWeights.{name_is}
 use Rattle.value_text.proofs.Pieces.{rewritten}
 use Rattle.sheet_lines.specs.Rights.{had_by}
-use borrow.Author.Rules.{rules}
 use Rattle.sheet_page.proofs.put_one.Goals as goal
 
 pub overflow_add-from : goal.overflow_add-from

@@ -1,21 +1,12 @@
 -- `sheet_page::put_sheet` meets its contract. The loop's invariant: the lines of the first i principals are written, 40 bytes each.
 -- Assumes nothing.
-use mathlib.Core.Path.{◌≡◌, refl, ◌∙◌}
+use mathlib.Core.Path.{refl, ◌∙◌}
 use mathlib.Core.List.{map}
-use Prim.Native.Nat.{◌*◌, ◌-◌, ◌≤◌}
 use native.Mathlib.Omega.{arith}
-use lib.ListN.{length, take}
-use Rattle.language.specs.Text.{joined}
-use Rattle.language.specs.Syntax.{Name}
-use Rattle.language.specs.State.{Store}
-use Rattle.language.specs.Sheet.{sheet_line}
-use Rattle.store.specs.Held.{Principals}
 use Rattle.store.specs.Rows.{row_at, principal_row}
 use Rattle.store.proofs.Holders.{principals_rows}
-use Rattle.value_text.specs.Writing.{Written}
 use Rattle.value_text.proofs.Pieces.{written_none, written_length}
 use Rattle.sheet_lines.specs.Rights.{had_by}
-use Rattle.sheet_page.specs.Marks.{Marked}
 use Rattle.sheet_page.proofs.Lines.{line_written, lines_written, line_ends}
 use Rattle.sheet_page.proofs.put_sheet.Goals as goal
 

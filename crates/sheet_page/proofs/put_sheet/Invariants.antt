@@ -1,24 +1,17 @@
-use mathlib.Core.Path.{◌≡◌, refl, ◌∙◌}
-use mathlib.Core.List.{map}
+use mathlib.Core.Path.{◌≡◌}
 use Prim.Native.Nat.{◌*◌, ◌-◌, ◌≤◌}
-use native.Mathlib.Omega.{arith}
 use lib.ListN.{length, take}
 use Rattle.language.specs.Text.{joined}
 use Rattle.language.specs.Syntax.{Name}
 use Rattle.language.specs.State.{Store}
 use Rattle.language.specs.Sheet.{sheet_line}
 use Rattle.store.specs.Held.{Principals}
-use Rattle.store.specs.Rows.{row_at, principal_row}
-use Rattle.store.proofs.Holders.{principals_rows}
 use Rattle.value_text.specs.Writing.{Written}
-use Rattle.value_text.proofs.Pieces.{written_none, written_length}
-use Rattle.sheet_lines.specs.Rights.{had_by}
 use Rattle.sheet_page.specs.Marks.{Marked}
-use Rattle.sheet_page.proofs.Lines.{line_written, lines_written, line_ends}
 use Rattle.sheet_page.proofs.put_sheet.Given as goal
 
 abbrev pub invariant-loop-i : goal.invariant-loop-i
-invariant-loop-i l =    (l.i ≤ l.count) × (l.p ≡ 40 * l.i) × (length l.out ≡ length l.initial.out) × ((s : Store) (x : Name) → Principals s.principals l.text l.count l.slots → Marked s x l.reads l.writes l.appends l.delegates → Written l.initial.out 0 (joined (sheet_line s x) (take l.i s.principals)) l.p l.out)
+invariant-loop-i l = (l.i ≤ l.count) × (l.p ≡ 40 * l.i) × (length l.out ≡ length l.initial.out) × ((s : Store) (x : Name) → Principals s.principals l.text l.count l.slots → Marked s x l.reads l.writes l.appends l.delegates → Written l.initial.out 0 (joined (sheet_line s x) (take l.i s.principals)) l.p l.out)
 
 abbrev pub decreases-loop-i : goal.decreases-loop-i
-decreases-loop-i l =    l.count - l.i
+decreases-loop-i l = l.count - l.i
