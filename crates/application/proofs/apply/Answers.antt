@@ -6,16 +6,11 @@ use native.Mathlib.Omega.{arith}
 use Rattle.text.specs.Meaning.{Within}
 use Rattle.values.specs.Answers.{text_at, Placed}
 use Rattle.values.specs.declared.Found.{Found}
-use Rattle.values.specs.declared.Found.TheVariants as Is
 use Rattle.syntax.specs.Values.{function_meant}
 use Rattle.language.specs.Text.{Text}
 use Rattle.evaluated.specs.Results.{MaybeString, Valued}
 use Rattle.application.specs.Applied.{applied_to}
 use Rattle.application.proofs.Heavier.{no_second}
-use borrow.Author.Rules.{rules}
-use Rattle.application.proofs.apply.Reads as reads
-use Rattle.application.proofs.apply.Lts as lts
-use Rattle.application.proofs.call.Reads as call_reads
 use Rattle.application.proofs.apply.Goals as goal
 
 pub returns-in_default-b : goal.returns-in_default-b
@@ -55,12 +50,11 @@ slice_bounds-call-end-2 c =
     let w = within-second in omega (arith, w.0, w.1)
 
 pub call-requires : goal.call-requires
-call-requires c =
-    (
-      subst (λ (f : Found). MaybeString (text_at c.args.first.now f)) c.in-At.is c.requires.placed.1,
-      subst (λ (f : Found). MaybeString (text_at c.args.second.now f)) c.in-At-b.is c.requires.placed_2.1,
-      c.requires.placed_2.2,
-    )
+call-requires c = (
+  subst (λ (f : Found). MaybeString (text_at c.args.first.now f)) c.in-At.is c.requires.placed.1,
+  subst (λ (f : Found). MaybeString (text_at c.args.second.now f)) c.in-At-b.is c.requires.placed_2.1,
+  c.requires.placed_2.2,
+)
 
 pub returns : goal.returns
 returns c =

@@ -6,12 +6,6 @@ use Rattle.syntax.specs.declared.Function.{Function}
 use Rattle.syntax.specs.Values.{function_meant}
 use Rattle.evaluated.specs.Results.{Valued}
 use Rattle.application.specs.Applied.{applied_to}
-use borrow.Author.Rules.{rules}
-use Rattle.application.proofs.call.Reads as reads
-use Rattle.application.proofs.call.Lts as lts
-use Rattle.application.proofs.concat.Reads as concat-reads
-use Rattle.application.proofs.priced.Reads as priced-reads
-use Rattle.application.proofs.split.Reads as split-reads
 use Rattle.application.proofs.call.Goals as goal
 
 pub returns-in-Split : goal.returns-in-Split

@@ -9,10 +9,6 @@ use Rattle.language.specs.State.{single, string}
 use Rattle.language.proofs.Logic.Tests.{all_append}
 use Rattle.evaluated.proofs.Putting.{value_put}
 use Rattle.application.proofs.Heavier.{second_heavy, concat_heavy, concat_light}
-use borrow.Author.Rules.{rules}
-use Rattle.application.proofs.concat.Reads as reads
-use Rattle.application.proofs.concat.Lts as lts
-use Rattle.functions.proofs.put_joined.Reads as put-joined-reads
 use Rattle.application.proofs.concat.Goals as goal
 
 pub returns-then-n-gt8192 : goal.returns-then-n-gt8192

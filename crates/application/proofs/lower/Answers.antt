@@ -7,10 +7,6 @@ use Rattle.values.specs.Answers.{text_at, Placed}
 use Rattle.values.specs.declared.Found.{Found}
 use Rattle.evaluated.specs.Results.{MaybeString, Valued}
 use Rattle.application.specs.Applied.{lowered_to}
-use borrow.Author.Rules.{rules}
-use Rattle.application.proofs.lower.Reads as reads
-use Rattle.application.proofs.lower.Lts as lts
-use Rattle.application.proofs.lower_text.Reads as lower-text-reads
 use Rattle.application.proofs.lower.Goals as goal
 
 pub slice_bounds-lower_text-count : goal.slice_bounds-lower_text-count

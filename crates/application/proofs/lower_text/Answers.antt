@@ -7,10 +7,6 @@ use Rattle.language.specs.Functions.{lower_byte}
 use Rattle.language.proofs.Meaning.ValidValues.{lower_valid}
 use Rattle.evaluated.proofs.Putting.{value_put}
 use Rattle.application.proofs.Heavier.{lower_heavy, lower_light}
-use borrow.Author.Rules.{rules}
-use Rattle.application.proofs.lower_text.Reads as reads
-use Rattle.application.proofs.lower_text.Lts as lts
-use Rattle.functions.proofs.put_lower.Reads as put-lower-reads
 use Rattle.application.proofs.lower_text.Goals as goal
 
 pub returns-then-weight-gt8192 : goal.returns-then-weight-gt8192

@@ -19,7 +19,7 @@ use Rattle.amounts.proofs.Fitting.{amount_again}
 use Rattle.syntax.specs.Values.{operation_meant}
 use Rattle.evaluated.proofs.Putting.{value_put}
 use Rattle.application.proofs.Heavier.{no_first_price, no_second_price, no_result, result_range, price_light}
-use borrow.Author.Rules.{rules}
+use Rattle.std.proofs.Common.{zero-add}
 use Rattle.application.proofs.priced.Goals as goal
 
 pub returns-in_default : goal.returns-in_default
@@ -78,7 +78,7 @@ overflow_sub-result c =
     c.reckon-result.ensures
     ∙ (λ i. reckoned o (amount_again c.in-Of.a (price_in_range c.args.first.now c.in-Of.a first_price) i) (amount_again c.in-Of-other.b (price_in_range c.args.second.now c.in-Of-other.b second_price) i)) in
     let is_result : reckoned o c.in-Of.a c.in-Of-other.b ≡ some c.in-Of-result.c = sym reckoned_is ∙ ap amount_meant c.in-Of-result.is in
-    omega (arith, written c.in-Of-result.c (result_range o c.args.first.now c.args.second.now first_price second_price is_result) c.put_amount-len.result c.put_amount-len.ensures.ends)
+    omega (arith, written c.in-Of-result.c (result_range o c.args.first.now c.args.second.now first_price second_price is_result) c.put_amount-len.result (c.put_amount-len.ensures.ends ∙ zero-add _))
 
 pub returns : goal.returns
 returns c =
@@ -91,7 +91,7 @@ returns c =
     ∙ (λ i. reckoned o (amount_again c.in-Of.a (price_in_range c.args.first.now c.in-Of.a first_price) i) (amount_again c.in-Of-other.b (price_in_range c.args.second.now c.in-Of-other.b second_price) i)) in
     let is_result : reckoned o c.in-Of.a c.in-Of-other.b ≡ some amount = sym reckoned_is ∙ ap amount_meant c.in-Of-result.is in
     let h = result_range o c.args.first.now c.args.second.now first_price second_price is_result in
-    let n : c.put_amount-len.result ≡ length (price_text amount) + 3 = written amount h c.put_amount-len.result c.put_amount-len.ensures.ends in
+    let n : c.put_amount-len.result ≡ length (price_text amount) + 3 = written amount h c.put_amount-len.result (c.put_amount-len.ensures.ends ∙ zero-add _) in
     let l : length (price_text amount) ≤ 11 = price_length amount h in
     value_put _ _ _ _ _ _ _
     (price_light o c.args.first.now c.args.second.now first_price second_price is_result)

@@ -6,9 +6,6 @@ use Rattle.language.specs.Syntax as Syntax
 use Rattle.language.specs.Prices.{reckoned}
 use Rattle.syntax.specs.declared.Operation.{Operation}
 use Rattle.syntax.specs.Values.{operation_meant}
-use borrow.Author.Rules.{rules}
-use Rattle.application.proofs.reckon.Reads as reads
-use Rattle.application.proofs.reckon.Lts as lts
 use Rattle.application.proofs.reckon.Goals as goal
 
 pub returns-in-Add : goal.returns-in-Add

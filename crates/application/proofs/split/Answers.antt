@@ -7,10 +7,6 @@ use Rattle.language.specs.Functions.{cut}
 use Rattle.language.proofs.Meaning.ValidValues.{cut_valid}
 use Rattle.evaluated.proofs.Putting.{value_put}
 use Rattle.application.proofs.Heavier.{second_heavy, cut_weighs, split_heavy, split_light}
-use borrow.Author.Rules.{rules}
-use Rattle.application.proofs.split.Reads as reads
-use Rattle.application.proofs.split.Lts as lts
-use Rattle.functions.proofs.put_cut.Reads as put-cut-reads
 use Rattle.application.proofs.split.Goals as goal
 
 pub returns-then-at-gt8192 : goal.returns-then-at-gt8192

@@ -5,7 +5,6 @@ use native.Mathlib.Omega.{arith}
 use Rattle.lines.specs.Cuts.{NumberMeant}
 use Rattle.store.proofs.Holders.{some_principals}
 use Rattle.counts.proofs.Reading.{count_bound, digits_here, counted_here}
-use borrow.Author.Rules.{rules}
 use Rattle.counts.proofs.count_of.Goals as goal
 
 pub count_at-start-requires : goal.count_at-start-requires

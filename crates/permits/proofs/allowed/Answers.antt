@@ -8,7 +8,6 @@ use Rattle.store.specs.declared.index.Found.TheVariants.{At}
 use Rattle.store.proofs.Holders.{variables_rows, some_variables}
 use Rattle.permits.specs.Permits.{Sends}
 use Rattle.permits.proofs.Permission.{few_asserted, few_principals, number_fits, asks, shared_allowed, other_allowed}
-use borrow.Author.Rules.{rules}
 use Rattle.permits.proofs.allowed.Goals as goal
 
 pub find-found-requires : goal.find-found-requires

@@ -5,7 +5,6 @@ use Prim.Native.Nat.{◌-◌}
 use native.Mathlib.Omega.{arith}
 use Rattle.permits.specs.declared.Known.TheVariants as Is
 use Rattle.permits.specs.Knowledge.{past}
-use borrow.Author.Rules.{rules}
 use Rattle.permits.proofs.behind.Goals as goal
 
 pub returns-then-k-eq0 : goal.returns-then-k-eq0

@@ -4,7 +4,6 @@ use mathlib.Core.Path.{◌∙◌}
 use Rattle.language.specs.Expressions.{operand_names}
 use Rattle.syntax.specs.Values.{operand_meant}
 use Rattle.permits.proofs.Readers.{first_unread, second_decides}
-use borrow.Author.Rules.{rules}
 use Rattle.permits.proofs.both_readable.Goals as goal
 
 pub returns-then-not-operand_readable : goal.returns-then-not-operand_readable

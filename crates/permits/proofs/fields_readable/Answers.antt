@@ -1,19 +1,14 @@
 -- `permits::fields_readable` meets its contract. The invariant: the fields before p may be read, and the others stand from p on. The measure is what is left of the text.
 -- Assumes nothing.
 use mathlib.Core.Path.{◌≡◌, sym, ap, subst, ◌∙◌}
-use Prim.Native.Nat.{◌-◌, ◌≤◌}
 use native.Mathlib.Omega.{arith}
-use borrow.Author.Rules.{rules}
-use borrow.Author.Tests.{not-true, not-false}
-use lib.ListN.{length}
+use borrow.Author.Tests.{not-false}
 use Rattle.language.specs.Syntax.{Binding}
-use Rattle.language.specs.Values.{Session}
 use Rattle.text.specs.Meaning.{part}
 use Rattle.syntax.specs.declared.FieldRead.TheVariants as FieldIs
 use Rattle.syntax.specs.Values.{operand_meant, record_at, with_field, field_meant, FieldPlaced}
 use Rattle.tokens.proofs.Reading.{no_some}
-use Rattle.permits.specs.Permits.{Sends}
-use Rattle.permits.proofs.Readers.{unread_in, Reached, reached_start, not_readable, all_readable, reached_on}
+use Rattle.permits.proofs.Readers.{unread_in, reached_start, not_readable, reached_on}
 use Rattle.permits.proofs.fields_readable.Goals as goal
 
 pub loop-v-init : goal.loop-v-init
@@ -48,8 +43,7 @@ loop-v-preserved c =
     let head : Binding = record { label = part c.args.text.now c.in-Found.field-0; operand = operand_meant c.args.text.now c.in-Found.v } in
     let read_here : with_field c.args.text.now head c.in-Found.more c.in-Found.next ≡ record_at c.args.text.now c.loop-v.p = sym (ap (field_meant c.args.text.now) c.in-Found.is) ∙ c.field_at-field.ensures.meant in
     let placed : FieldPlaced c.args.text.now c.loop-v.p (FieldIs.Found c.in-Found.field-0 c.in-Found.v c.in-Found.more c.in-Found.next) = subst (FieldPlaced c.args.text.now c.loop-v.p) c.in-Found.is c.field_at-field.ensures.placed in
-    let l = c.loop-v in
-    (
+    let l = c.loop-v in (
       placed.3,
       λ s W. reached_on s c.args.text.now c.args.at l.p (l.invariant.1 s W) head c.in-Found.more c.in-Found.next read_here (c.operand_readable.ensures s W ∙ c.if-not-operand_readable.false-raw) (not-false c.in-Found.more c.if-not-more.false-raw),
     )

@@ -9,7 +9,6 @@ use Rattle.syntax.specs.declared.Operand.{Operand}
 use Rattle.syntax.specs.Values.{operand_meant, OperandWithin}
 use Rattle.permits.specs.Permits.{unread}
 use Rattle.permits.proofs.Readers.{one_name}
-use borrow.Author.Rules.{rules}
 use Rattle.permits.proofs.operand_readable.Goals as goal
 
 pub slice_bounds-allowed-count : goal.slice_bounds-allowed-count

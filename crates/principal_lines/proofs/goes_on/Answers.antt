@@ -3,10 +3,6 @@ use mathlib.Core.Path.{sym, ap, ◌∙◌}
 use Prim.Native.Nat.{ℕ}
 use lib.Dec.{eqb}
 use Rattle.principal_lines.proofs.OneLine.{principal_p, principal_n}
-use borrow.Author.Rules.{rules}
-use Rattle.principal_lines.proofs.goes_on.Reads as reads
-use Rattle.principal_lines.proofs.goes_on.Lts as lts
-use Rattle.lines.proofs.byte_at.Reads as byte-at-reads
 use Rattle.principal_lines.proofs.goes_on.Goals as goal
 
 pub returns-then-first-eq80 : goal.returns-then-first-eq80

@@ -1,10 +1,6 @@
 -- `principal_lines::in_place` meets its contract.
 use mathlib.Core.Path.{◌∙◌}
 use Rattle.principal_lines.proofs.OneLine.{place_admin, place_refused, place_anyone, place_other}
-use borrow.Author.Rules.{rules}
-use Rattle.principal_lines.proofs.in_place.Reads as reads
-use Rattle.principal_lines.proofs.in_place.Lts as lts
-use Rattle.text.proofs.same_bytes.Reads as same-bytes-reads
 use Rattle.principal_lines.proofs.in_place.Goals as goal
 
 pub returns-then-has : goal.returns-then-has

@@ -11,13 +11,6 @@ use Rattle.record_fields.proofs.Opening.{inside}
 use Rattle.store.proofs.NameWeights.{name_light}
 use Rattle.principal_lines.specs.Principals.{form_meant, base_of, SecretMeant}
 use Rattle.principal_lines.proofs.OneLine.{base_small, keyed_unnamed, keyed_secretless, keyed_good}
-use borrow.Author.Rules.{rules}
-use Rattle.principal_lines.proofs.keyed_at.Reads as reads
-use Rattle.principal_lines.proofs.keyed_at.Lts as lts
-use Rattle.contents.proofs.name_weight.Reads as name-weight-reads
-use Rattle.lines.proofs.name_end.Reads as name-end-reads
-use Rattle.principal_lines.proofs.base.Reads as base-reads
-use Rattle.principal_lines.proofs.secret_at.Reads as secret-at-reads
 use Rattle.principal_lines.proofs.keyed_at.Goals as goal
 
 pub overflow_add-from : goal.overflow_add-from

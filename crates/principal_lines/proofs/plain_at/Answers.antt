@@ -12,14 +12,6 @@ use Rattle.record_fields.proofs.Opening.{inside}
 use Rattle.store.proofs.NameWeights.{name_light}
 use Rattle.principal_lines.specs.Principals.{form_meant, stop_of, base_of, TailMeant}
 use Rattle.principal_lines.proofs.OneLine.{stop_word, base_small, plain_unnamed, plain_heavy, plain_tailless, plain_good}
-use borrow.Author.Rules.{rules}
-use Rattle.principal_lines.proofs.plain_at.Reads as reads
-use Rattle.principal_lines.proofs.plain_at.Lts as lts
-use Rattle.contents.proofs.name_weight.Reads as name-weight-reads
-use Rattle.lines.proofs.name_end.Reads as name-end-reads
-use Rattle.principal_lines.proofs.base.Reads as base-reads
-use Rattle.principal_lines.proofs.stop.Reads as stop-reads
-use Rattle.principal_lines.proofs.tail_at.Reads as tail-at-reads
 use Rattle.principal_lines.proofs.plain_at.Goals as goal
 
 pub overflow_add-from : goal.overflow_add-from

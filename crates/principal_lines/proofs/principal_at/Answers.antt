@@ -2,12 +2,6 @@
 use mathlib.Core.Path.{sym, ◌∙◌}
 use Rattle.principal_lines.specs.Principals.{form_meant}
 use Rattle.principal_lines.proofs.OneLine.{principal_tab, principal_letter}
-use borrow.Author.Rules.{rules}
-use Rattle.principal_lines.proofs.principal_at.Reads as reads
-use Rattle.principal_lines.proofs.principal_at.Lts as lts
-use Rattle.lines.proofs.byte_at.Reads as byte-at-reads
-use Rattle.principal_lines.proofs.keyed_at.Reads as keyed-at-reads
-use Rattle.principal_lines.proofs.plain_at.Reads as plain-at-reads
 use Rattle.principal_lines.proofs.principal_at.Goals as goal
 
 pub returns-then-byte_at-ne9 : goal.returns-then-byte_at-ne9

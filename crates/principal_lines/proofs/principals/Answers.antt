@@ -17,13 +17,7 @@ use Rattle.record_fields.specs.Sections.{Entitled, any_text}
 use Rattle.record_fields.specs.Entering.{Entered}
 use Rattle.principal_lines.specs.Principals.{form_meant, least_of, PrincipalMeant, off_principal}
 use Rattle.principal_lines.proofs.OneLine.{letter_password}
-use Rattle.principal_lines.proofs.Ranks.{Ranking, ranking_start, too_few, principals_good, principals_stuck, principal_ahead, principal_light, principal_entering, misplaced, principal_again, principal_next}
-use Rattle.principal_lines.proofs.principals.Reads as reads
-use Rattle.principal_lines.proofs.principals.Lts as lts
-use Rattle.record_fields.proofs.enter.Reads as enter-reads
-use Rattle.principal_lines.proofs.goes_on.Reads as goes-on-reads
-use Rattle.principal_lines.proofs.in_place.Reads as in_place_reads
-use Rattle.principal_lines.proofs.principal_at.Reads as principal-at-reads
+use Rattle.principal_lines.proofs.Ranks.{ranking_start, too_few, principals_good, principals_stuck, principal_ahead, principal_light, principal_entering, misplaced, principal_again, principal_next}
 use Rattle.principal_lines.proofs.principals.Goals as goal
 
 pub loop-form-init : goal.loop-form-init

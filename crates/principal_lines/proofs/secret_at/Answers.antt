@@ -9,12 +9,6 @@ use Rattle.text.specs.declared.Alphabet.TheVariants.{Text as Text'}
 use Rattle.lines.specs.Cuts.{CutMeant, Field}
 use Rattle.principal_lines.specs.Principals.{form_meant, stop_of, TailMeant}
 use Rattle.principal_lines.proofs.OneLine.{stop_text, secret_none, secret_heavy, secret_tailless, secret_good}
-use borrow.Author.Rules.{rules}
-use Rattle.principal_lines.proofs.secret_at.Reads as reads
-use Rattle.principal_lines.proofs.secret_at.Lts as lts
-use Rattle.lines.proofs.run_cut.Reads as run-cut-reads
-use Rattle.principal_lines.proofs.stop.Reads as stop-reads
-use Rattle.principal_lines.proofs.tail_at.Reads as tail-at-reads
 use Rattle.principal_lines.proofs.secret_at.Goals as goal
 
 pub run_cut-cut-requires : goal.run_cut-cut-requires

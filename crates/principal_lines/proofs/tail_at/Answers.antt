@@ -5,10 +5,6 @@ use Rattle.lines.specs.Cuts.{NumberMeant, Digits}
 use Rattle.lines.specs.declared.Cut.TheVariants as Of
 use Rattle.principal_lines.specs.Principals.{form_meant, TailMeant}
 use Rattle.principal_lines.proofs.OneLine.{tail_none, tail_read, tail_former}
-use borrow.Author.Rules.{rules}
-use Rattle.principal_lines.proofs.tail_at.Reads as reads
-use Rattle.principal_lines.proofs.tail_at.Lts as lts
-use Rattle.lines.proofs.number_at.Reads as number-at-reads
 use Rattle.principal_lines.proofs.tail_at.Goals as goal
 
 pub returns-in_default : goal.returns-in_default

@@ -6,11 +6,6 @@ use Rattle.store.specs.Held.{places}
 use Rattle.text.specs.Parts.{part}
 use Rattle.store.proofs.Hashes.{hash_small}
 use Rattle.record_fields.proofs.Indexing.{is_there, is_new}
-use borrow.Author.Rules.{rules}
-use Rattle.record_fields.proofs.enter.Reads as reads
-use Rattle.record_fields.proofs.enter.Lts as lts
-use Rattle.store.proofs.index.find.Reads as find-reads
-use Rattle.store.proofs.index.hash.Reads as hash-reads
 use Rattle.record_fields.proofs.enter.Goals as goal
 
 pub returns-in_default : goal.returns-in_default

@@ -7,12 +7,6 @@ use Rattle.lines.specs.Cuts.{CutMeant, Field}
 use Rattle.record_fields.specs.Sections.{StringMeant}
 use Rattle.record_fields.proofs.Opening.{inside, name_fits}
 use Rattle.record_fields.proofs.Sorts.{field_tab, field_unnamed, field_stringless, field_good}
-use borrow.Author.Rules.{rules}
-use Rattle.record_fields.proofs.field_at.Reads as reads
-use Rattle.record_fields.proofs.field_at.Lts as lts
-use Rattle.lines.proofs.byte_at.Reads as byte-at-reads
-use Rattle.lines.proofs.name_end.Reads as name-end-reads
-use Rattle.record_fields.proofs.string_at.Reads as string-at-reads
 use Rattle.record_fields.proofs.field_at.Goals as goal
 
 pub overflow_add-at : goal.overflow_add-at

@@ -3,7 +3,6 @@ use mathlib.Core.Bool.{Bool, true, false}
 use mathlib.Core.List.{List}
 use Prim.Native.Nat.{◌+◌, ◌*◌, ◌-◌, ◌≤◌}
 use native.Mathlib.Omega.{arith}
-use borrow.Author.Rules.{rules}
 use borrow.Author.Tests.{not-true, not-false}
 use lib.ListN.{length, get_or}
 use Rattle.language.specs.State.{Field}
@@ -13,12 +12,7 @@ use Rattle.text.specs.Parts.{part}
 use Rattle.store.specs.Rows.{Row, Rows}
 use Rattle.record_fields.specs.Sections.{FieldMeant, Entitled, field_weight, any_text}
 use Rattle.record_fields.specs.Entering.{Entered}
-use Rattle.record_fields.proofs.Labels.{Filling, fields_start, fields_heavy, fields_good, fields_stuck, field_ahead, field_light, field_entering, field_next, field_again}
-use Rattle.record_fields.proofs.fields.Reads as reads
-use Rattle.record_fields.proofs.fields.Lts as lts
-use Rattle.lines.proofs.byte_at.Reads as byte-at-reads
-use Rattle.record_fields.proofs.enter.Reads as enter-reads
-use Rattle.record_fields.proofs.field_at.Reads as field-at-reads
+use Rattle.record_fields.proofs.Labels.{fields_start, fields_heavy, fields_good, fields_stuck, field_ahead, field_light, field_entering, field_next, field_again}
 use Rattle.record_fields.proofs.fields.Goals as goal
 
 pub loop-line-init : goal.loop-line-init

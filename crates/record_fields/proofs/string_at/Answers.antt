@@ -4,10 +4,6 @@ use Rattle.language.specs.Text.{all}
 use Rattle.language.specs.Bytes.{string_byte}
 use Rattle.lines.specs.Cuts.{CutMeant, Field}
 use Rattle.record_fields.proofs.Sorts.{string_none, string_heavy, string_good}
-use borrow.Author.Rules.{rules}
-use Rattle.record_fields.proofs.string_at.Reads as reads
-use Rattle.record_fields.proofs.string_at.Lts as lts
-use Rattle.lines.proofs.run_cut.Reads as run-cut-reads
 use Rattle.record_fields.proofs.string_at.Goals as goal
 
 pub returns-in_default : goal.returns-in_default

@@ -7,12 +7,6 @@ use Rattle.language.specs.Valid.{valid_field}
 use Rattle.record_fields.specs.Sections.{FieldsMeant, Records, distinct_labels, field_weight, off_field}
 use Rattle.record_fields.proofs.Opening.{inside}
 use Rattle.records.proofs.Values.{element_none, string_tab, string_element_lem, record_newline, record_fails, record_empty, record_element}
-use borrow.Author.Rules.{rules}
-use Rattle.records.proofs.element_at.Reads as reads
-use Rattle.records.proofs.element_at.Lts as lts
-use Rattle.lines.proofs.byte_at.Reads as byte-at-reads
-use Rattle.record_fields.proofs.fields.Reads as fields_reads
-use Rattle.record_fields.proofs.string_at.Reads as string-at-reads
 use Rattle.records.proofs.element_at.Goals as goal
 
 pub returns-then-byte_at-ne9 : goal.returns-then-byte_at-ne9

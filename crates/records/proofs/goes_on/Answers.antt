@@ -2,10 +2,6 @@ use mathlib.Core.Path.{sym, ap, ◌∙◌}
 use Prim.Native.Nat.{ℕ}
 use lib.Dec.{eqb}
 use Rattle.records.proofs.Values.{on_string, on_record, on_field}
-use borrow.Author.Rules.{rules}
-use Rattle.records.proofs.goes_on.Reads as reads
-use Rattle.records.proofs.goes_on.Lts as lts
-use Rattle.lines.proofs.byte_at.Reads as byte-at-reads
 use Rattle.records.proofs.goes_on.Goals as goal
 
 pub returns-then-first-eq83 : goal.returns-then-first-eq83

@@ -4,12 +4,6 @@ use native.Mathlib.Omega.{arith}
 use lib.ListN.{get_or}
 use Rattle.record_fields.proofs.Opening.{inside}
 use Rattle.records.proofs.Values.{element_value, list_newline, list_value}
-use borrow.Author.Rules.{rules}
-use Rattle.records.proofs.value_at.Reads as reads
-use Rattle.records.proofs.value_at.Lts as lts
-use Rattle.lines.proofs.byte_at.Reads as byte-at-reads
-use Rattle.records.proofs.element_at.Reads as element-at-reads
-use Rattle.records.proofs.elements.Reads as elements-reads
 use Rattle.records.proofs.value_at.Goals as goal
 
 pub returns-then-byte_at-ne76 : goal.returns-then-byte_at-ne76

@@ -7,12 +7,6 @@ use Rattle.lines.specs.Cuts.{CutMeant, Field}
 use Rattle.records.specs.Values.{ValueMeant}
 use Rattle.record_fields.proofs.Opening.{inside, name_fits}
 use Rattle.records.proofs.Variables.{variable_tab, variable_unnamed, variable_heavy, variable_valueless, variable_good}
-use borrow.Author.Rules.{rules}
-use Rattle.records.proofs.variable_at.Reads as reads
-use Rattle.records.proofs.variable_at.Lts as lts
-use Rattle.lines.proofs.byte_at.Reads as byte-at-reads
-use Rattle.lines.proofs.name_end.Reads as name-end-reads
-use Rattle.records.proofs.value_at.Reads as value-at-reads
 use Rattle.records.proofs.variable_at.Goals as goal
 
 pub returns-then-byte_at-ne9 : goal.returns-then-byte_at-ne9

@@ -8,11 +8,6 @@ use Rattle.store.specs.Rows.{Row, Rows, row_names}
 use Rattle.record_fields.proofs.Opening.{inside}
 use Rattle.references.specs.Known.{KnownMeant, Member}
 use Rattle.references.proofs.Members.{member_word, delegator_letter, delegator_tab, delegator_unknown, delegator_good}
-use borrow.Author.Rules.{rules}
-use Rattle.references.proofs.delegator_at.Reads as reads
-use Rattle.references.proofs.delegator_at.Lts as lts
-use Rattle.lines.proofs.byte_at.Reads as byte-at-reads
-use Rattle.references.proofs.known_at.Reads as known-at-reads
 use Rattle.references.proofs.delegator_at.Goals as goal
 
 pub returns-then-byte_at-ne68 : goal.returns-then-byte_at-ne68

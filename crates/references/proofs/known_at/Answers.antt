@@ -4,11 +4,6 @@ use Rattle.language.specs.Text.{all}
 use Rattle.language.specs.Bytes.{word_byte}
 use Rattle.lines.specs.Cuts.{CutMeant, Field}
 use Rattle.references.proofs.Members.{member_word, unknown, is_known}
-use borrow.Author.Rules.{rules}
-use Rattle.references.proofs.known_at.Reads as reads
-use Rattle.references.proofs.known_at.Lts as lts
-use Rattle.lines.proofs.run_cut.Reads as run-cut-reads
-use Rattle.store.proofs.index.find.Reads as find-reads
 use Rattle.references.proofs.known_at.Goals as goal
 
 pub returns-in_default : goal.returns-in_default

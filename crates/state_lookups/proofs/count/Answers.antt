@@ -9,7 +9,6 @@ use Rattle.store.specs.declared.index.Found.TheVariants.{At}
 use Rattle.store.proofs.Holders.{principals_rows, some_principals}
 use Rattle.store.proofs.Answers.{principal_found}
 use Rattle.state_lookups.proofs.Lookups.{count_gone, count_here}
-use borrow.Author.Rules.{rules}
 use Rattle.state_lookups.proofs.count.Goals as goal
 
 pub find-place-requires : goal.find-place-requires

@@ -5,7 +5,6 @@ use Rattle.store.proofs.Places.{Lies, lies}
 use Rattle.splice.proofs.Splicing.{length_part}
 use Rattle.state_lookups.specs.Looks.{Look, Says}
 use Rattle.state_lookups.proofs.Lookups.{name_gone, name_here}
-use borrow.Author.Rules.{rules}
 use Rattle.state_lookups.proofs.nth_name.Goals as goal
 
 pub returns-then-count-number : goal.returns-then-count-number

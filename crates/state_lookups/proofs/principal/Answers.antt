@@ -13,7 +13,6 @@ use Rattle.store.proofs.Answers.{principal_found}
 use Rattle.splice.proofs.Splicing.{length_part}
 use Rattle.state_lookups.specs.Looks.{Look, Says}
 use Rattle.state_lookups.proofs.Lookups.{principal_gone, principal_kept, principal_bare}
-use borrow.Author.Rules.{rules}
 use Rattle.state_lookups.proofs.principal.Goals as goal
 
 pub find-place-requires : goal.find-place-requires

@@ -11,7 +11,6 @@ use Rattle.store.proofs.Answers.{variable_found}
 use Rattle.splice.proofs.Splicing.{length_part}
 use Rattle.state_lookups.specs.Looks.{Look, Says}
 use Rattle.state_lookups.proofs.Lookups.{variable_gone, variable_here}
-use borrow.Author.Rules.{rules}
 use Rattle.state_lookups.proofs.variable.Goals as goal
 
 pub find-place-requires : goal.find-place-requires
