@@ -31,15 +31,15 @@ answer-requires c =
 pub answer-requires-in-Let : goal.answer-requires-in-Let
 answer-requires-in-Let c =
     let a = c.args in
-    (
-      record { session = c.requires.some_asked.session; expression = c.requires.some_asked.expression; starts = as_let c.requires.some_asked.asked c.in-Let.p c.in-Let.is; sends = c.requires.some_asked.sends; knows = c.requires.some_asked.knows },
-      (subst (λ (v : Expr). Fitted v (texts a.shared.now a.slots.now a.count a.scope.now a.local_slots.now) (stack a.heads.now a.lens.now a.counts.now a.bounds.now) a.len a.number) c.in-Let.is c.requires.fitted, c.requires.text_len_bound),
-    )
+    record {
+      some_start = record { session = c.requires.some_asked.session; expression = c.requires.some_asked.expression; starts = as_let c.requires.some_asked.asked c.in-Let.p c.in-Let.is; sends = c.requires.some_asked.sends; knows = c.requires.some_asked.knows };
+      sized = subst (λ (v : Expr). Fitted v (texts a.shared.now a.slots.now a.count a.scope.now a.local_slots.now) (stack a.heads.now a.lens.now a.counts.now a.bounds.now) a.len a.number) c.in-Let.is c.requires.fitted;
+      text_len_bound = c.requires.text_len_bound;
+    }
 
 pub returns-in-Term : goal.returns-in-Term
 returns-in-Term c s x A W q =
-    let T = as_term A c.in-Term.t c.in-Term.is in
-    (
+    let T = as_term A c.in-Term.t c.in-Term.is in (
       subst (λ (y : Syntax.Expr). Tells c.answer.result s (names s y) (value s y) c.answer.new.out) (sym T.is)
           (c.answer.ensures s T.the_term A.held W T.meant (knows_first s T.the_term [] c.args.known (subst (λ (y : Syntax.Expr). Knows c.args.known s (terms y)) T.is q))),
       A,

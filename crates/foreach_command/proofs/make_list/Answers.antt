@@ -40,9 +40,9 @@ make_aside-made-requires c =
     let S = c.requires.some_source in
     let F = c.requires.some_each.0 in
     let W = c.requires.some_each.1 in
-    let C = S.prepares.1 in (
-      some_turning S.session a.l lent S.running a.text.now a.y a.e F.says a.known S.expression S.meant S.prepares.2 F.short F.y_within (named a.way y x F.says.expression F.is_valid).0,
-      (
+    let C = S.prepares.1 in record {
+      some_turning = some_turning S.session a.l lent S.running a.text.now a.y a.e F.says a.known S.expression S.meant S.prepares.2 F.short F.y_within (named a.way y x F.says.expression F.is_valid).0;
+      some_list = (
         record {
           elements = C.elements;
           held = C.held;
@@ -50,8 +50,8 @@ make_aside-made-requires c =
         },
         record { out_size = omega (arith, W.value_size); slots_size = W.labels_size },
         omega (arith, length-replicate {A = ℕ} 32768 0),
-      ),
-    )
+      );
+    }
 
 pub put_list-requires : goal.put_list-requires
 put_list-requires c =
@@ -60,7 +60,7 @@ put_list-requires c =
     let y = part a.text.now a.y in
     let x = part a.text.now a.x in
     let becomes : (s : Session) (u : Expr) (R : Running s a.l lent) (m : expr_meant a.text.now a.e ≡ some u) (p : Prepares (Source.List a.n a.known) s y x u a.elements.now) (r : Made)
-        → c.make_aside-made.result ≡ r → MadeOf AsList r s (names_for_each s y u p.1.elements) (throughout (made a.way s y u) p.1.elements) c.make_aside-made.new.out =
+    → c.make_aside-made.result ≡ r → MadeOf AsList r s (names_for_each s y u p.1.elements) (throughout (made a.way s y u) p.1.elements) c.make_aside-made.new.out =
     λ s u R m p r e. subst (λ (z : Made). MadeOf AsList z s (names_for_each s y u p.1.elements) (throughout (made a.way s y u) p.1.elements) c.make_aside-made.new.out) e
     (c.make_aside-made.ensures s u p.1.elements (turning s a.l lent R a.text.now a.y a.e c.requires.some_each.0.says a.known u m p.2) p.1.held).0 in
     let changed : Slices = slices a.principals.now a.principal_slots.now a.vars.now a.variable_slots.now a.locals.now c.make_aside-made.new.local_slots a.assertions.now in
@@ -68,14 +68,14 @@ put_list-requires c =
     λ s u R m p. running_again s u a.l lent R c.make_aside-made.new.local_slots a.text.now a.y a.e a.known c.make_aside-made.auto.local_slots
     (c.make_aside-made.ensures s u p.1.elements (turning s a.l lent R a.text.now a.y a.e c.requires.some_each.0.says a.known u m p.2) p.1.held).1 in
     let P = c.requires.some_source in
-    let F = c.requires.some_each.0 in (
-      record { session = P.session; running = again P.session P.expression P.running P.meant P.prepares },
-      (
+    let F = c.requires.some_each.0 in record {
+      some_running = record { session = P.session; running = again P.session P.expression P.running P.meant P.prepares };
+      within = (
         F.x_within,
         (named a.way y x F.says.expression F.is_valid).1,
         record { outcome = _; drafted = (becomes P.session P.expression P.running P.meant P.prepares _ c.in-Done.is).1 },
-      ),
-    )
+      );
+    }
 
 pub returns-in-Denied : goal.returns-in-Denied
 returns-in-Denied c s u R m p =
@@ -84,7 +84,7 @@ returns-in-Denied c s u R m p =
     let y = part a.text.now a.y in
     let x = part a.text.now a.x in
     let becomes : (s : Session) (u : Expr) (R : Running s a.l lent) (m : expr_meant a.text.now a.e ≡ some u) (p : Prepares (Source.List a.n a.known) s y x u a.elements.now) (r : Made)
-        → c.make_aside-made.result ≡ r → MadeOf AsList r s (names_for_each s y u p.1.elements) (throughout (made a.way s y u) p.1.elements) c.make_aside-made.new.out =
+    → c.make_aside-made.result ≡ r → MadeOf AsList r s (names_for_each s y u p.1.elements) (throughout (made a.way s y u) p.1.elements) c.make_aside-made.new.out =
     λ s u R m p r e. subst (λ (z : Made). MadeOf AsList z s (names_for_each s y u p.1.elements) (throughout (made a.way s y u) p.1.elements) c.make_aside-made.new.out) e
     (c.make_aside-made.ensures s u p.1.elements (turning s a.l lent R a.text.now a.y a.e c.requires.some_each.0.says a.known u m p.2) p.1.held).0 in
     let changed : Slices = slices a.principals.now a.principal_slots.now a.vars.now a.variable_slots.now a.locals.now c.make_aside-made.new.local_slots a.assertions.now in
@@ -100,7 +100,7 @@ returns-in-No c s u R m p =
     let y = part a.text.now a.y in
     let x = part a.text.now a.x in
     let becomes : (s : Session) (u : Expr) (R : Running s a.l lent) (m : expr_meant a.text.now a.e ≡ some u) (p : Prepares (Source.List a.n a.known) s y x u a.elements.now) (r : Made)
-        → c.make_aside-made.result ≡ r → MadeOf AsList r s (names_for_each s y u p.1.elements) (throughout (made a.way s y u) p.1.elements) c.make_aside-made.new.out =
+    → c.make_aside-made.result ≡ r → MadeOf AsList r s (names_for_each s y u p.1.elements) (throughout (made a.way s y u) p.1.elements) c.make_aside-made.new.out =
     λ s u R m p r e. subst (λ (z : Made). MadeOf AsList z s (names_for_each s y u p.1.elements) (throughout (made a.way s y u) p.1.elements) c.make_aside-made.new.out) e
     (c.make_aside-made.ensures s u p.1.elements (turning s a.l lent R a.text.now a.y a.e c.requires.some_each.0.says a.known u m p.2) p.1.held).0 in
     let changed : Slices = slices a.principals.now a.principal_slots.now a.vars.now a.variable_slots.now a.locals.now c.make_aside-made.new.local_slots a.assertions.now in
@@ -117,7 +117,7 @@ returns-in-Done c s u R m p =
     let y = part a.text.now a.y in
     let x = part a.text.now a.x in
     let becomes : (s : Session) (u : Expr) (R : Running s a.l lent) (m : expr_meant a.text.now a.e ≡ some u) (p : Prepares (Source.List a.n a.known) s y x u a.elements.now) (r : Made)
-        → c.make_aside-made.result ≡ r → MadeOf AsList r s (names_for_each s y u p.1.elements) (throughout (made a.way s y u) p.1.elements) c.make_aside-made.new.out =
+    → c.make_aside-made.result ≡ r → MadeOf AsList r s (names_for_each s y u p.1.elements) (throughout (made a.way s y u) p.1.elements) c.make_aside-made.new.out =
     λ s u R m p r e. subst (λ (z : Made). MadeOf AsList z s (names_for_each s y u p.1.elements) (throughout (made a.way s y u) p.1.elements) c.make_aside-made.new.out) e
     (c.make_aside-made.ensures s u p.1.elements (turning s a.l lent R a.text.now a.y a.e c.requires.some_each.0.says a.known u m p.2) p.1.held).0 in
     let changed : Slices = slices a.principals.now a.principal_slots.now a.vars.now a.variable_slots.now a.locals.now c.make_aside-made.new.local_slots a.assertions.now in

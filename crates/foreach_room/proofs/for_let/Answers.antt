@@ -30,8 +30,8 @@ make_all-requires c =
     let Turns : Session → Expr → Type 0 = λ s x. let a = c.args in
     Turning s x a.text.now (texts a.shared.now a.slots.now a.count a.locals.now a.local_slots.now) a.len a.number a.y a.e a.assertions.now a.n a.principals a.sender a.known in
     let aside : (s : Session) (x : Expr) → Turns s x → let a = c.args in Turning s x a.text.now (texts a.shared.now a.slots.now a.count c.copy.new.dst c.copy_slots.new.dst) a.len a.number a.y a.e a.assertions.now a.n a.principals a.sender a.known = λ s x I. let a = c.args in
-    elsewhere I c.copy.last.dst c.copy_slots.new.dst (copied_front _ a.locals.now a.len I.asked.in_scope c.copy.last.dst c.copy.ensures)
-    (omega (arith, c.copy.kept.dst, length-replicate {A = ℕ} 90373 0, c.requires.some_turning.locals_short)) (copied_front _ a.local_slots.now a.number (omega (arith, c.requires.some_turning.slots_room)) c.copy_slots.new.dst c.copy_slots.ensures) in
+    elsewhere I c.copy.new.dst c.copy_slots.new.dst (copied_front _ a.locals.now a.len I.asked.in_scope c.copy.new.dst c.copy.ensures)
+    (omega (arith, c.copy.auto.dst, length-replicate {A = ℕ} 90373 0, c.requires.some_turning.locals_short)) (copied_front _ a.local_slots.now a.number (omega (arith, c.requires.some_turning.slots_room)) c.copy_slots.new.dst c.copy_slots.ensures) in
     let p = c.copy.auto.dst ∙ length-replicate {A = ℕ} 90373 0 in
     let q = c.copy_slots.auto.dst ∙ length-replicate {A = ℕ} 8192 0 in
     let f = length-replicate {A = ℕ} 4096 0 in record {
@@ -45,6 +45,6 @@ returns c s x es I h =
     let Turns : Session → Expr → Type 0 = λ s x. let a = c.args in
     Turning s x a.text.now (texts a.shared.now a.slots.now a.count a.locals.now a.local_slots.now) a.len a.number a.y a.e a.assertions.now a.n a.principals a.sender a.known in
     let aside : (s : Session) (x : Expr) → Turns s x → let a = c.args in Turning s x a.text.now (texts a.shared.now a.slots.now a.count c.copy.new.dst c.copy_slots.new.dst) a.len a.number a.y a.e a.assertions.now a.n a.principals a.sender a.known = λ s x I. let a = c.args in
-    elsewhere I c.copy.last.dst c.copy_slots.new.dst (copied_front _ a.locals.now a.len I.asked.in_scope c.copy.last.dst c.copy.ensures)
-    (omega (arith, c.copy.kept.dst, length-replicate {A = ℕ} 90373 0, c.requires.some_turning.locals_short)) (copied_front _ a.local_slots.now a.number (omega (arith, c.requires.some_turning.slots_room)) c.copy_slots.new.dst c.copy_slots.ensures) in
+    elsewhere I c.copy.new.dst c.copy_slots.new.dst (copied_front _ a.locals.now a.len I.asked.in_scope c.copy.new.dst c.copy.ensures)
+    (omega (arith, c.copy.auto.dst, length-replicate {A = ℕ} 90373 0, c.requires.some_turning.locals_short)) (copied_front _ a.local_slots.now a.number (omega (arith, c.requires.some_turning.slots_room)) c.copy_slots.new.dst c.copy_slots.ensures) in
     (c.make_all.ensures s x es (aside s x I) h).0

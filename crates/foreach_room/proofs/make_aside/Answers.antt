@@ -14,7 +14,7 @@ for_term-requires c =
     }
 
 pub for_let-requires : goal.for_let-requires
-for_let-requires c = let both = c.requires in record { some_turning = both.0; some_list = both.1 }
+for_let-requires c = record { some_turning = c.requires.some_turning; some_list = c.requires.some_list }
 
 pub returns-in-Let : goal.returns-in-Let
 returns-in-Let c s x es I h = (c.for_let.ensures s x es I h, I)

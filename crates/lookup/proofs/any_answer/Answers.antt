@@ -40,17 +40,17 @@ pub answer-requires-in-Let : goal.answer-requires-in-Let
 answer-requires-in-Let c =
     let a = c.args in
     let A = asked c.requires.some_scoped.0.session a.l a.vars.now a.variable_slots.now a.locals.now a.local_slots.now a.text.now a.e c.requires.said.0.expression.expression c.requires.some_scoped.0.scoped c.requires.said.0.expression c.requires.said.0.expression.meant in
-    (
-      record {
+    record {
+      some_aside = record {
         session = (environment c.requires.some_scoped.1.session c.requires.some_scoped.0.session.locals 0).session;
         expression = c.requires.said.0.expression.expression;
         starts = other_store c.requires.some_scoped.1.session (as_let A c.in-Let.p c.in-Let.is) c.requires.some_scoped.1.sending.sends;
         sends = sends_any c.requires.some_scoped.0.session.locals c.requires.some_scoped.1.sending.sends;
         short = omega (arith, c.requires.copyable.locals_short, length-take-le a.l.locals_len a.locals.now c.requires.some_scoped.0.scoped.locals_within, c.requires.some_scoped.0.scoped.locals_within);
         few = c.requires.copyable.slots_few;
-      },
-      (c.requires.said.0.short, c.requires.said.1),
-    )
+      };
+      text_len_bound = (c.requires.said.0.short, c.requires.said.1);
+    }
 
 pub returns-in-Term : goal.returns-in-Term
 returns-in-Term c s y S W m =
