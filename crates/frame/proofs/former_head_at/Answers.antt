@@ -4,11 +4,6 @@ use lib.ListN.{get_or}
 use Rattle.lines.specs.Cuts.{NumberMeant, Digits}
 use Rattle.record_fields.proofs.Opening.{inside}
 use Rattle.frame.proofs.Limits.{top_tab, top_letter, top_number, top_open, top_closed}
-use borrow.Author.Rules.{rules}
-use Rattle.frame.proofs.former_head_at.Reads as reads
-use Rattle.frame.proofs.former_head_at.Lts as lts
-use Rattle.lines.proofs.byte_at.Reads as byte-at-reads
-use Rattle.lines.proofs.number_at.Reads as number-at-reads
 use Rattle.frame.proofs.former_head_at.Goals as goal
 
 pub returns-then-byte_at-ne9 : goal.returns-then-byte_at-ne9

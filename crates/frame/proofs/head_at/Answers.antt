@@ -1,10 +1,6 @@
 use mathlib.Core.Path.{◌≡◌, sym, ◌∙◌}
 use lib.ListN.{get_or}
 use Rattle.frame.proofs.Limits.{head_end, head_letter, head_open, head_closed}
-use borrow.Author.Rules.{rules}
-use Rattle.frame.proofs.head_at.Reads as reads
-use Rattle.frame.proofs.head_at.Lts as lts
-use Rattle.lines.proofs.byte_at.Reads as byte-at-reads
 use Rattle.frame.proofs.head_at.Goals as goal
 
 pub returns-then-byte_at-ne10 : goal.returns-then-byte_at-ne10

@@ -1,13 +1,11 @@
-use mathlib.Core.Path.{◌≡◌, refl, sym, ap, subst}
-use mathlib.Core.Bool.{Bool}
+use mathlib.Core.Path.{◌≡◌, refl, ap, subst}
 use mathlib.Core.List.{[]}
-use mathlib.Core.Logic.{⊎_elim}
-use Prim.Native.Nat.{ℕ, ◌+◌, ◌-◌, ◌≤◌}
+use Prim.Native.Nat.{ℕ}
 use native.Mathlib.Omega.{arith}
 use borrow.Author.Rules.{rules}
-use lib.ListN.{length, drop, drop_of_length-le}
+use lib.ListN.{drop, drop_of_length-le}
 use Rattle.frame.specs.Edges.{total}
-use Rattle.frame.proofs.Limits.{total_step, Seen, seen_one, seen_none, seen_all}
+use Rattle.frame.proofs.Limits.{Seen, seen_all}
 use Rattle.frame.proofs.zeros_from.Goals as goal
 
 pub loop-i-init : goal.loop-i-init
