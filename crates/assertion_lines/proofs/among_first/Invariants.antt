@@ -13,7 +13,7 @@ use Rattle.assertion_lines.proofs.among_first.Lts as lts
 use Rattle.assertion_lines.proofs.among_first.Given as goal
 
 abbrev pub invariant-loop-i : goal.invariant-loop-i
-invariant-loop-i l =    (l.i ≤ l.n) × (l.hit ≡ any (eqb l.number) (take l.i l.assertions))
+invariant-loop-i l = (l.i ≤ l.n) × (l.hit ≡ any (eqb l.number) (take l.i l.assertions))
 
 abbrev pub decreases-loop-i : goal.decreases-loop-i
-decreases-loop-i l =    l.n - l.i
+decreases-loop-i l = l.n - l.i

@@ -43,8 +43,7 @@ pub add-put-requires : goal.add-put-requires
 add-put-requires c =
     let a = c.args in
     let S = c.requires.0.some in
-    let b = slices a.principals.now a.principal_slots.now a.vars.now a.variable_slots.now S.locals S.local_slots a.assertions.now in
-    (
+    let b = slices a.principals.now a.principal_slots.now a.vars.now a.variable_slots.now S.locals S.local_slots a.assertions.now in (
       record { variables = S.session.store.variables; lies = shared_lie S.session a.l b S.running (a.l.weight + c.grant_weight-extra.result) (omega arith) },
       c.requires.2,
       c.requires.1,

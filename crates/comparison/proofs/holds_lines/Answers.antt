@@ -15,8 +15,7 @@ use Rattle.comparison.proofs.Comparing.{Left, left_start, left_none, Next, next,
 use Rattle.comparison.proofs.holds_lines.Goals as goal
 
 pub loop-at-init : goal.loop-at-init
-loop-at-init c =
-    (
+loop-at-init c = (
   (left_start c.args.second.now c.requires.0.fields c.requires.2.fields c.requires.2.held).stand.here.within,
   λ fs gs h k. left_start c.args.second.now fs gs k,
 )
@@ -62,8 +61,7 @@ pub holds_line-requires : goal.holds_line-requires
 holds_line-requires c =
     let chosen : (fs gs : List Field) → HoldsRecord fs c.args.first.now → HoldsRecord gs c.args.second.now → Next c.args.second.now fs gs c.loop-at.at = λ fs gs h k. next c.args.second.now fs gs c.loop-at.at (c.loop-at.invariant.1 fs gs h k) c.loop-at-test.true in
     let ended : (fs gs : List Field) (h : HoldsRecord fs c.args.first.now) (k : HoldsRecord gs c.args.second.now) → let N = chosen fs gs h k in EndsOf c.args.second.now c.loop-at.at N.field (rest_of c.args.second.now fs gs c.loop-at.at N) c.field_ends-ends.result = λ fs gs h k. let N = chosen fs gs h k in
-    c.field_ends-ends.ensures N.field (rest_of c.args.second.now fs gs c.loop-at.at N) (next_at c.args.second.now fs gs c.loop-at.at N) in
-    (
+    c.field_ends-ends.ensures N.field (rest_of c.args.second.now fs gs c.loop-at.at N) (next_at c.args.second.now fs gs c.loop-at.at N) in (
       c.requires.0,
       c.requires.1,
       record {
@@ -94,8 +92,7 @@ loop-at-preserved c =
     let ended : (fs gs : List Field) (h : HoldsRecord fs c.args.first.now) (k : HoldsRecord gs c.args.second.now) → let N = chosen fs gs h k in EndsOf c.args.second.now c.loop-at.at N.field (rest_of c.args.second.now fs gs c.loop-at.at N) c.field_ends-ends.result = λ fs gs h k. let N = chosen fs gs h k in
     c.field_ends-ends.ensures N.field (rest_of c.args.second.now fs gs c.loop-at.at N) (next_at c.args.second.now fs gs c.loop-at.at N) in
     let bounds : (c.loop-at.at < c.field_ends-ends.result.text + 1) × (c.field_ends-ends.result.text + 1 ≤ length c.args.second.now) = let e = ended c.requires.0.fields c.requires.2.fields c.requires.0.held c.requires.2.held in (omega (arith, e.label_end, e.text_end), e.within) in
-    let told : (fs gs : List Field) (h : HoldsRecord fs c.args.first.now) (k : HoldsRecord gs c.args.second.now) → c.holds_line.result ≡ any (same_field (chosen fs gs h k).field) fs = λ fs gs h k. c.holds_line.ensures fs _ h (next_line c.args.second.now fs gs c.loop-at.at (chosen fs gs h k) _ (ended fs gs h k)) in
-    (
+    let told : (fs gs : List Field) (h : HoldsRecord fs c.args.first.now) (k : HoldsRecord gs c.args.second.now) → c.holds_line.result ≡ any (same_field (chosen fs gs h k).field) fs = λ fs gs h k. c.holds_line.ensures fs _ h (next_line c.args.second.now fs gs c.loop-at.at (chosen fs gs h k) _ (ended fs gs h k)) in (
       bounds.1,
       λ fs gs h k. passed c.args.second.now fs gs c.loop-at.at (chosen fs gs h k) _ (ended fs gs h k) (sym (told fs gs h k) ∙ not-false _ c.if-not-holds_line.false-raw),
     )

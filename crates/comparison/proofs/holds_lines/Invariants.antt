@@ -13,7 +13,7 @@ use Rattle.comparison.proofs.Comparing.{Left, left_start, left_none, Next, next,
 use Rattle.comparison.proofs.holds_lines.Given as goal
 
 abbrev pub invariant-loop-at : goal.invariant-loop-at
-invariant-loop-at l =    (l.at ≤ length l.second) × ((fs gs : List Field) → HoldsRecord fs l.first → HoldsRecord gs l.second → Left l.second fs gs l.at)
+invariant-loop-at l = (l.at ≤ length l.second) × ((fs gs : List Field) → HoldsRecord fs l.first → HoldsRecord gs l.second → Left l.second fs gs l.at)
 
 abbrev pub decreases-loop-at : goal.decreases-loop-at
-decreases-loop-at l =    length l.second - l.at
+decreases-loop-at l = length l.second - l.at

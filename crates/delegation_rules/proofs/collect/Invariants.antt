@@ -12,7 +12,7 @@ use Rattle.delegation_rules.proofs.Gathering.{gathered, asks, gathered_more, gat
 use Rattle.delegation_rules.proofs.collect.Given as goal
 
 abbrev pub invariant-loop-k : goal.invariant-loop-k
-invariant-loop-k l =    (length l.targets ≡ length l.initial.targets) × (l.n ≤ l.k) × (l.k ≤ l.vars) × ((s : Store) (name : Name) → Counted s l.assertions l.asserted l.principals l.vars → Numbered s name l.q → take l.n l.targets ≡ gathered s name l.k)
+invariant-loop-k l = (length l.targets ≡ length l.initial.targets) × (l.n ≤ l.k) × (l.k ≤ l.vars) × ((s : Store) (name : Name) → Counted s l.assertions l.asserted l.principals l.vars → Numbered s name l.q → take l.n l.targets ≡ gathered s name l.k)
 
 abbrev pub decreases-loop-k : goal.decreases-loop-k
-decreases-loop-k l =    l.vars - l.k
+decreases-loop-k l = l.vars - l.k

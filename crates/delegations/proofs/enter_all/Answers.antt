@@ -139,8 +139,7 @@ loop-i-preserved c =
     let l = c.loop-i in
     subst (λ (r : Entered). Ends r (entered (entered s (assertions_on (take l.i xs) from of to)) (assertion_at xs from of to l.i ∷ []))
     (slices a.principals.now a.principal_slots.now a.vars.now a.variable_slots.now a.locals.now a.local_slots.now c.enter_one-next.new.assertions)) e
-    (c.enter_one-next.ensures _ _ _ (one s xs from of to D)) in
-    (
+    (c.enter_one-next.ensures _ _ _ (one s xs from of to D)) in (
       omega (arith, c.loop-i-test.true),
       c.enter_one-next.auto.assertions ∙ c.loop-i.invariant.1,
       λ s xs from of to D.

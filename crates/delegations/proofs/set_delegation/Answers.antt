@@ -69,8 +69,7 @@ choose-count-requires c =
     let target-of : Target = target_meant c.args.text.now c.args.target in
     let from-of : Name = part c.args.text.now c.args.q in
     let to-of : Name = part c.args.text.now c.args.p in
-    let named : (s : Session) → Running s c.args.l lent → Names s target-of from-of to-of c.asked-k.result = λ s R. let a = c.args in c.asked-k.ensures s a.locals.now a.local_slots.now a.assertions.now R in
-    (
+    let named : (s : Session) → Running s c.args.l lent → Names s target-of from-of to-of c.asked-k.result = λ s R. let a = c.args in c.asked-k.ensures s a.locals.now a.local_slots.now a.assertions.now R in (
       record { session = c.requires.some_running.session; buffers = lent; runs = record { running = c.requires.some_running.running; stood = refl } },
       c.requires.target_within.3,
       aim_few (variables c.requires.some_running.session.store) target-of _

@@ -110,8 +110,7 @@ loop-i-preserved c =
     (withdrawing s.store.assertions (assertions_on (take l.i xs) from of to)) l.k l.assertions c.packed.result (c.variable.result + 1 + c.pair-pair.result) c.pair-pair.result
     (l.invariant.2 s xs from of to D) c.packed.ensures
     (c.pair-pair.ensures (map principal_row s.store.principals) (principals_rows s.store.principals _ _ _ R.principals))
-    (ap (λ (n : ℕ). n + 1 + c.pair-pair.result) (c.variable.ensures (map variable_row s.store.variables) (variables_rows s.store.variables _ _ _ R.variables))) in
-    (
+    (ap (λ (n : ℕ). n + 1 + c.pair-pair.result) (c.variable.ensures (map variable_row s.store.variables) (variables_rows s.store.variables _ _ _ R.variables))) in (
       omega (arith, c.loop-i-test.true),
       c.withdraw_one-k.auto.assertions ∙ c.loop-i.invariant.1,
       λ s xs from of to D.

@@ -16,9 +16,9 @@ use Rattle.delegations.proofs.Delegating.{principal_below, principal_few, right_
 use Rattle.delegations.proofs.withdraw_all.Given as goal
 
 abbrev pub invariant-loop-i : goal.invariant-loop-i
-invariant-loop-i l =    (l.i ≤ l.count) × (length l.assertions ≡ length l.initial.assertions) × ((s : Session) (xs : List Name) (from : Name) (of : Right) (to : Name)
+invariant-loop-i l = (l.i ≤ l.count) × (length l.assertions ≡ length l.initial.assertions) × ((s : Session) (xs : List Name) (from : Name) (of : Right) (to : Name)
     → Delegates s l.initial.k (slices l.principals l.principal_slots l.vars l.variable_slots l.locals l.local_slots l.initial.assertions) l.targets l.count l.q l.right l.p xs from of to
     → Running (withdrawn s (assertions_on (take l.i xs) from of to)) l.k (slices l.principals l.principal_slots l.vars l.variable_slots l.locals l.local_slots l.assertions))
 
 abbrev pub decreases-loop-i : goal.decreases-loop-i
-decreases-loop-i l =    l.count - l.i
+decreases-loop-i l = l.count - l.i

@@ -32,8 +32,7 @@ use Rattle.engine.proofs.perform.Goals as goal
 
 pub loop-c-init : goal.loop-c-init
 loop-c-init c =
-    let a = c.args in
-    (
+    let a = c.args in (
       c.requires.at_in_bounds.0,
       λ s R. starts a.text.now a.output.now a.at R,
       (refl, refl, refl, refl, refl, refl, refl, refl, refl, refl),
@@ -99,8 +98,7 @@ tell-done-requires c =
     (known (ReadFrom c.args.text.now c.loop-c.p) c.read_at-read.ensures c.in-Command.is) is in
     let i = c.loop-c.invariant in
     let S = stage c.requires.some_running.session c.requires.some_running.running in
-    let F = first _ refl in
-    (
+    let F = first _ refl in (
       record {
         step = step S.session F.command;
         session = S.session;
@@ -506,8 +504,7 @@ loop-c-preserved c =
       c.act-acted.auto.labels ∙ i.8,
       c.tell-done.auto.output ∙ i.9,
     ) in
-    let F = first _ c.in-At.is in
-    (
+    let F = first _ c.in-At.is in (
       F.placed.1,
       λ s R. goes_on (stage s R) F (carried s R F (Out.Done c.in-Done.k c.in-Done.m) c.in-Done.is),
       lengths,

@@ -28,7 +28,7 @@ use Rattle.parser.proofs.read_at.Reads as read-at-reads
 use Rattle.engine.proofs.perform.Given as goal
 
 abbrev pub invariant-loop-c : goal.invariant-loop-c
-invariant-loop-c l =    (l.p ≤ length l.text)
+invariant-loop-c l = (l.p ≤ length l.text)
     × ((s : Session) → Running s l.initial.l (slices l.initial.principals l.initial.principal_slots l.initial.vars l.initial.variable_slots l.initial.locals l.initial.local_slots l.initial.assertions)
     → Stage s l.text l.at l.initial.output l.l (slices l.principals l.principal_slots l.vars l.variable_slots l.locals l.local_slots l.assertions) l.p l.n l.lines l.output)
     × ((length l.principals ≡ length l.initial.principals)
@@ -43,4 +43,4 @@ invariant-loop-c l =    (l.p ≤ length l.text)
     × (length l.output ≡ length l.initial.output))
 
 abbrev pub decreases-loop-c : goal.decreases-loop-c
-decreases-loop-c l =    length l.text - l.p
+decreases-loop-c l = length l.text - l.p

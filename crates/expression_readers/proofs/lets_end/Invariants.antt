@@ -12,7 +12,7 @@ use borrow.Author.Rules.{rules}
 use Rattle.expression_readers.proofs.lets_end.Given as goal
 
 abbrev pub invariant-loop-n : goal.invariant-loop-n
-invariant-loop-n l =    (l.at ≤ l.p) × (l.p ≤ length l.text) × (l.pending ≤ l.p) × (past_expression (lex (drop l.at l.text)) ≡ after l.pending (lex (drop l.p l.text)))
+invariant-loop-n l = (l.at ≤ l.p) × (l.p ≤ length l.text) × (l.pending ≤ l.p) × (past_expression (lex (drop l.at l.text)) ≡ after l.pending (lex (drop l.p l.text)))
 
 abbrev pub decreases-loop-n : goal.decreases-loop-n
-decreases-loop-n l =    length l.text - l.p
+decreases-loop-n l = length l.text - l.p

@@ -33,8 +33,7 @@ slice_bounds-add_variable-end c = omega (arith, c.requires.some_turning.y_within
 
 pub add_variable-end-requires : goal.add_variable-end-requires
 add_variable-end-requires c =
-    let y_of : Text = part c.args.text.now c.args.y in
-    (
+    let y_of : Text = part c.args.text.now c.args.y in (
       c.requires.room.scope_small,
       omega (arith, c.requires.room.scope_size_lem, c.requires.some_turning.locals_short, (name_length y_of c.requires.some_turning.y_named).1, text_bound (single c.requires.some_element.0.element) _ c.requires.some_element.0.held, c.requires.some_element.0.light),
       c.requires.some_turning.slots_room,
@@ -61,7 +60,7 @@ answer-r-requires c =
         knows = knows_with c.requires.some_turning.turning c.requires.some_element.0.element;
       };
       fitted = fits c.args.e c.args.shared.now c.args.slots.now c.args.count c.args.scope.now c.add_variable-end.new.buf c.args.local_slots.now c.add_variable-end.new.slots
-            (stack c.args.heads.now c.args.lens.now c.args.counts.now c.args.bounds.now) c.args.number c.add_variable-end.result c.requires.room c.add_variable-end.auto.buf c.add_variable-end.auto.slots ends;
+          (stack c.args.heads.now c.args.lens.now c.args.counts.now c.args.bounds.now) c.args.number c.add_variable-end.result c.requires.room c.add_variable-end.auto.buf c.add_variable-end.auto.slots ends;
       text_len_bound = (c.requires.some_turning.text_short, c.requires.some_element.1);
     }
 

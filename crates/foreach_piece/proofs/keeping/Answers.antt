@@ -34,8 +34,7 @@ overflow_add-result c =
 
 pub returns : goal.returns
 returns c s xs o a t h =
-    let P = c.requires in
-    (
+    let P = c.requires in (
       t.0,
       stays o c.args.out.now a _ _ t.1 (sym (not-false c.is_blank.result c.if-not-is_blank.false-raw) ∙ c.is_blank.ensures t.1.value t.1.held) c.args.element.now h _ _ c.copy_in-end.ensures
           c.weigh-own.result (c.weigh-own.ensures (single a) h) (omega (arith, P.1.light, c.weigh-own.ensures (single P.1.element) P.1.held)),

@@ -15,7 +15,7 @@ use Rattle.functions.proofs.lower_byte.Reads as lower-byte-reads
 use Rattle.functions.proofs.copy_lower.Given as goal
 
 abbrev pub invariant-loop-i : goal.invariant-loop-i
-invariant-loop-i l =    (l.i ≤ length l.src) × (l.out ≡ paste l.initial.out l.at (map lower_byte l.src) l.i) × (length l.out ≡ length l.initial.out)
+invariant-loop-i l = (l.i ≤ length l.src) × (l.out ≡ paste l.initial.out l.at (map lower_byte l.src) l.i) × (length l.out ≡ length l.initial.out)
 
 abbrev pub decreases-loop-i : goal.decreases-loop-i
-decreases-loop-i l =    length l.src - l.i
+decreases-loop-i l = length l.src - l.i

@@ -37,17 +37,17 @@ answer-requires c =
     let a = c.args in record {
       some_start = record { session = c.requires.some_aside.session; expression = c.requires.some_aside.expression; starts = there c.requires.some_aside.session c.requires.some_aside.expression c.requires.some_aside.starts; sends = c.requires.some_aside.sends; knows = tt };
       sized = record {
-          scope_size_lem = omega (arith, c.requires.some_aside.short, c.copy.auto.dst, length-replicate {A = ℕ} 65536 0);
-          scope_small = omega (arith, c.copy.auto.dst, length-replicate {A = ℕ} 65536 0);
-          slots_size = omega (arith, slots_enough c.requires.some_aside.starts, c.requires.some_aside.few, c.copy_slots.auto.dst, length-replicate {A = ℕ} 8192 0);
-          slots_small = omega (arith, c.copy_slots.auto.dst, length-replicate {A = ℕ} 8192 0);
-          deep = record {
-            heads_size = length-replicate {A = ℕ} 4096 0;
-            lens_size = length-replicate {A = ℕ} 4096 0;
-            counts_size = length-replicate {A = ℕ} 4096 0;
-            bounds_size = length-replicate {A = ℕ} 4096 0;
-          };
+        scope_size_lem = omega (arith, c.requires.some_aside.short, c.copy.auto.dst, length-replicate {A = ℕ} 65536 0);
+        scope_small = omega (arith, c.copy.auto.dst, length-replicate {A = ℕ} 65536 0);
+        slots_size = omega (arith, slots_enough c.requires.some_aside.starts, c.requires.some_aside.few, c.copy_slots.auto.dst, length-replicate {A = ℕ} 8192 0);
+        slots_small = omega (arith, c.copy_slots.auto.dst, length-replicate {A = ℕ} 8192 0);
+        deep = record {
+          heads_size = length-replicate {A = ℕ} 4096 0;
+          lens_size = length-replicate {A = ℕ} 4096 0;
+          counts_size = length-replicate {A = ℕ} 4096 0;
+          bounds_size = length-replicate {A = ℕ} 4096 0;
         };
+      };
       text_len_bound = c.requires.text_len_bound;
     }
 

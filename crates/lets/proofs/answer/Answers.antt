@@ -21,20 +21,19 @@ use Rattle.lets.proofs.step.Reads as step-reads
 use Rattle.lets.proofs.answer.Goals as goal
 
 pub loop-further-init : goal.loop-further-init
-loop-further-init c =
-    (
-      c.requires.sized,
-      c.requires.text_len_bound.1,
-      λ s x S W q. start_reached S _ _ q c.requires.text_len_bound.0,
-      refl,
-      refl,
-      refl,
-      refl,
-      refl,
-      refl,
-      refl,
-      refl,
-    )
+loop-further-init c = (
+  c.requires.sized,
+  c.requires.text_len_bound.1,
+  λ s x S W q. start_reached S _ _ q c.requires.text_len_bound.0,
+  refl,
+  refl,
+  refl,
+  refl,
+  refl,
+  refl,
+  refl,
+  refl,
+)
 
 pub step-next-requires : goal.step-next-requires
 step-next-requires c =

@@ -41,8 +41,7 @@ returns c s x b base number R out =
     let placed : LetPlaced c.args.text.now c.args.at.p (LetIs.Found c.in-Found.field-0 c.in-Found.n) = subst (LetPlaced c.args.text.now c.args.at.p) c.in-Found.is c.let_head-head.ensures.placed in
     let P = c.requires in
     let t = c.args.text.now in
-    let w = placed in
-    (
+    let w = placed in (
       restacked _ _ _ _ _ _ _ _ c.push.ensures.0 c.push.ensures.1 c.push.ensures.2 c.push.ensures.3
           (entered R P.no_term (part t c.in-Found.field-0) c.in-Found.n read_head w.2 P.sized.deep),
       w.1,

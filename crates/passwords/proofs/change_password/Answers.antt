@@ -93,8 +93,7 @@ set_password-new-requires c =
     let d : a.password.end - a.password.start ≡ length w = sym (part_length a.text.now a.password.start a.password.end c.requires.within.1.1) in
     (λ i. a.l.weight - old-is s R i + d i)
     ∙ after_weighs s a.l _ R (part a.text.now a.p) w c.number_of-n.result (number_is s R) (below s R) in
-    let a = c.args in
-    (
+    let a = c.args in (
       omega (arith, c.requires.some_running.running.sized.principals_size),
       c.requires.some_running.running.principals_within,
       some_password c.requires.some_running.session a.l _ c.requires.some_running.running (part a.text.now a.p) (part a.text.now a.password) c.number_of-n.result (number_is c.requires.some_running.session c.requires.some_running.running) (below c.requires.some_running.session c.requires.some_running.running)

@@ -11,7 +11,7 @@ use Rattle.prices.proofs.Readings.{digits_step, within_step, within_bound}
 use Rattle.prices.proofs.digits_of.Given as goal
 
 abbrev pub invariant-loop-i : goal.invariant-loop-i
-invariant-loop-i l =    (l.i ≤ length l.text) × Within l.i l.n × (number 0 (keep (between "0" "9") l.text) ≡ number l.n (keep (between "0" "9") (drop l.i l.text)))
+invariant-loop-i l = (l.i ≤ length l.text) × Within l.i l.n × (number 0 (keep (between "0" "9") l.text) ≡ number l.n (keep (between "0" "9") (drop l.i l.text)))
 
 abbrev pub decreases-loop-i : goal.decreases-loop-i
-decreases-loop-i l =    length l.text - l.i
+decreases-loop-i l = length l.text - l.i

@@ -26,4 +26,3 @@ is_text-requires c =
     let amount : ℤ = to_z w64 (of_z w64 c.signed-amount.result) in
     let is_signed : amount ≡ signed c.starts_minus.result c.digits_of-n.result = again c.signed-amount.type_inv ∙ c.signed-amount.ensures in
     omega (arith, ap nat_abs is_signed, signed_small c.starts_minus.result c.digits_of-n.result c.if-n-gt999999999.false)
-

@@ -37,8 +37,7 @@ add-added-requires c =
     let number_is : (s : Session) → let a = c.args in Running s a.l (slices a.principals.now a.principal_slots.now a.vars.now a.variable_slots.now a.locals.now a.local_slots.now a.assertions.now) → c.number_of-n.result ≡ position (principals_of s.store) (part a.text.now a.p) = λ s R. row_number s c.args.l _ R _ c.number_of-n.result c.number_of-n.ensures in
     let is_new : (s : Session) → let a = c.args in Running s a.l (slices a.principals.now a.principal_slots.now a.vars.now a.variable_slots.now a.locals.now a.local_slots.now a.assertions.now) → New s a.l (slices a.principals.now a.principal_slots.now a.vars.now a.variable_slots.now a.locals.now a.local_slots.now a.assertions.now) a.principals.now a.principal_slots.now (part a.text.now a.p) (part a.text.now a.password) = λ s R. let a = c.args in
     create_new s a.l _ R (part a.text.now a.p) (part a.text.now a.password) c.number_of-n.result (number_is s R) c.if-sender-ne0.false c.if-n-count.false c.requires.within.2 in
-    let a = c.args in
-    (
+    let a = c.args in (
       record { session = c.requires.some_running.session; buffers = _; new = is_new c.requires.some_running.session c.requires.some_running.running },
       omega (arith, part_length a.text.now a.p.start a.p.end c.requires.within.0.1, c.requires.within.0.1, c.requires.within.3),
       omega (arith, part_length a.text.now a.password.start a.password.end c.requires.within.1.1, c.requires.within.1.1, c.requires.within.3),
@@ -69,8 +68,7 @@ delegate_rights-given-requires c =
     let now-gives : (s : Session) → let a = c.args in let k : Layout = c.in-Done.k in Running s a.l (slices a.principals.now a.principal_slots.now a.vars.now a.variable_slots.now a.locals.now a.local_slots.now a.assertions.now) → Gives (with_store s (with_principal s.store (part a.text.now a.p) (part a.text.now a.password))) k (slices c.add-added.new.principals c.add-added.new.principal_slots a.vars.now a.variable_slots.now a.locals.now a.local_slots.now a.assertions.now) k.delegator a.l.principals s.store.delegator (part a.text.now a.p) = λ s R. let a = c.args in
     create_gives s a.l _ R (part a.text.now a.p) (part a.text.now a.password) c.number_of-n.result (number_is s R) c.if-sender-ne0.false c.if-n-count.false
     c.in-Done.k _ (added-ends s R _ c.in-Done.is) in
-    let a = c.args in
-    (
+    let a = c.args in (
       record {
         session = with_store c.requires.some_running.session (with_principal c.requires.some_running.session.store (part a.text.now a.p) (part a.text.now a.password));
         from = c.requires.some_running.session.store.delegator;

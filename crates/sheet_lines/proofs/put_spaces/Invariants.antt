@@ -10,7 +10,7 @@ use Rattle.sheet_lines.proofs.Columns.{spaced}
 use Rattle.sheet_lines.proofs.put_spaces.Given as goal
 
 abbrev pub invariant-loop-i : goal.invariant-loop-i
-invariant-loop-i l =    (l.i ≤ l.n) × Written l.initial.out l.at (replicate l.i space) l.p l.out
+invariant-loop-i l = (l.i ≤ l.n) × Written l.initial.out l.at (replicate l.i space) l.p l.out
 
 abbrev pub decreases-loop-i : goal.decreases-loop-i
-decreases-loop-i l =    l.n - l.i
+decreases-loop-i l = l.n - l.i

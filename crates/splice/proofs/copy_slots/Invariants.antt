@@ -12,7 +12,7 @@ use Rattle.splice.proofs.copy_slots.Lts as lts
 use Rattle.splice.proofs.copy_slots.Given as goal
 
 abbrev pub invariant-loop-k : goal.invariant-loop-k
-invariant-loop-k l =    (l.k ≤ length l.src) × (l.dst ≡ paste l.initial.dst l.at l.src l.k) × (length l.dst ≡ length l.initial.dst)
+invariant-loop-k l = (l.k ≤ length l.src) × (l.dst ≡ paste l.initial.dst l.at l.src l.k) × (length l.dst ≡ length l.initial.dst)
 
 abbrev pub decreases-loop-k : goal.decreases-loop-k
-decreases-loop-k l =    length l.src - l.k
+decreases-loop-k l = length l.src - l.k

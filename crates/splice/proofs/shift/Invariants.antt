@@ -10,7 +10,7 @@ use Rattle.splice.proofs.Splicing.{doing, doing_start, doing_at, doing_more}
 use Rattle.splice.proofs.shift.Given as goal
 
 abbrev pub invariant-loop-i : goal.invariant-loop-i
-invariant-loop-i l =    (l.from ≤ l.i) × (l.i ≤ l.to) × (l.slots ≡ doing (λ x. x + l.new - l.old) l.initial.slots l.from l.i) × (length l.slots ≡ length l.initial.slots)
+invariant-loop-i l = (l.from ≤ l.i) × (l.i ≤ l.to) × (l.slots ≡ doing (λ x. x + l.new - l.old) l.initial.slots l.from l.i) × (length l.slots ≡ length l.initial.slots)
 
 abbrev pub decreases-loop-i : goal.decreases-loop-i
-decreases-loop-i l =    l.to - l.i
+decreases-loop-i l = l.to - l.i

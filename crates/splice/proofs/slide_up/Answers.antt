@@ -39,8 +39,7 @@ loop-i-preserved c =
     let back : let l = c.loop-i in take (c.block_size-n.result - 0) (drop 0 c.copy.new.dst) ≡ part l.buf (l.i - c.block_size-n.result) l.i = let l = c.loop-i in
     ap (λ (t : Text). take (c.block_size-n.result - 0) (drop 0 t)) c.copy.ensures ∙ through l.block (part l.buf (l.i - c.block_size-n.result) l.i) c.block_size-n.result piece (omega arith) in
     let a = c.args in
-    let l = c.loop-i in
-    (
+    let l = c.loop-i in (
       omega arith,
       omega arith,
       c.copy-in-loop-i.ensures

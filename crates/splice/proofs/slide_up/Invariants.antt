@@ -10,7 +10,7 @@ use Rattle.splice.proofs.Sliding.{over_empty, through, up_more}
 use Rattle.splice.proofs.slide_up.Given as goal
 
 abbrev pub invariant-loop-i : goal.invariant-loop-i
-invariant-loop-i l =    (l.from ≤ l.i) × (l.i ≤ l.len) × (l.buf ≡ over l.initial.buf (l.i + l.gap) (part l.initial.buf l.i l.len)) × (length l.buf ≡ length l.initial.buf) × (length l.block ≡ 256)
+invariant-loop-i l = (l.from ≤ l.i) × (l.i ≤ l.len) × (l.buf ≡ over l.initial.buf (l.i + l.gap) (part l.initial.buf l.i l.len)) × (length l.buf ≡ length l.initial.buf) × (length l.block ≡ 256)
 
 abbrev pub decreases-loop-i : goal.decreases-loop-i
-decreases-loop-i l =    l.i - l.from
+decreases-loop-i l = l.i - l.from

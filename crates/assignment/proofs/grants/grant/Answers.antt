@@ -32,8 +32,7 @@ bounds-assertions-fourth c =
 
 pub returns : goal.returns
 returns c =
-    let room : c.args.n + 4 ≤ length c.args.assertions.now = let q : 0 < c.args.sender = omega (arith, c.if-sender-eq0.false) in c.requires.1 q in
-    (
+    let room : c.args.n + 4 ≤ length c.args.assertions.now = let q : 0 < c.args.sender = omega (arith, c.if-sender-eq0.false) in c.requires.1 q in (
       omega (arith, room),
       some_numbers c.args.assertions.now c.args.n c.args.variable c.args.sender _ _ _ _ c.if-sender-eq0.false room c.granted.ensures
           c.granted-2.ensures c.granted-3.ensures c.granted-4.ensures,

@@ -14,7 +14,7 @@ use Rattle.bring.proofs.rewrite.put_one.Reads as put-one-reads
 use Rattle.bring.proofs.rewrite.put_counted.Given as goal
 
 abbrev pub invariant-loop-i : goal.invariant-loop-i
-invariant-loop-i l =    (l.i ≤ length l.text) × Written l.initial.out l.at (counted (take l.i l.text)) l.p l.out
+invariant-loop-i l = (l.i ≤ length l.text) × Written l.initial.out l.at (counted (take l.i l.text)) l.p l.out
 
 abbrev pub decreases-loop-i : goal.decreases-loop-i
-decreases-loop-i l =    length l.text - l.i
+decreases-loop-i l = length l.text - l.i

@@ -19,7 +19,7 @@ pub returns : goal.returns
 returns c =
     record {
       meant = λ o r.
-      let S = something_read o c.args.value.now r c.if-value-eq0.false in
-      c.string_in.ensures.meant S.value S.held ∙ sym (ap string_in S.is_value);
+          let S = something_read o c.args.value.now r c.if-value-eq0.false in
+          c.string_in.ensures.meant S.value S.held ∙ sym (ap string_in S.is_value);
       placed = c.string_in.ensures.placed;
     }

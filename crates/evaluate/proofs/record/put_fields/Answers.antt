@@ -29,14 +29,13 @@ pub start-d-requires : goal.start-d-requires
 start-d-requires c = c.requires.lent
 
 pub loop-x-init : goal.loop-x-init
-loop-x-init c =
-    (
-      c.requires.some_record.0.within,
-      record { out_size = omega (arith, c.requires.lent.out_size, c.start-d.auto.out); slots_size = c.requires.lent.slots_size },
-      λ s S. going_start s c.args.text.now c.args.at c.start-d.new.out c.args.labels.now c.start-d.result c.requires.some_record.0 c.requires.some_record.1 c.start-d.ensures,
-      refl,
-      refl,
-    )
+loop-x-init c = (
+  c.requires.some_record.0.within,
+  record { out_size = omega (arith, c.requires.lent.out_size, c.start-d.auto.out); slots_size = c.requires.lent.slots_size },
+  λ s S. going_start s c.args.text.now c.args.at c.start-d.new.out c.args.labels.now c.start-d.result c.requires.some_record.0 c.requires.some_record.1 c.start-d.ensures,
+  refl,
+  refl,
+)
 
 pub field_at-field-requires : goal.field_at-field-requires
 field_at-field-requires c = c.loop-x.invariant.0
@@ -119,8 +118,7 @@ loop-x-preserved c =
     subst (λ (q : Added). Extends G.written head.label (string_in (operand_value s head.operand)) q c.add_field-added.new.out c.add_field-added.new.labels) e
     (c.add_field-added.ensures s G.written S G.drafted (label_room s c.args.text.now c.args.at l.p l.out l.labels l.d G head c.in-Found.more c.in-Found.n read_here)) in
     let l = c.loop-x in
-    let w = placed in
-    (
+    let w = placed in (
       w.3,
       record { out_size = omega (arith, l.invariant.1.out_size, c.add_field-added.auto.out); slots_size = omega (arith, l.invariant.1.slots_size, c.add_field-added.auto.labels) },
       λ s S. goes_on s c.args.text.now c.args.at l.p l.out l.labels l.d (l.invariant.2 s S) head c.in-Found.more c.in-Found.n read_here c.add_field-added.new.out

@@ -12,7 +12,7 @@ use Rattle.lets.proofs.frames.is_taken.Reads as is-taken-reads
 use Rattle.lets.proofs.sinking.sink.Given as goal
 
 abbrev pub invariant-loop-d : goal.invariant-loop-d
-invariant-loop-d l =    (s : Session) (frames : List Frame) → AllStanding s frames l.text (texts l.shared l.slots l.count l.scope l.local_slots) l.heads l.lens l.counts l.depth → Sunk s frames l.text (texts l.shared l.slots l.count l.scope l.local_slots) l.heads l.lens l.counts l.d
+invariant-loop-d l = (s : Session) (frames : List Frame) → AllStanding s frames l.text (texts l.shared l.slots l.count l.scope l.local_slots) l.heads l.lens l.counts l.depth → Sunk s frames l.text (texts l.shared l.slots l.count l.scope l.local_slots) l.heads l.lens l.counts l.d
 
 abbrev pub decreases-loop-d : goal.decreases-loop-d
-decreases-loop-d l =    l.d
+decreases-loop-d l = l.d

@@ -44,8 +44,7 @@ overflow_add-i c = omega (arith, c.requires.assertions.within)
 pub loop-i-preserved : goal.loop-i-preserved
 loop-i-preserved c =
     let a = c.args in
-    let l = c.loop-i in
-    (
+    let l = c.loop-i in (
       omega arith,
       λ s N S.
           assertion_written s a.l a.principals.now a.principal_slots.now a.vars.now a.variable_slots.now a.assertions.now N S l.i c.loop-i-test.true a.out.now l.out _ a.at l.p _ (l.invariant.1 s N S)

@@ -12,7 +12,7 @@ use Rattle.saving.proofs.Lines.{assertion_at, assertion_at_lem, assertion_room, 
 use Rattle.saving.proofs.packed.put_all_packed.Given as goal
 
 abbrev pub invariant-loop-i : goal.invariant-loop-i
-invariant-loop-i l =    (l.i ≤ l.l.asserted) × ((s : Store) → Named s l.l l.principals l.principal_slots l.vars l.variable_slots → Standing s l.l.asserted l.assertions → Written l.initial.out l.at (joined assertion_text (take l.i s.assertions)) l.p l.out)
+invariant-loop-i l = (l.i ≤ l.l.asserted) × ((s : Store) → Named s l.l l.principals l.principal_slots l.vars l.variable_slots → Standing s l.l.asserted l.assertions → Written l.initial.out l.at (joined assertion_text (take l.i s.assertions)) l.p l.out)
 
 abbrev pub decreases-loop-i : goal.decreases-loop-i
-decreases-loop-i l =    l.l.asserted - l.i
+decreases-loop-i l = l.l.asserted - l.i

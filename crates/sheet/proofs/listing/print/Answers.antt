@@ -53,11 +53,11 @@ zero_rest-requires c =
     let Lent : Store → Name → Type 0 = λ s x. let a = c.args in SheetTables s x a.names.now a.slots.now a.count a.n a.number a.assertions.now in
     let everyone : List ℕ → List ℕ = λ l. take c.args.count l in
     let marked : (s : Store) (x : Name) → Lent s x → Marked s x (everyone c.mark.new.marks) (everyone c.mark-2.new.marks) (everyone c.mark-3.new.marks) (everyone c.mark-4.new.marks) = λ s x h. record {
-  reads_are = c.mark.ensures s read x h.is_valid h.standing (asks_all h read _ refl);
-  writes_are = c.mark-2.ensures s write x h.is_valid h.standing (asks_all h write _ refl);
-  appends_are = c.mark-3.ensures s append x h.is_valid h.standing (asks_all h append _ refl);
-  delegates_are = c.mark-4.ensures s delegate x h.is_valid h.standing (asks_all h delegate _ refl);
-} in
+      reads_are = c.mark.ensures s read x h.is_valid h.standing (asks_all h read _ refl);
+      writes_are = c.mark-2.ensures s write x h.is_valid h.standing (asks_all h write _ refl);
+      appends_are = c.mark-3.ensures s append x h.is_valid h.standing (asks_all h append _ refl);
+      delegates_are = c.mark-4.ensures s delegate x h.is_valid h.standing (asks_all h delegate _ refl);
+    } in
     let P = c.requires in
     let w = c.put_sheet-bytes.ensures P.state P.name P.tables.principals (marked P.state P.name P.tables) in
     omega (arith, w.fits, written_length w)
@@ -67,10 +67,10 @@ returns c s x h =
     let Lent : Store → Name → Type 0 = λ s x. let a = c.args in SheetTables s x a.names.now a.slots.now a.count a.n a.number a.assertions.now in
     let everyone : List ℕ → List ℕ = λ l. take c.args.count l in
     let marked : (s : Store) (x : Name) → Lent s x → Marked s x (everyone c.mark.new.marks) (everyone c.mark-2.new.marks) (everyone c.mark-3.new.marks) (everyone c.mark-4.new.marks) = λ s x h. record {
-  reads_are = c.mark.ensures s read x h.is_valid h.standing (asks_all h read _ refl);
-  writes_are = c.mark-2.ensures s write x h.is_valid h.standing (asks_all h write _ refl);
-  appends_are = c.mark-3.ensures s append x h.is_valid h.standing (asks_all h append _ refl);
-  delegates_are = c.mark-4.ensures s delegate x h.is_valid h.standing (asks_all h delegate _ refl);
-} in
+      reads_are = c.mark.ensures s read x h.is_valid h.standing (asks_all h read _ refl);
+      writes_are = c.mark-2.ensures s write x h.is_valid h.standing (asks_all h write _ refl);
+      appends_are = c.mark-3.ensures s append x h.is_valid h.standing (asks_all h append _ refl);
+      delegates_are = c.mark-4.ensures s delegate x h.is_valid h.standing (asks_all h delegate _ refl);
+    } in
     let w = c.put_sheet-bytes.ensures s x h.principals (marked s x h) in
     printed c.requires.size w c.zero_rest.ensures

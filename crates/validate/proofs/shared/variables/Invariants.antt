@@ -27,7 +27,7 @@ use Rattle.validate.proofs.shared.goes_on.Reads as goes-on-reads
 use Rattle.validate.proofs.shared.variables.Given as goal
 
 abbrev pub invariant-loop-at : goal.invariant-loop-at
-invariant-loop-at l =    (length l.slots ≡ length l.initial.slots) × (l.now ≤ 8192) × Sharing l.text l.at l.w l.slots l.i l.n l.now
+invariant-loop-at l = (length l.slots ≡ length l.initial.slots) × (l.now ≤ 8192) × Sharing l.text l.at l.w l.slots l.i l.n l.now
 
 abbrev pub decreases-loop-at : goal.decreases-loop-at
-decreases-loop-at l =    length l.text - l.i
+decreases-loop-at l = length l.text - l.i
