@@ -21,7 +21,6 @@ use Rattle.language.proofs.Logic.Tests.{both, and, three, and_three}
 use Rattle.text.specs.Parts.{part}
 use Rattle.lines.proofs.Cuts.{only, wider}
 use Rattle.assertion.specs.Packed.{pack}
-use Rattle.store.specs.Rows as Store
 use Rattle.named_rights.specs.Numbers.{code}
 use Rattle.record_fields.specs.Sections.{Fails, light_one, any_text}
 use Rattle.record_fields.proofs.Opening.{twice, tail_of, byte_here, next_here, part_length}

@@ -11,7 +11,6 @@ use lib.Dec.{T, T_not, ltb, lt→ltb}
 use lib.ListN.{length}
 use Rattle.language.specs.Text.{Text, when◌then◌else◌, ◌≟◌, ◌>>=◌, all, each, member, distinct}
 use Rattle.language.specs.Tokens.{Token}
-use Rattle.language.specs.Syntax as Syntax
 use Rattle.language.specs.Syntax.{Name, Binding}
 use Rattle.language.specs.State.{labels, Field, fields, Value, single}
 use Rattle.language.specs.Values.{Session, as_string, operand_value, field_value, record_value}

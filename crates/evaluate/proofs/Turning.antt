@@ -106,6 +106,6 @@ module _ (s : Session) (t : Text) (at p : ℕ) (out : Text) (slots : List ℕ) (
         drafted = F.drafted;
         some_field = omega (arith, length-append G.written (record { label = b.label; text = F.text } ∷ []));
         is_value =
-            rest_is ∙ F.goes_on ∙ ap (λ (l : List Binding). finish s now_written (some (l, G.others))) (N.is_last m)
+            rest_is ∙ F.goes_on ∙ ap (λ (l : List Binding). finish s now_written (some (l, G.others))) (N.is_last_lem m)
             ∙ all_read s now_written G.others F.drafted.are_distinct;
       }

@@ -11,7 +11,7 @@ use lib.ListN.{drop}
 use Rattle.language.specs.Text as Options
 use Rattle.language.specs.Text.{Text, all, present}
 use Rattle.language.specs.Tokens.{Token, lex}
-use Rattle.language.specs.Syntax.{Name, Term, Expr, term}
+use Rattle.language.specs.Syntax.{Name, Term, Expr}
 use Rattle.language.specs.Grammar.{the, any_term}
 use Rattle.language.specs.Values.{Session}
 use Rattle.language.specs.Expressions.{term_names}
@@ -19,7 +19,6 @@ use Rattle.language.proofs.Logic.Tests.{both}
 use Rattle.language.proofs.Parsing.ValidPrograms.{valid_term, valid_expr}
 use Rattle.tokens.proofs.Reading.{no_some}
 use Rattle.syntax.specs.declared.Term as Read
-use Rattle.syntax.specs.declared.Expr as ReadExpr
 use Rattle.syntax.specs.declared.Expr.TheVariants as ExprOf
 use Rattle.syntax.specs.Values.{term_meant, TermWithin, expression_at, expr_meant, SomeTerm, SomeExpr}
 use Rattle.syntax.proofs.Said.{term_there}

@@ -2,7 +2,6 @@ use mathlib.Core.Path.{◌≡◌, refl, sym, ap, subst, ◌∙◌}
 use mathlib.Core.List.{List}
 use Prim.Native.Nat.{ℕ, ◌+◌, ◌-◌, ◌≤◌, ◌<◌}
 use native.Mathlib.Omega.{arith}
-use borrow.Author.Rules.{rules}
 use lib.Dec.{T}
 use lib.ListN.{length, get_or}
 use Rattle.language.specs.Text.{Text, all, member}
@@ -15,11 +14,6 @@ use Rattle.references.specs.Known.{KnownMeant, Member}
 use Rattle.assertion_lines.specs.Assertions.{code_of}
 use Rattle.references.proofs.Members.{member_word, member_light, member_number}
 use Rattle.assertion_lines.proofs.Grants.{assertion_tab, no_variable, no_giver, no_right, no_second_tab, no_taker, assertion_heavy, assertion_good}
-use Rattle.assertion_lines.proofs.assertion_at.Reads as reads
-use Rattle.assertion_lines.proofs.assertion_at.Lts as lts
-use Rattle.lines.proofs.byte_at.Reads as byte-at-reads
-use Rattle.assertion_lines.proofs.right_code.Reads as right-code-reads
-use Rattle.references.proofs.known_at.Reads as known-at-reads
 use Rattle.assertion_lines.proofs.assertion_at.Goals as goal
 
 pub overflow_add-at : goal.overflow_add-at

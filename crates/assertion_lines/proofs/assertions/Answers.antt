@@ -1,8 +1,7 @@
 use mathlib.Core.Path.{◌≡◌, refl, sym, subst, ◌∙◌}
 use mathlib.Core.List.{List}
-use Prim.Native.Nat.{◌-◌, ◌≤◌, ◌<◌}
+use Prim.Native.Nat.{◌≤◌, ◌<◌}
 use native.Mathlib.Omega.{arith}
-use borrow.Author.Rules.{rules}
 use lib.Dec.{T}
 use lib.ListN.{length, get_or, length-set}
 use Rattle.language.specs.Text.{Text, member}
@@ -11,12 +10,7 @@ use Rattle.text.specs.Parts.{part}
 use Rattle.store.specs.Rows.{Row, Rows, row_names}
 use Rattle.assertion_lines.specs.Assertions.{AssertionMeant, Granting}
 use Rattle.references.proofs.Members.{member_name, names_count}
-use Rattle.assertion_lines.proofs.AssertionLists.{Asserting, asserting_start, asserting_low, assertions_good, assertions_stuck, assertion_ahead, assertion_light, assertion_room, assertion_twice, assertions_next}
-use Rattle.assertion_lines.proofs.assertions.Reads as reads
-use Rattle.assertion_lines.proofs.assertions.Lts as lts
-use Rattle.lines.proofs.byte_at.Reads as byte-at-reads
-use Rattle.assertion_lines.proofs.among_first.Reads as among-first-reads
-use Rattle.assertion_lines.proofs.assertion_at.Reads as assertion-at-reads
+use Rattle.assertion_lines.proofs.AssertionLists.{asserting_start, asserting_low, assertions_good, assertions_stuck, assertion_ahead, assertion_light, assertion_room, assertion_twice, assertions_next}
 use Rattle.assertion_lines.proofs.assertions.Goals as goal
 
 pub loop-roll-init : goal.loop-roll-init
@@ -81,7 +75,7 @@ returns-then-among_first c =
     let l = c.loop-roll in
     assertion_twice (row_names prows) (row_names vrows) (pn prows G) (xn vrows W) (fp prows G) (fx vrows W) a.text.now a.at a.w l.assertions l.i l.n l.now (l.invariant.3 prows vrows G W)
     is-a _ _ _ (granting prows vrows G W)
-    (sym c.IsAmong-first.ensures ∙ c.if-among_first.true)
+    (sym c.among_first.ensures ∙ c.if-among_first.true)
 
 pub offset_bounds-assertions-n : goal.offset_bounds-assertions-n
 offset_bounds-assertions-n c =
@@ -206,7 +200,7 @@ loop-roll-preserved c =
       h.1,
       λ prows vrows G W.
           assertions_next (row_names prows) (row_names vrows) (pn prows G) (xn vrows W) (fp prows G) (fx vrows W) a.text.now a.at a.w l.assertions l.i l.n l.now (l.invariant.3 prows vrows G W) is-a _ _ _ (granting prows vrows G W)
-          whole (sym c.IsAmong-first.ensures ∙ c.if-among_first.false),
+          whole (sym c.among_first.ensures ∙ c.if-among_first.false),
     )
 
 pub shape_of-assertions : goal.shape_of-assertions

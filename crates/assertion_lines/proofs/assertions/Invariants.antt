@@ -1,22 +1,10 @@
-use mathlib.Core.Path.{◌≡◌, refl, sym, subst, ◌∙◌}
+use mathlib.Core.Path.{◌≡◌}
 use mathlib.Core.List.{List}
-use Prim.Native.Nat.{◌-◌, ◌≤◌, ◌<◌}
-use native.Mathlib.Omega.{arith}
-use borrow.Author.Rules.{rules}
-use lib.Dec.{T}
-use lib.ListN.{length, get_or, length-set}
-use Rattle.language.specs.Text.{Text, member}
-use Rattle.language.specs.Identifiers.{is_name}
+use Prim.Native.Nat.{◌-◌, ◌≤◌}
+use lib.ListN.{length}
 use Rattle.text.specs.Parts.{part}
 use Rattle.store.specs.Rows.{Row, Rows, row_names}
-use Rattle.assertion_lines.specs.Assertions.{AssertionMeant, Granting}
-use Rattle.references.proofs.Members.{member_name, names_count}
-use Rattle.assertion_lines.proofs.AssertionLists.{Asserting, asserting_start, asserting_low, assertions_good, assertions_stuck, assertion_ahead, assertion_light, assertion_room, assertion_twice, assertions_next}
-use Rattle.assertion_lines.proofs.assertions.Reads as reads
-use Rattle.assertion_lines.proofs.assertions.Lts as lts
-use Rattle.lines.proofs.byte_at.Reads as byte-at-reads
-use Rattle.assertion_lines.proofs.among_first.Reads as among-first-reads
-use Rattle.assertion_lines.proofs.assertion_at.Reads as assertion-at-reads
+use Rattle.assertion_lines.proofs.AssertionLists.{Asserting}
 use Rattle.assertion_lines.proofs.assertions.Given as goal
 
 abbrev pub invariant-loop-roll : goal.invariant-loop-roll

@@ -1,6 +1,4 @@
 use borrow.Author.Tests.{eq-eqb, ne_eqb}
-use Rattle.assertion_lines.proofs.right_code.Reads as reads
-use Rattle.assertion_lines.proofs.right_code.Lts as lts
 use Rattle.assertion_lines.proofs.right_code.Goals as goal
 
 pub returns-then-b-eq114 : goal.returns-then-b-eq114

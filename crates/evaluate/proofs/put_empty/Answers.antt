@@ -6,7 +6,6 @@ use Rattle.language.specs.Outcomes.{gives}
 use mathlib.Core.List.{[]}
 use Rattle.language.specs.State.{list}
 use Rattle.evaluated.proofs.Putting.{value_put}
-use borrow.Author.Rules.{rules}
 use Rattle.evaluate.proofs.put_empty.Goals as goal
 
 pub returns : goal.returns

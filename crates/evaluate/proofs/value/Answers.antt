@@ -8,15 +8,6 @@ use Rattle.language.specs.Expressions.{term_value}
 use Rattle.syntax.proofs.Said.{single_meant, empty_meant, record_meant, lower_meant, call_meant, compare_meant, single_safe, record_safe, lower_safe, call_safe, compare_safe}
 use Rattle.evaluated.specs.Results.{Valued}
 use Rattle.evaluated.specs.declared.Evaluated.{Evaluated}
-use borrow.Author.Rules.{rules}
-use Rattle.evaluate.proofs.value.Reads as reads
-use Rattle.evaluate.proofs.value.Lts as lts
-use Rattle.evaluate.proofs.call.put_call.Reads as put-call-reads
-use Rattle.evaluate.proofs.call.put_lower.Reads as put-lower-reads
-use Rattle.evaluate.proofs.compare.put_comparison.Reads as put-comparison-reads
-use Rattle.evaluate.proofs.operand.put_operand.Reads as put-operand-reads
-use Rattle.evaluate.proofs.put_empty.Reads as put-empty-reads
-use Rattle.evaluate.proofs.record.put_fields.Reads as put-fields-reads
 use Rattle.evaluate.proofs.value.Goals as goal
 
 -- the same term, by another name

@@ -4,11 +4,6 @@ use Rattle.syntax.specs.Values.{expr_meant, SomeExpr}
 use Rattle.syntax.proofs.Said.{term_of, term_said}
 use Rattle.permits.specs.Knowledge.{terms}
 use Rattle.expression_rights.specs.Finding.{Finds}
-use borrow.Author.Rules.{rules}
-use Rattle.expression_rights.proofs.known.Reads as reads
-use Rattle.expression_rights.proofs.known.Lts as lts
-use Rattle.expression_rights.proofs.lets_known.Reads as lets-known-reads
-use Rattle.expression_rights.proofs.term_known.Reads as term-known-reads
 use Rattle.expression_rights.proofs.known.Goals as goal
 
 pub term_known-requires : goal.term_known-requires

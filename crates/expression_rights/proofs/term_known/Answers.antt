@@ -3,10 +3,6 @@ use mathlib.Core.Bool.{not}
 use mathlib.Core.List.{[]}
 use Rattle.language.specs.Expressions.{term_names}
 use Rattle.permits.proofs.Readers.{none_unread}
-use borrow.Author.Rules.{rules}
-use Rattle.expression_rights.proofs.term_known.Reads as reads
-use Rattle.expression_rights.proofs.term_known.Lts as lts
-use Rattle.permits.proofs.readable.Reads as readable-reads
 use Rattle.expression_rights.proofs.term_known.Goals as goal
 
 pub returns-then-readable : goal.returns-then-readable

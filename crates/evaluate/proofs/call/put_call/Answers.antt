@@ -9,12 +9,6 @@ use Rattle.syntax.specs.Values.{operand_meant, function_meant}
 use Rattle.evaluated.specs.Results.{MaybeString, Valued}
 use Rattle.application.specs.Applied.{applied_to}
 use Rattle.evaluate.proofs.Calling.{call_is, source_string}
-use borrow.Author.Rules.{rules}
-use Rattle.evaluate.proofs.call.put_call.Reads as reads
-use Rattle.evaluate.proofs.call.put_call.Lts as lts
-use Rattle.application.proofs.apply.Reads as apply-reads
-use Rattle.evaluate.proofs.source.source.Reads as source-reads
-use Rattle.evaluate.proofs.source.string_in.Reads as string-in-reads
 use Rattle.evaluate.proofs.call.put_call.Goals as goal
 
 pub source-a-requires : goal.source-a-requires

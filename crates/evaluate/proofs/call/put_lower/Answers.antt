@@ -9,12 +9,6 @@ use Rattle.application.specs.Applied.{lowered_to}
 use mathlib.Core.Option.{Option}
 use Rattle.language.specs.Text.{Text}
 use Rattle.evaluate.proofs.Calling.{lower_is, source_string}
-use borrow.Author.Rules.{rules}
-use Rattle.evaluate.proofs.call.put_lower.Reads as reads
-use Rattle.evaluate.proofs.call.put_lower.Lts as lts
-use Rattle.application.proofs.lower.Reads as lower-reads
-use Rattle.evaluate.proofs.source.source.Reads as source-reads
-use Rattle.evaluate.proofs.source.string_in.Reads as string-in-reads
 use Rattle.evaluate.proofs.call.put_lower.Goals as goal
 
 pub string_in-i-requires : goal.string_in-i-requires

@@ -15,19 +15,13 @@ use Rattle.equality.specs.declared.Compared.TheVariants as Is
 use Rattle.equality.specs.Elements.{ElementIn, element_of}
 use Rattle.scopes.specs.Scopes.{SourceOf}
 use Rattle.evaluate.proofs.Comparing.{dot_element}
-use borrow.Author.Rules.{rules}
-use Rattle.evaluate.proofs.compare.element_at.Reads as reads
-use Rattle.evaluate.proofs.compare.element_at.Lts as lts
-use Rattle.equality.proofs.text_found.Reads as text-found-reads
-use Rattle.evaluate.proofs.compare.element_of.Reads as element-of-reads
-use Rattle.evaluate.proofs.operand.field_of.Reads as field-of-reads
 use Rattle.evaluate.proofs.compare.element_at.Goals as goal
 
 pub element_of-requires : goal.element_of-requires
 element_of-requires c =
-    let source-as : (s : Session) {v : Operand} → c.args.v ≡ v → SourceOf s c.args.text.now c.args.v c.args.source.now → SourceOf s c.args.text.now v c.args.source.now = λ s e h. subst (λ (v : Operand). SourceOf s c.args.text.now v c.args.source.now) e h in
+    let source-as : (s : Session) (v : Operand) → c.args.v ≡ v → SourceOf s c.args.text.now c.args.v c.args.source.now → SourceOf s c.args.text.now v c.args.source.now = λ s v e h. subst (λ (v : Operand). SourceOf s c.args.text.now v c.args.source.now) e h in
     let P = c.requires.0 in
-    record { value = lookup P.session (part c.args.text.now c.in-Name.field-0); held = source-as P.session c.in-Name.is P.held }
+    record { value = lookup P.session (part c.args.text.now c.in-Name.field-0); held = source-as P.session _ c.in-Name.is P.held }
 
 pub slice_bounds-field_of-count : goal.slice_bounds-field_of-count
 slice_bounds-field_of-count c =
@@ -46,32 +40,32 @@ slice_bounds-field_of-end c =
 
 pub field_of-found-requires : goal.field_of-found-requires
 field_of-found-requires c =
-    let source-as : (s : Session) {v : Operand} → c.args.v ≡ v → SourceOf s c.args.text.now c.args.v c.args.source.now → SourceOf s c.args.text.now v c.args.source.now = λ s e h. subst (λ (v : Operand). SourceOf s c.args.text.now v c.args.source.now) e h in
+    let source-as : (s : Session) (v : Operand) → c.args.v ≡ v → SourceOf s c.args.text.now c.args.v c.args.source.now → SourceOf s c.args.text.now v c.args.source.now = λ s v e h. subst (λ (v : Operand). SourceOf s c.args.text.now v c.args.source.now) e h in
     let P = c.requires.0 in
-    record { value = lookup P.session (part c.args.text.now c.in-Field.field-0); held = source-as P.session c.in-Field.is P.held }
+    record { value = lookup P.session (part c.args.text.now c.in-Field.field-0); held = source-as P.session _ c.in-Field.is P.held }
 
 pub returns-in-Name : goal.returns-in-Name
 returns-in-Name c s h =
-    let source-as : (s : Session) {v : Operand} → c.args.v ≡ v → SourceOf s c.args.text.now c.args.v c.args.source.now → SourceOf s c.args.text.now v c.args.source.now = λ s e h. subst (λ (v : Operand). SourceOf s c.args.text.now v c.args.source.now) e h in
-    let element-as : (s : Session) (r : Compared) {v : Operand} → c.args.v ≡ v → ElementIn (element_of (operand_value s (operand_meant c.args.text.now v))) c.args.source.now r → ElementIn (element_of (operand_value s (operand_meant c.args.text.now c.args.v))) c.args.source.now r = λ s r e h. subst (λ (v : Operand). ElementIn (element_of (operand_value s (operand_meant c.args.text.now v))) c.args.source.now r) (sym e) h in
-    element-as s c.element_of.result c.in-Name.is (c.element_of.ensures (lookup s (part c.args.text.now c.in-Name.field-0)) (source-as s c.in-Name.is h))
+    let source-as : (s : Session) (v : Operand) → c.args.v ≡ v → SourceOf s c.args.text.now c.args.v c.args.source.now → SourceOf s c.args.text.now v c.args.source.now = λ s v e h. subst (λ (v : Operand). SourceOf s c.args.text.now v c.args.source.now) e h in
+    let element-as : (s : Session) (r : Compared) (v : Operand) → c.args.v ≡ v → ElementIn (element_of (operand_value s (operand_meant c.args.text.now v))) c.args.source.now r → ElementIn (element_of (operand_value s (operand_meant c.args.text.now c.args.v))) c.args.source.now r = λ s r v e h. subst (λ (v : Operand). ElementIn (element_of (operand_value s (operand_meant c.args.text.now v))) c.args.source.now r) (sym e) h in
+    element-as s c.element_of.result _ c.in-Name.is (c.element_of.ensures (lookup s (part c.args.text.now c.in-Name.field-0)) (source-as s _ c.in-Name.is h))
 
 pub returns-in-Field : goal.returns-in-Field
 returns-in-Field c s h =
-    let source-as : (s : Session) {v : Operand} → c.args.v ≡ v → SourceOf s c.args.text.now c.args.v c.args.source.now → SourceOf s c.args.text.now v c.args.source.now = λ s e h. subst (λ (v : Operand). SourceOf s c.args.text.now v c.args.source.now) e h in
-    let element-as : (s : Session) (r : Compared) {v : Operand} → c.args.v ≡ v → ElementIn (element_of (operand_value s (operand_meant c.args.text.now v))) c.args.source.now r → ElementIn (element_of (operand_value s (operand_meant c.args.text.now c.args.v))) c.args.source.now r = λ s r e h. subst (λ (v : Operand). ElementIn (element_of (operand_value s (operand_meant c.args.text.now v))) c.args.source.now r) (sym e) h in
+    let source-as : (s : Session) (v : Operand) → c.args.v ≡ v → SourceOf s c.args.text.now c.args.v c.args.source.now → SourceOf s c.args.text.now v c.args.source.now = λ s v e h. subst (λ (v : Operand). SourceOf s c.args.text.now v c.args.source.now) e h in
+    let element-as : (s : Session) (r : Compared) (v : Operand) → c.args.v ≡ v → ElementIn (element_of (operand_value s (operand_meant c.args.text.now v))) c.args.source.now r → ElementIn (element_of (operand_value s (operand_meant c.args.text.now c.args.v))) c.args.source.now r = λ s r v e h. subst (λ (v : Operand). ElementIn (element_of (operand_value s (operand_meant c.args.text.now v))) c.args.source.now r) (sym e) h in
     let a = c.args in
     let x = part a.text.now c.in-Field.field-0 in
     let y = part a.text.now c.in-Field.y in
-    element-as s c.text_found.result c.in-Field.is
+    element-as s c.text_found.result _ c.in-Field.is
     (subst (ElementIn (element_of (operand_value s (operand_meant a.text.now (Of.Field c.in-Field.field-0 c.in-Field.y)))) a.source.now) (sym c.text_found.ensures)
-    (dot_element s x y a.source.now c.field_of-found.result (c.field_of-found.ensures.meant (lookup s x) (source-as s c.in-Field.is h)) c.field_of-found.ensures.placed))
+    (dot_element s x y a.source.now c.field_of-found.result (c.field_of-found.ensures.meant (lookup s x) (source-as s _ c.in-Field.is h)) c.field_of-found.ensures.placed))
 
 pub returns-in-Quoted : goal.returns-in-Quoted
 returns-in-Quoted c s h =
-    let source-as : (s : Session) {v : Operand} → c.args.v ≡ v → SourceOf s c.args.text.now c.args.v c.args.source.now → SourceOf s c.args.text.now v c.args.source.now = λ s e h. subst (λ (v : Operand). SourceOf s c.args.text.now v c.args.source.now) e h in
-    let element-as : (s : Session) (r : Compared) {v : Operand} → c.args.v ≡ v → ElementIn (element_of (operand_value s (operand_meant c.args.text.now v))) c.args.source.now r → ElementIn (element_of (operand_value s (operand_meant c.args.text.now c.args.v))) c.args.source.now r = λ s r e h. subst (λ (v : Operand). ElementIn (element_of (operand_value s (operand_meant c.args.text.now v))) c.args.source.now r) (sym e) h in
+    let source-as : (s : Session) (v : Operand) → c.args.v ≡ v → SourceOf s c.args.text.now c.args.v c.args.source.now → SourceOf s c.args.text.now v c.args.source.now = λ s v e h. subst (λ (v : Operand). SourceOf s c.args.text.now v c.args.source.now) e h in
+    let element-as : (s : Session) (r : Compared) (v : Operand) → c.args.v ≡ v → ElementIn (element_of (operand_value s (operand_meant c.args.text.now v))) c.args.source.now r → ElementIn (element_of (operand_value s (operand_meant c.args.text.now c.args.v))) c.args.source.now r = λ s r v e h. subst (λ (v : Operand). ElementIn (element_of (operand_value s (operand_meant c.args.text.now v))) c.args.source.now r) (sym e) h in
     let a = c.args in
-    let e = source-as s c.in-Quoted.is h in
-    element-as s (Is.Text c.in-Quoted.q) c.in-Quoted.is
+    let e = source-as s _ c.in-Quoted.is h in
+    element-as s (Is.Text c.in-Quoted.q) _ c.in-Quoted.is
     (ap (λ (u : Text). some (string (part u c.in-Quoted.q))) (sym e), subst (λ (u : Text). Within u c.in-Quoted.q) (sym e) (subst (OperandWithin a.text.now) c.in-Quoted.is c.requires.1))

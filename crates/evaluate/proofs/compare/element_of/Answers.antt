@@ -5,9 +5,6 @@ use mathlib.Core.Option.{Option}
 use Rattle.language.specs.State.{Element}
 use Rattle.equality.specs.Elements.{ElementIn, element_of}
 use Rattle.evaluate.proofs.Found.{nothing_read, something_read, value_text_lem}
-use Rattle.evaluate.proofs.compare.element_of.Reads as reads
-use Rattle.evaluate.proofs.compare.element_of.Lts as lts
-use Rattle.equality.proofs.element_in.Reads as element-in-reads
 use Rattle.evaluate.proofs.compare.element_of.Goals as goal
 
 pub returns-then-value-eq0 : goal.returns-then-value-eq0

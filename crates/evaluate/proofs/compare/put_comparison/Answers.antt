@@ -8,12 +8,6 @@ use Rattle.evaluated.specs.Results.{Valued}
 use Rattle.equality.specs.Elements.{element_of}
 use Rattle.language.specs.Values.{operand_value}
 use Rattle.evaluate.proofs.Comparing.{compare_is}
-use borrow.Author.Rules.{rules}
-use Rattle.evaluate.proofs.compare.put_comparison.Reads as reads
-use Rattle.evaluate.proofs.compare.put_comparison.Lts as lts
-use Rattle.equality.proofs.compare.Reads as compare-reads
-use Rattle.evaluate.proofs.compare.element_at.Reads as element-at-reads
-use Rattle.evaluate.proofs.source.source.Reads as source-reads
 use Rattle.evaluate.proofs.compare.put_comparison.Goals as goal
 
 pub source-a-requires : goal.source-a-requires

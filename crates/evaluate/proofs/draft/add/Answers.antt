@@ -10,7 +10,6 @@ use Rattle.language.specs.State.{labels, Field}
 use Rattle.evaluate.specs.Drafts.{Drafted}
 use Rattle.evaluate.proofs.Labels.{slots_part}
 use Rattle.evaluate.proofs.Drafting.{few, label_added, line_added, is_there, is_not_there}
-use borrow.Author.Rules.{rules}
 use Rattle.evaluate.proofs.draft.add.Goals as goal
 
 pub slice_bounds-is_new-end-2 : goal.slice_bounds-is_new-end-2

@@ -8,7 +8,6 @@ use Rattle.values.specs.Answers.{text_at, Placed}
 use Rattle.values.specs.declared.Found.{Found}
 use Rattle.evaluated.specs.Results.{MaybeString}
 use Rattle.evaluate.proofs.Drafting.{part_short, extends_as}
-use borrow.Author.Rules.{rules}
 use Rattle.evaluate.proofs.draft.add_found.Goals as goal
 
 pub slice_bounds-add-count : goal.slice_bounds-add-count

@@ -2,7 +2,6 @@
 -- Assumes nothing.
 use mathlib.Core.Path.{sym, ◌∙◌}
 use Rattle.evaluate.proofs.Labels.{row_there, row_missing}
-use borrow.Author.Rules.{rules}
 use Rattle.evaluate.proofs.draft.is_new.Goals as goal
 
 pub returns-in-At : goal.returns-in-At

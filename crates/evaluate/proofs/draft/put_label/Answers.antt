@@ -1,7 +1,6 @@
 -- `evaluate::draft::put_label` meets its contract. Three pieces in a row.
 -- Assumes nothing.
 use Rattle.value_text.proofs.Pieces.{◌▸◌}
-use borrow.Author.Rules.{rules}
 use Rattle.evaluate.proofs.draft.put_label.Goals as goal
 
 pub returns : goal.returns

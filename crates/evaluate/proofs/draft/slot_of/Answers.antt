@@ -1,9 +1,7 @@
 -- `evaluate::draft::slot_of` meets its contract. A hash fits 32 bits.
 -- Assumes nothing.
 use native.Mathlib.Omega.{arith}
-use Rattle.store.specs.Held.{hash}
 use Rattle.store.proofs.Hashes.{hash_small}
-use borrow.Author.Rules.{rules}
 use Rattle.evaluate.proofs.draft.slot_of.Goals as goal
 
 pub overflow_mul-result : goal.overflow_mul-result

@@ -1,7 +1,6 @@
 -- `evaluate::draft::start` meets its contract. The record's first line, and no rows.
 -- Assumes nothing.
 use Rattle.evaluate.proofs.Drafting.{first_line}
-use borrow.Author.Rules.{rules}
 use Rattle.evaluate.proofs.draft.start.Goals as goal
 
 pub returns : goal.returns

@@ -7,7 +7,6 @@ use Rattle.values.specs.Answers.{text_at, Placed}
 use Rattle.values.specs.declared.Found.{Found}
 use Rattle.evaluated.specs.Weighed.{by_weight}
 use Rattle.evaluated.specs.Results.{MaybeString, Valued, string_value}
-use borrow.Author.Rules.{rules}
 use Rattle.evaluate.proofs.operand.put_found.Goals as goal
 
 pub slice_bounds-put_text-count : goal.slice_bounds-put_text-count

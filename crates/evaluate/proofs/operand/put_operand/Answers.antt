@@ -15,7 +15,6 @@ use Rattle.scopes.specs.Scopes.{Scope, ReadAs}
 use Rattle.evaluated.specs.Weighed.{by_weight}
 use Rattle.evaluated.specs.Results.{MaybeString, Valued, string_value}
 use Rattle.evaluate.proofs.Found.{read_name, field_read, dot_value, valued_as}
-use borrow.Author.Rules.{rules}
 use Rattle.evaluate.proofs.operand.put_operand.Goals as goal
 
 pub slice_bounds-read-count : goal.slice_bounds-read-count

@@ -3,7 +3,6 @@
 use Rattle.language.specs.State.{string, single}
 use Rattle.evaluated.proofs.Weighing.{weighed_heavy}
 use Rattle.evaluated.proofs.Putting.{string_put}
-use borrow.Author.Rules.{rules}
 use Rattle.evaluate.proofs.operand.put_text.Goals as goal
 
 pub returns-then-weight-gt8192 : goal.returns-then-weight-gt8192

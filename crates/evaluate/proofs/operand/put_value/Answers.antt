@@ -7,7 +7,6 @@ use Rattle.evaluated.proofs.Weighing.{light_value, heavy_value}
 use Rattle.evaluate.proofs.Found.{nothing_read, something_read, value_text_lem}
 use Rattle.scopes.proofs.Bounds.{text_bound}
 use Rattle.evaluated.proofs.Putting.{value_put}
-use borrow.Author.Rules.{rules}
 use Rattle.evaluate.proofs.operand.put_value.Goals as goal
 
 pub returns-then-value-eq0 : goal.returns-then-value-eq0

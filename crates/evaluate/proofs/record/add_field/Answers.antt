@@ -5,12 +5,6 @@ use Rattle.text.specs.Meaning.{part}
 use Rattle.evaluated.specs.Results.{MaybeString}
 use Rattle.evaluate.proofs.Calling.{source_string, source_short}
 use Rattle.evaluate.proofs.Drafting.{extends_by}
-use borrow.Author.Rules.{rules}
-use Rattle.evaluate.proofs.record.add_field.Reads as reads
-use Rattle.evaluate.proofs.record.add_field.Lts as lts
-use Rattle.evaluate.proofs.draft.add_found.Reads as add-found-reads
-use Rattle.evaluate.proofs.source.source.Reads as source-reads
-use Rattle.evaluate.proofs.source.string_in.Reads as string-in-reads
 use Rattle.evaluate.proofs.record.add_field.Goals as goal
 
 pub string_in-found-requires : goal.string_in-found-requires

@@ -1,13 +1,10 @@
 -- `evaluate::record::put_fields` meets its contract. The invariant: the fields before p are written, and what the record is worth is what they make with the others, which stand from p on. The measure is what is left of the text.
 -- Assumes nothing.
 use mathlib.Core.Path.{◌≡◌, refl, sym, ap, subst, ◌∙◌}
-use Prim.Native.Nat.{◌-◌, ◌≤◌}
 use native.Mathlib.Omega.{arith}
-use borrow.Author.Rules.{rules}
 use borrow.Author.Tests.{not-true, not-false}
 use mathlib.Core.Option.{Option}
 use mathlib.Core.List.{[]}
-use lib.ListN.{length}
 use Rattle.language.specs.Syntax.{Binding}
 use Rattle.language.specs.State.{Value}
 use Rattle.language.specs.Values.{Session, operand_value}
@@ -18,10 +15,10 @@ use Rattle.tokens.proofs.Reading.{no_some}
 use Rattle.scopes.specs.Scopes.{Scope}
 use Rattle.evaluated.specs.Weighed.{by_weight}
 use Rattle.evaluated.specs.Results.{Valued, string_in}
-use Rattle.evaluate.specs.Drafts.{Lent, Extends}
+use Rattle.evaluate.specs.Drafts.{Extends}
 use Rattle.evaluate.specs.declared.draft.Added.{Added}
 use Rattle.evaluate.specs.declared.draft.Added.TheVariants as AddedIs
-use Rattle.evaluate.proofs.Fieldwise.{finish, Going, whole_record}
+use Rattle.evaluate.proofs.Fieldwise.{finish, whole_record}
 use Rattle.evaluate.proofs.Turning.{going_start, operand_valid, label_room, some_draft, ends, goes_on, is_whole}
 use Rattle.evaluate.proofs.record.put_fields.Goals as goal
 

@@ -10,10 +10,6 @@ use Rattle.syntax.specs.Values.{OperandWithin}
 use Rattle.store.proofs.Holders.{some_variables}
 use Rattle.scopes.specs.Scopes.{SourceOf}
 use Rattle.evaluate.proofs.Found.{read_name}
-use borrow.Author.Rules.{rules}
-use Rattle.evaluate.proofs.source.source.Reads as reads
-use Rattle.evaluate.proofs.source.source.Lts as lts
-use Rattle.contents.proofs.read.Reads as read-reads
 use Rattle.evaluate.proofs.source.source.Goals as goal
 
 pub slice_bounds-read-count : goal.slice_bounds-read-count
@@ -54,17 +50,17 @@ read-requires-in-Field c = let P = c.requires.0 in (some_variables _ _ _ _ P.sco
 
 pub returns-in-Name : goal.returns-in-Name
 returns-in-Name c s S =
-    let source-as : (s : Session) (u : Text) {v : Operand} → c.args.v ≡ v → SourceOf s c.args.text.now v u → SourceOf s c.args.text.now c.args.v u = λ s u e h. subst (λ (v : Operand). SourceOf s c.args.text.now v u) (sym e) h in
-    source-as s c.read.result.now c.in-Name.is
+    let source-as : (s : Session) (u : Text) (v : Operand) → c.args.v ≡ v → SourceOf s c.args.text.now v u → SourceOf s c.args.text.now c.args.v u = λ s u v e h. subst (λ (v : Operand). SourceOf s c.args.text.now v u) (sym e) h in
+    source-as s c.read.result.now _ c.in-Name.is
     (read_name S (part c.args.text.now c.in-Name.x) c.read.result.now (c.read.ensures s.store.variables s.locals S.shared_held S.locals_held))
 
 pub returns-in-Field : goal.returns-in-Field
 returns-in-Field c s S =
-    let source-as : (s : Session) (u : Text) {v : Operand} → c.args.v ≡ v → SourceOf s c.args.text.now v u → SourceOf s c.args.text.now c.args.v u = λ s u e h. subst (λ (v : Operand). SourceOf s c.args.text.now v u) (sym e) h in
-    source-as s c.read-in-Field.result.now c.in-Field.is
+    let source-as : (s : Session) (u : Text) (v : Operand) → c.args.v ≡ v → SourceOf s c.args.text.now v u → SourceOf s c.args.text.now c.args.v u = λ s u v e h. subst (λ (v : Operand). SourceOf s c.args.text.now v u) (sym e) h in
+    source-as s c.read-in-Field.result.now _ c.in-Field.is
     (read_name S (part c.args.text.now c.in-Field.x) c.read-in-Field.result.now (c.read-in-Field.ensures s.store.variables s.locals S.shared_held S.locals_held))
 
 pub returns-in-Quoted : goal.returns-in-Quoted
 returns-in-Quoted c s S =
-    let source-as : (s : Session) (u : Text) {v : Operand} → c.args.v ≡ v → SourceOf s c.args.text.now v u → SourceOf s c.args.text.now c.args.v u = λ s u e h. subst (λ (v : Operand). SourceOf s c.args.text.now v u) (sym e) h in
-    source-as s c.args.text.now c.in-Quoted.is refl
+    let source-as : (s : Session) (u : Text) (v : Operand) → c.args.v ≡ v → SourceOf s c.args.text.now v u → SourceOf s c.args.text.now c.args.v u = λ s u v e h. subst (λ (v : Operand). SourceOf s c.args.text.now v u) (sym e) h in
+    source-as s c.args.text.now _ c.in-Quoted.is refl
