@@ -71,7 +71,7 @@ module _ (s : Session) (l : Layout) (b : Slices) (R : Running s l b) (ks : List 
     assertions = record { within = R.assertions.within; are = R.assertions.are ∙ sym S.assertions };
     delegator = R.delegator ∙ sym S.delegator;
     sender = R.sender ∙ sym S.sender;
-    is-open = R.is-open;
+    is_open = R.is_open;
     weighed = K.weighed;
     light = K.light;
   }

@@ -89,7 +89,7 @@ module _ (t : Text) (slots-p slots_v assertions : List ℕ) (q : Parts) (s : Sto
       assertions = R.assertions;
       delegator = R.delegator;
       sender = k;
-      is-open = R.is-open;
+      is_open = R.is_open;
       weighed = omega (arith, R.weighed);
       light = light;
     }

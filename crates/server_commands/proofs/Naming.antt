@@ -64,7 +64,7 @@ module _ (s : Session) (l : Layout) (b : Slices) (R : Running s l b) where
           assertions = record { within = R.assertions.within; are = R.assertions.are };
           delegator = R.delegator;
           sender = R.sender;
-          is-open = refl;
+          is_open = refl;
           weighed = R.weighed;
           light = R.light;
         };
@@ -120,7 +120,7 @@ module _ (s : Session) (l : Layout) (b : Slices) (R : Running s l b) (p : Name) 
             assertions = record { within = R.assertions.within; are = R.assertions.are };
             delegator = n-is;
             sender = R.sender;
-            is-open = R.is-open;
+            is_open = R.is_open;
             weighed = R.weighed;
             light = R.light;
           };

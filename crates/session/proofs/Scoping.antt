@@ -5,7 +5,7 @@ use lib.Dec.{T}
 use lib.ListN.{length, take, length-map}
 use Rattle.language.specs.Text.{all, member}
 use Rattle.language.specs.Identifiers.{is_name}
-use Rattle.language.specs.State.{Variable, named}
+use Rattle.language.specs.State.{Variable}
 use Rattle.language.specs.Valid.{valid_variable, valid_store, valid_value}
 use Rattle.language.specs.Values.{Session}
 use Rattle.language.proofs.Logic.Tests.{both, and}

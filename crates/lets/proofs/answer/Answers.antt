@@ -1,23 +1,14 @@
-use borrow.Author.Rules.{rules}
 use mathlib.Core.Path.{◌≡◌, refl, subst}
-use Prim.Native.Nat.{◌-◌}
 use native.Mathlib.Omega.{arith}
-use mathlib.Core.Bool.{false}
-use lib.ListN.{length}
 use Rattle.language.specs.Syntax.{Expr}
 use Rattle.language.specs.Values.{Session}
-use Rattle.language.specs.Expressions.{names}
 use Rattle.permits.specs.Permits.{Sends}
 use Rattle.permits.specs.Knowledge.{terms, Knows}
-use Rattle.evaluate.specs.Drafts.{Lent}
-use Rattle.lets.specs.Reaching.{texts, stack, Reached, Sized, Stepped}
+use Rattle.lets.specs.Reaching.{texts, stack, Stepped}
 use Rattle.lets.specs.Giving.{Starts}
 use Rattle.lets.specs.declared.place.Step.{Step}
 use Rattle.lets.specs.declared.place.Step.TheVariants as StepIs
 use Rattle.lets.proofs.Starting.{start_reached, start_kept}
-use Rattle.lets.proofs.answer.Reads as reads
-use Rattle.lets.proofs.answer.Lts as lts
-use Rattle.lets.proofs.step.Reads as step-reads
 use Rattle.lets.proofs.answer.Goals as goal
 
 pub loop-further-init : goal.loop-further-init

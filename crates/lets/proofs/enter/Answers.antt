@@ -8,11 +8,6 @@ use Rattle.expression_readers.specs.Heads.{let_head, let_read_meant, LetPlaced}
 use Rattle.expression_readers.specs.declared.LetRead.TheVariants as LetIs
 use Rattle.lets.proofs.Nesting.{held_count}
 use Rattle.lets.proofs.Stepping.{head_there, deep_enough, entered, restacked}
-use borrow.Author.Rules.{rules}
-use Rattle.lets.proofs.enter.Reads as reads
-use Rattle.lets.proofs.enter.Lts as lts
-use Rattle.expression_readers.proofs.let_head.Reads as let-head-reads
-use Rattle.lets.proofs.frames.push.Reads as push-reads
 use Rattle.lets.proofs.enter.Goals as goal
 
 pub returns-in_default : goal.returns-in_default

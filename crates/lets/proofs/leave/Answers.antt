@@ -1,12 +1,11 @@
-use mathlib.Core.Path.{◌≡◌, sym, subst, ◌∙◌}
-use mathlib.Core.Bool.{false}
+use mathlib.Core.Path.{◌≡◌, sym, subst}
 use Prim.Native.Nat.{ℕ}
 use native.Mathlib.Omega.{arith}
 use lib.ListN.{take}
 use lib.Seq.{length-take-le}
 use Rattle.language.specs.Syntax.{Expr}
 use Rattle.language.specs.Values.{Session}
-use Rattle.language.specs.Expressions.{unbound, term_names, names_within}
+use Rattle.language.specs.Expressions.{term_names}
 use Rattle.permits.specs.Permits.{Sends}
 use Rattle.permits.specs.declared.Known.{Known}
 use Rattle.evaluated.specs.declared.Answered.{Answered}
@@ -17,13 +16,6 @@ use Rattle.lets.specs.Giving.{Given}
 use Rattle.lets.proofs.Passing.{sends_any}
 use Rattle.lets.proofs.Stepping.{TermAt}
 use Rattle.lets.proofs.Leaving.{term_at, step_later, reached_base, reached_standing, inner, outcome, some_term, first_known, leave_denied, leave_fails, leave_sinks, leave_value, leave_given}
-use borrow.Author.Rules.{rules}
-use Rattle.lets.proofs.leave.Reads as reads
-use Rattle.lets.proofs.leave.Lts as lts
-use Rattle.lets.proofs.returned.Reads as returned-reads
-use Rattle.lets.proofs.sinking.sink.Reads as sink-reads
-use Rattle.permits.proofs.behind.Reads as behind-reads
-use Rattle.term_answer.proofs.answer.Reads as answer-reads
 use Rattle.lets.proofs.leave.Goals as goal
 
 pub slice_bounds-answer-end-2 : goal.slice_bounds-answer-end-2

@@ -1,7 +1,6 @@
 use mathlib.Core.Path.{◌≡◌, sym, ap, subst, ◌∙◌}
 use Prim.Native.Nat.{ℕ}
 use Rattle.tokens.specs.Readers.{next_meant, NextPlaced}
-use Rattle.tokens.specs.declared.reader.Next.TheVariants as NextIs
 use Rattle.language.specs.Syntax.{Expr}
 use Rattle.language.specs.Values.{Session}
 use Rattle.lets.specs.Reaching.{Texts, texts, stack, Binds}
@@ -9,12 +8,6 @@ use Rattle.lets.specs.Giving.{Given}
 use Rattle.lets.specs.declared.binding.Bound.{Bound}
 use Rattle.lets.specs.declared.binding.Bound.TheVariants as BoundIs
 use Rattle.lets.proofs.Returning.{given_pushed, given_base, given_standing, given_fails, given_sinks, given_next, in_there}
-use borrow.Author.Rules.{rules}
-use Rattle.lets.proofs.returned.Reads as reads
-use Rattle.lets.proofs.returned.Lts as lts
-use Rattle.lets.proofs.binding.bind.Reads as bind_reads
-use Rattle.lets.proofs.sinking.sink.Reads as sink-reads
-use Rattle.tokens.proofs.reader.expect.Reads as expect-reads
 use Rattle.lets.proofs.returned.Goals as goal
 
 pub bind-b-requires : goal.bind-b-requires

@@ -1,12 +1,6 @@
 use mathlib.Core.Path.{sym, ap, subst, ◌∙◌}
 use Rattle.syntax.specs.Values.{term_read_meant, TermPlaced}
 use Rattle.lets.specs.Reaching.{texts}
-use borrow.Author.Rules.{rules}
-use Rattle.lets.proofs.step.Reads as reads
-use Rattle.lets.proofs.step.Lts as lts
-use Rattle.lets.proofs.enter.Reads as enter-reads
-use Rattle.lets.proofs.leave.Reads as leave-reads
-use Rattle.term_readers.proofs.term_at.Reads as term-at-reads
 use Rattle.lets.proofs.step.Goals as goal
 
 pub leave-requires : goal.leave-requires

@@ -6,7 +6,6 @@ use lib.Seq.{length-take-le}
 use Rattle.splice.specs.Splices.{over}
 use Rattle.state_figures.specs.Tallies.{tally}
 use Rattle.state_figures.proofs.Filling.{says_both}
-use borrow.Author.Rules.{rules}
 use Rattle.state_figures.proofs.figures.Goals as goal
 
 pub returns : goal.returns

@@ -4,7 +4,6 @@ use Prim.Native.Nat.{ℕ}
 use native.Mathlib.Omega.{arith}
 use lib.ListN.{drop, length-set}
 use Rattle.state_figures.proofs.Filling.{six}
-use borrow.Author.Rules.{rules}
 use Rattle.state_figures.proofs.head.Goals as goal
 
 pub bounds-out-1 : goal.bounds-out-1

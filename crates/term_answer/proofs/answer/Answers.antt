@@ -1,12 +1,6 @@
 use mathlib.Core.Path.{◌∙◌}
 use Rattle.language.specs.Expressions.{term_value, term_names}
 use Rattle.term_answer.proofs.Allowed.{tells}
-use borrow.Author.Rules.{rules}
-use Rattle.term_answer.proofs.answer.Reads as reads
-use Rattle.term_answer.proofs.answer.Lts as lts
-use Rattle.evaluate.proofs.value.Reads as value-reads
-use Rattle.term_answer.proofs.may_read.Reads as may-read-reads
-use Rattle.term_answer.proofs.told.Reads as told-reads
 use Rattle.term_answer.proofs.answer.Goals as goal
 
 pub returns-then-not-may_read : goal.returns-then-not-may_read

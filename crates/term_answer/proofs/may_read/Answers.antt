@@ -2,10 +2,6 @@ use mathlib.Core.Path.{subst}
 use Rattle.language.specs.Expressions.{term_names}
 use Rattle.permits.specs.declared.Known.{Known}
 use Rattle.permits.specs.Knowledge.{KnowsFirst}
-use borrow.Author.Rules.{rules}
-use Rattle.term_answer.proofs.may_read.Reads as reads
-use Rattle.term_answer.proofs.may_read.Lts as lts
-use Rattle.permits.proofs.readable.Reads as readable-reads
 use Rattle.term_answer.proofs.may_read.Goals as goal
 
 pub returns-in-All : goal.returns-in-All

@@ -1,8 +1,5 @@
 use mathlib.Core.Path.{sym, ap}
 use Rattle.term_answer.specs.Telling.{answer_of}
-use borrow.Author.Rules.{rules}
-use Rattle.term_answer.proofs.told.Reads as reads
-use Rattle.term_answer.proofs.told.Lts as lts
 use Rattle.term_answer.proofs.told.Goals as goal
 
 -- src/lib.rt:19:1

@@ -4,11 +4,6 @@ use Rattle.language.specs.Encode.{head_text}
 use Rattle.record_fields.specs.Sections.{Reads, any_text}
 use Rattle.frame.specs.Edges.{fine_head, HeadMeant}
 use Rattle.validate.proofs.Heads.{bad_head, headed_body}
-use borrow.Author.Rules.{rules}
-use Rattle.validate.proofs.check.Reads as reads
-use Rattle.validate.proofs.check.Lts as lts
-use Rattle.frame.proofs.head_at.Reads as head-at-reads
-use Rattle.validate.proofs.body.body_at.Reads as body-at-reads
 use Rattle.validate.proofs.check.Goals as goal
 
 pub returns-in_default : goal.returns-in_default

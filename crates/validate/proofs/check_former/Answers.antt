@@ -2,11 +2,6 @@ use mathlib.Core.Path.{subst}
 use native.Mathlib.Omega.{arith}
 use Rattle.frame.specs.Edges.{FormerTop, FormerHeadMeant}
 use Rattle.validate.proofs.Heads.{bad_former_head, headed_former}
-use borrow.Author.Rules.{rules}
-use Rattle.validate.proofs.check_former.Reads as reads
-use Rattle.validate.proofs.check_former.Lts as lts
-use Rattle.frame.proofs.former_head_at.Reads as former-head-at-reads
-use Rattle.validate.proofs.body.body_at.Reads as body-at-reads
 use Rattle.validate.proofs.check_former.Goals as goal
 
 pub returns-in_default : goal.returns-in_default

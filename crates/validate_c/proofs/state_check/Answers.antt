@@ -8,7 +8,6 @@ use Rattle.validate.specs.Checked.{Understood, CheckedMeant}
 use Rattle.validate_c.specs.Reported.{figures}
 use Rattle.state_lookups.specs.Looks.{Look, found, Says}
 use Rattle.validate_c.proofs.Reporting.{no_size, no_room, formed, not_formed, figures_are}
-use borrow.Author.Rules.{rules}
 use Rattle.validate_c.proofs.state_check.Goals as goal
 
 pub returns-then-state-ne65536 : goal.returns-then-state-ne65536

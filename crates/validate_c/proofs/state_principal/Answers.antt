@@ -5,7 +5,6 @@ use Rattle.language.specs.State.{Store}
 use Rattle.validate.specs.Checked.{Understood, CheckedMeant}
 use Rattle.state_lookups.specs.Looks.{Look, principal_of}
 use Rattle.validate_c.proofs.Reporting.{no_size, no_room, formed, not_formed, few_principals, short_principals}
-use borrow.Author.Rules.{rules}
 use Rattle.validate_c.proofs.state_principal.Goals as goal
 
 pub returns-then-state-ne65536 : goal.returns-then-state-ne65536

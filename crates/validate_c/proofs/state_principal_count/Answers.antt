@@ -2,11 +2,6 @@ use mathlib.Core.Path.{subst}
 use native.Mathlib.Omega.{arith}
 use Rattle.validate.specs.Checked.{Understood, CheckedMeant}
 use Rattle.validate_c.proofs.Reporting.{count_refused, count_bad, count_good, decoded_valid}
-use borrow.Author.Rules.{rules}
-use Rattle.validate_c.proofs.state_principal_count.Reads as reads
-use Rattle.validate_c.proofs.state_principal_count.Lts as lts
-use Rattle.state_lookups.proofs.count.Reads as count-reads
-use Rattle.validate.proofs.check.Reads as check-reads
 use Rattle.validate_c.proofs.state_principal_count.Goals as goal
 
 pub returns-then-state-ne65536 : goal.returns-then-state-ne65536

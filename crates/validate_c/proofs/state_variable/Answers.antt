@@ -5,7 +5,6 @@ use Rattle.language.specs.State.{Store}
 use Rattle.validate.specs.Checked.{Understood, CheckedMeant}
 use Rattle.state_lookups.specs.Looks.{Look, variable_of}
 use Rattle.validate_c.proofs.Reporting.{no_size, no_room, formed, not_formed, few_variables, short_variables}
-use borrow.Author.Rules.{rules}
 use Rattle.validate_c.proofs.state_variable.Goals as goal
 
 pub returns-then-state-ne65536 : goal.returns-then-state-ne65536

@@ -10,7 +10,6 @@ use Rattle.store.proofs.Answers.{variable_names_lem}
 use Rattle.named_rights.specs.Numbers.{variables}
 use Rattle.state_lookups.specs.Looks.{Look, Says, name_of}
 use Rattle.validate_c.proofs.Reporting.{no_size, no_room, formed, not_formed, few_variables, variable_rows, short_variables}
-use borrow.Author.Rules.{rules}
 use Rattle.validate_c.proofs.state_variable_name.Goals as goal
 
 pub returns-then-state-ne65536 : goal.returns-then-state-ne65536

@@ -17,14 +17,6 @@ use Rattle.lets.specs.Reaching.{texts, Opened}
 use Rattle.lets.specs.Standing.{Pushed}
 use Rattle.lets.proofs.Nesting.{held_length, held_count}
 use Rattle.lets.proofs.Bindings.{unmoved, binds_taken, binds_heavy, binds_done, total, more, room_there}
-use borrow.Author.Rules.{rules}
-use Rattle.lets.proofs.binding.bind.Reads as reads
-use Rattle.lets.proofs.binding.bind.Lts as lts
-use Rattle.edits.proofs.add.add_variable.Reads as add-variable-reads
-use Rattle.lets.proofs.frames.is_taken.Reads as is-taken-reads
-use Rattle.lets.proofs.frames.large.Reads as large-reads
-use Rattle.lets.proofs.frames.name_of.Reads as name-of-reads
-use Rattle.lets.proofs.frames.small.Reads as small-reads
 use Rattle.lets.proofs.binding.bind.Goals as goal
 
 pub returns-then-is_taken : goal.returns-then-is_taken

@@ -7,13 +7,6 @@ use Rattle.language.specs.Values.{Session, is_defined}
 use Rattle.lets.specs.Frames.{Frame, environment}
 use Rattle.lets.specs.Reaching.{texts, Holding}
 use Rattle.lets.specs.Standing.{Standing}
-use borrow.Author.Rules.{rules}
-use Rattle.lets.proofs.frames.is_taken.Reads as reads
-use Rattle.lets.proofs.frames.is_taken.Lts as lts
-use Rattle.lets.proofs.frames.large.Reads as large-reads
-use Rattle.lets.proofs.frames.name_of.Reads as name-of-reads
-use Rattle.lets.proofs.frames.small.Reads as small-reads
-use Rattle.scopes.proofs.is_defined.Reads as is-defined-reads
 use Rattle.lets.proofs.frames.is_taken.Goals as goal
 
 pub slice_bounds-is_defined-end : goal.slice_bounds-is_defined-end

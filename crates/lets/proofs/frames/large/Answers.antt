@@ -1,7 +1,4 @@
 use native.Mathlib.Omega.{arith}
-use borrow.Author.Rules.{rules}
-use Rattle.lets.proofs.frames.large.Reads as reads
-use Rattle.lets.proofs.frames.large.Lts as lts
 use Rattle.lets.proofs.frames.large.Goals as goal
 
 pub overflow_cast-result : goal.overflow_cast-result

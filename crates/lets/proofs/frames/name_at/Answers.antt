@@ -4,10 +4,6 @@ use Rattle.text.specs.Meaning.{part}
 use Rattle.tokens.proofs.Reading.{no_some}
 use Rattle.expression_readers.specs.Heads.{let_read_meant, LetPlaced}
 use Rattle.lets.proofs.Stepping.{same_here}
-use borrow.Author.Rules.{rules}
-use Rattle.lets.proofs.frames.name_at.Reads as reads
-use Rattle.lets.proofs.frames.name_at.Lts as lts
-use Rattle.expression_readers.proofs.let_head.Reads as let-head-reads
 use Rattle.lets.proofs.frames.name_at.Goals as goal
 
 pub returns-in-Found : goal.returns-in-Found

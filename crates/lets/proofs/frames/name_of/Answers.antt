@@ -3,11 +3,6 @@ use Prim.Native.Nat.{ℕ, ◌≤◌}
 use lib.ListN.{length, drop}
 use Rattle.language.specs.Tokens.{lex}
 use Rattle.expression_readers.specs.Heads.{let_head}
-use borrow.Author.Rules.{rules}
-use Rattle.lets.proofs.frames.name_of.Reads as reads
-use Rattle.lets.proofs.frames.name_of.Lts as lts
-use Rattle.lets.proofs.frames.name_at.Reads as name-at-reads
-use Rattle.lets.proofs.frames.small.Reads as small-reads
 use Rattle.lets.proofs.frames.name_of.Goals as goal
 
 pub name_at-requires : goal.name_at-requires

@@ -1,7 +1,5 @@
 use native.Mathlib.Omega.{arith}
 use borrow.Author.Rules.{rules}
-use Rattle.lets.proofs.frames.small.Reads as reads
-use Rattle.lets.proofs.frames.small.Lts as lts
 use Rattle.lets.proofs.frames.small.Goals as goal
 
 pub overflow_cast-result : goal.overflow_cast-result

@@ -13,14 +13,6 @@ use Rattle.references.specs.Known.{Delegating, DelegatorMeant}
 use Rattle.validate.specs.Shared.{VariablesMeant}
 use Rattle.assertion_lines.specs.Assertions.{Granted, AssertionsMeant}
 use Rattle.validate.proofs.Verdicts.{Principals, Values, bad_principals, rows_of_principals, principals_light, bad_delegator, bad_variables, values_rows, values_light, bad_assertions, bad_behind, all_good}
-use borrow.Author.Rules.{rules}
-use Rattle.validate.proofs.body.body_at.Reads as reads
-use Rattle.validate.proofs.body.body_at.Lts as lts
-use Rattle.assertion_lines.proofs.assertions.Reads as assertions-reads
-use Rattle.frame.proofs.zeros_from.Reads as zeros-from-reads
-use Rattle.principal_lines.proofs.principals.Reads as principals-reads
-use Rattle.references.proofs.delegator_at.Reads as delegator-at-reads
-use Rattle.validate.proofs.shared.variables.Reads as variables-reads
 use Rattle.validate.proofs.body.body_at.Goals as goal
 
 pub principals-roster-requires : goal.principals-roster-requires

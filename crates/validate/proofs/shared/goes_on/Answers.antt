@@ -4,10 +4,6 @@ use lib.Dec.{eqb}
 use borrow.Author.Tests.{eq-eqb, ne_eqb}
 use Rattle.records.proofs.Values.{on_string, on_record, on_field}
 use Rattle.validate.proofs.Vars.{within_on, variable_on}
-use borrow.Author.Rules.{rules}
-use Rattle.validate.proofs.shared.goes_on.Reads as reads
-use Rattle.validate.proofs.shared.goes_on.Lts as lts
-use Rattle.lines.proofs.byte_at.Reads as byte-at-reads
 use Rattle.validate.proofs.shared.goes_on.Goals as goal
 
 pub returns-then-first-eq83 : goal.returns-then-first-eq83
