@@ -20,6 +20,7 @@ use Rattle.session.proofs.Finding.{row_number, number_below, part_length}
 use Rattle.passwords.proofs.Passwords.{password_denied, password_failed, old_weighs, after_weighs, password_full, some_password, password_done}
 use borrow.Author.Rules.{rules}
 use Rattle.passwords.proofs.change_password.Goals as goal
+use Rattle.passwords.proofs.change_password.Goals.{then-sender-ne0+else-sender-n, else-sender-ne0}
 
 pub number_of-n-requires : goal.number_of-n-requires
 number_of-n-requires c = (c.requires.some_running.running.principals_within, some_principals c.requires.some_running.session.store.principals _ _ _ c.requires.some_running.running.principals)
@@ -32,7 +33,7 @@ returns-then-sender-n c s R =
 pub returns-then-n-count : goal.returns-then-n-count
 returns-then-n-count c s R =
     let number_is : (s : Session) → let a = c.args in Running s a.l (slices a.principals.now a.principal_slots.now a.vars.now a.variable_slots.now a.locals.now a.local_slots.now a.assertions.now) → c.number_of-n.result ≡ position (principals_of s.store) (part a.text.now a.p) = λ s R. row_number s c.args.l _ R _ c.number_of-n.result c.number_of-n.ensures in
-    let may : (c.args.l.sender ≡ 0) ⊎ (c.args.l.sender ≡ c.number_of-n.result) = ⊎_elim (λ w. inr w.1.left) (λ w. inl w.left) c.if-sender-ne0.branch in
+    let may : (c.args.l.sender ≡ 0) ⊎ (c.args.l.sender ≡ c.number_of-n.result) = elim c.if-sender-ne0.branch [ then-sender-ne0+else-sender-n w ↦ inr w.if-sender-n.false | else-sender-ne0 w ↦ inl w.if-sender-ne0.false ] in
     password_failed s c.args.l _ R _ _ c.number_of-n.result (number_is s R) may c.if-n-count.true
 
 pub password_weight-old-requires : goal.password_weight-old-requires
@@ -62,7 +63,7 @@ overflow_add-weight c = omega (arith, c.requires.some_running.running.light, c.r
 pub returns-then-weight-gt8192 : goal.returns-then-weight-gt8192
 returns-then-weight-gt8192 c s R =
     let number_is : (s : Session) → let a = c.args in Running s a.l (slices a.principals.now a.principal_slots.now a.vars.now a.variable_slots.now a.locals.now a.local_slots.now a.assertions.now) → c.number_of-n.result ≡ position (principals_of s.store) (part a.text.now a.p) = λ s R. row_number s c.args.l _ R _ c.number_of-n.result c.number_of-n.ensures in
-    let may : (c.args.l.sender ≡ 0) ⊎ (c.args.l.sender ≡ c.number_of-n.result) = ⊎_elim (λ w. inr w.1.left) (λ w. inl w.left) c.if-sender-ne0.branch in
+    let may : (c.args.l.sender ≡ 0) ⊎ (c.args.l.sender ≡ c.number_of-n.result) = elim c.if-sender-ne0.branch [ then-sender-ne0+else-sender-n w ↦ inr w.if-sender-n.false | else-sender-ne0 w ↦ inl w.if-sender-ne0.false ] in
     let below : (s : Session) → let a = c.args in Running s a.l (slices a.principals.now a.principal_slots.now a.vars.now a.variable_slots.now a.locals.now a.local_slots.now a.assertions.now) → c.number_of-n.result < a.l.principals = λ s R. number_below s c.args.l _ R (part c.args.text.now c.args.p) c.number_of-n.result (number_is s R) c.if-n-count.false in
     let old-is : (s : Session) → let a = c.args in Running s a.l (slices a.principals.now a.principal_slots.now a.vars.now a.variable_slots.now a.locals.now a.local_slots.now a.assertions.now) → c.password_weight-old.result ≡ password_weight (principal_at s.store.principals c.number_of-n.result).password = λ s R. c.password_weight-old.ensures s.store.principals R.principals in
     let weight_is : (s : Session) → let a = c.args in let w = part a.text.now a.password in Running s a.l (slices a.principals.now a.principal_slots.now a.vars.now a.variable_slots.now a.locals.now a.local_slots.now a.assertions.now) → a.l.weight - c.password_weight-old.result + (a.password.end - a.password.start) ≡ session_weight (with_store s (with_principals s.store (map (changed (part a.text.now a.p) w) s.store.principals))) = λ s R. let a = c.args in
@@ -103,7 +104,7 @@ set_password-new-requires c =
 pub returns : goal.returns
 returns c s R =
     let number_is : (s : Session) → let a = c.args in Running s a.l (slices a.principals.now a.principal_slots.now a.vars.now a.variable_slots.now a.locals.now a.local_slots.now a.assertions.now) → c.number_of-n.result ≡ position (principals_of s.store) (part a.text.now a.p) = λ s R. row_number s c.args.l _ R _ c.number_of-n.result c.number_of-n.ensures in
-    let may : (c.args.l.sender ≡ 0) ⊎ (c.args.l.sender ≡ c.number_of-n.result) = ⊎_elim (λ w. inr w.1.left) (λ w. inl w.left) c.if-sender-ne0.branch in
+    let may : (c.args.l.sender ≡ 0) ⊎ (c.args.l.sender ≡ c.number_of-n.result) = elim c.if-sender-ne0.branch [ then-sender-ne0+else-sender-n w ↦ inr w.if-sender-n.false | else-sender-ne0 w ↦ inl w.if-sender-ne0.false ] in
     let below : (s : Session) → let a = c.args in Running s a.l (slices a.principals.now a.principal_slots.now a.vars.now a.variable_slots.now a.locals.now a.local_slots.now a.assertions.now) → c.number_of-n.result < a.l.principals = λ s R. number_below s c.args.l _ R (part c.args.text.now c.args.p) c.number_of-n.result (number_is s R) c.if-n-count.false in
     let old-is : (s : Session) → let a = c.args in Running s a.l (slices a.principals.now a.principal_slots.now a.vars.now a.variable_slots.now a.locals.now a.local_slots.now a.assertions.now) → c.password_weight-old.result ≡ password_weight (principal_at s.store.principals c.number_of-n.result).password = λ s R. c.password_weight-old.ensures s.store.principals R.principals in
     let weight_is : (s : Session) → let a = c.args in let w = part a.text.now a.password in Running s a.l (slices a.principals.now a.principal_slots.now a.vars.now a.variable_slots.now a.locals.now a.local_slots.now a.assertions.now) → a.l.weight - c.password_weight-old.result + (a.password.end - a.password.start) ≡ session_weight (with_store s (with_principals s.store (map (changed (part a.text.now a.p) w) s.store.principals))) = λ s R. let a = c.args in

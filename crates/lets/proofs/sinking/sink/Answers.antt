@@ -1,14 +1,6 @@
 use mathlib.Core.Path.{sym, ◌∙◌}
 use native.Mathlib.Omega.{arith}
-use mathlib.Core.List.{List}
-use Rattle.language.specs.Values.{Session}
-use Rattle.lets.specs.Frames.{Frame}
-use Rattle.lets.specs.Reaching.{texts}
-use Rattle.lets.specs.Standing.{AllStanding}
-use Rattle.lets.proofs.Sunken.{Sunk, sunk_start, sunk_top, sunk_here, sunk_on, sunk_through}
-use Rattle.lets.proofs.sinking.sink.Reads as reads
-use Rattle.lets.proofs.sinking.sink.Lts as lts
-use Rattle.lets.proofs.frames.is_taken.Reads as is-taken-reads
+use Rattle.lets.proofs.Sunken.{sunk_start, sunk_top, sunk_here, sunk_on, sunk_through}
 use Rattle.lets.proofs.sinking.sink.Goals as goal
 
 pub loop-d-init : goal.loop-d-init
