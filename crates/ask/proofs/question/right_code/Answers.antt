@@ -14,8 +14,3 @@ returns-in-97 c = rw c.in-97.is
 
 pub returns-in-100 : goal.returns-in-100
 returns-in-100 c = rw c.in-100.is
-
-pub returns-in_default : goal.returns-in_default
-returns-in_default c =
-    let b = c.args.b in
-    rw (ne_eqb b 114 c.in-114.rest.0.0.0.1, ne_eqb b 119 c.in-114.rest.0.0.1, ne_eqb b 97 c.in-114.rest.0.1, ne_eqb b 100 c.in-114.rest.1)
