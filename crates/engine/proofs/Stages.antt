@@ -147,7 +147,7 @@ module _ {s : Session} {t : Text} {at : ℕ} {before : Text} {l : Layout} {b : S
     printed = S.printed ▸ A.printed;
     counted = one_more S F A;
     short =
-        let line : 8 * length A.effect.line ≤ 17 * command_room F.command = inner_short S.session F.command A.effect (not_last (is_ending F.command) F.is_last) A.is_step in
+        let line : 8 * length A.effect.line ≤ 17 * command_room F.command = inner_short S.session F.command A.effect (not_last (is_ending F.command) F.is_last_lem) A.is_step in
         omega (arith, S.short, line, F.placed.0, A.printed.ends);
   }
     where

@@ -282,14 +282,14 @@ returns-in-Refused c s R =
     let stage : (s : Session) → entered s → let l = c.loop-c in Stage s c.args.text.now c.args.at c.args.output.now l.l (slices l.principals l.principal_slots l.vars l.variable_slots l.locals l.local_slots l.assertions) l.p l.n l.lines l.output = λ s R. c.loop-c.invariant.1 s R in
     let left : Slices = slices c.act-acted.new.principals c.act-acted.new.principal_slots c.act-acted.new.vars c.act-acted.new.variable_slots c.act-acted.new.locals c.act-acted.new.local_slots c.act-acted.new.assertions in
     let printed : Text = c.tell-done.new.output in
-    let carried : (s : Session) (R : entered s) {rest : Rest} (F : First c.args.text.now c.loop-c.p c.in-Command.c rest) (r : Outcome) → c.tell-done.result ≡ r → Carried r (step (stage s R).session F.command) left c.loop-c.output c.loop-c.n printed = λ s R F r e. let S = stage s R in
+    let carried : (s : Session) (R : entered s) (rest : Rest) (F : First c.args.text.now c.loop-c.p c.in-Command.c rest) (r : Outcome) → c.tell-done.result ≡ r → Carried r (step (stage s R).session F.command) left c.loop-c.output c.loop-c.n printed = λ s R rest F r e. let S = stage s R in
     known (λ (o : Outcome). Carried o (step S.session F.command) left c.loop-c.output c.loop-c.n printed)
     (c.tell-done.ensures (step S.session F.command) S.session left (c.act-acted.ensures S.session F.command S.running F.meant)) e in
     let refusing : (s : Session) (R : entered s) (how : Refusal) (d : Performed) → step (stage s R).session (first _ refl).command ≡ refused (refusal_meant how) → d ≡ unless_broken (present (rest_from c.args.text.now c.in-Command.rest)) how → Ends d s.sender (end_on s (body_from c.args.text.now c.args.at)) left c.args.output.now printed = λ s R how d k e. let o = end_on s (body_from c.args.text.now c.args.at) in
     known (λ (x : Performed). Ends x s.sender o left c.args.output.now printed)
     (refuses how (present (rest_from c.args.text.now c.in-Command.rest)) s.sender o left c.args.output.now printed
     (stops (stage s R) (first _ refl) (refusal_meant how) k)) (sym e) in
-    refusing s R c.in-Refused.how _ (carried s R (first _ refl) (Out.Refused c.in-Refused.how) c.in-Refused.is) c.refused.ensures
+    refusing s R c.in-Refused.how _ (carried s R _ (first _ refl) (Out.Refused c.in-Refused.how) c.in-Refused.is) c.refused.ensures
 
 pub overflow_add-lines : goal.overflow_add-lines
 overflow_add-lines c =
@@ -298,7 +298,7 @@ overflow_add-lines c =
     let l = c.loop-c in
     let S = stage c.requires.some_running.session c.requires.some_running.running in
     let few : l.lines ≤ l.n = few_lines S in
-    let room : l.n + 28707 ≤ 65536 = has_room S l.inv.0 c.requires.at_in_bounds.1 in
+    let room : l.n + 28707 ≤ 65536 = has_room S l.invariant.0 c.requires.at_in_bounds.1 in
     omega (arith, few, room)
 
 pub shape_of-principals-in_default-rest : goal.shape_of-principals-in_default-rest
@@ -469,11 +469,11 @@ returns-in_default-rest c s R =
     (known (ReadFrom c.args.text.now c.loop-c.p) c.read_at-read.ensures c.in-Command.is) is in
     let left : Slices = slices c.act-acted.new.principals c.act-acted.new.principal_slots c.act-acted.new.vars c.act-acted.new.variable_slots c.act-acted.new.locals c.act-acted.new.local_slots c.act-acted.new.assertions in
     let printed : Text = c.tell-done.new.output in
-    let carried : (s : Session) (R : entered s) {rest : Rest} (F : First c.args.text.now c.loop-c.p c.in-Command.c rest) (r : Outcome) → c.tell-done.result ≡ r → Carried r (step (stage s R).session F.command) left c.loop-c.output c.loop-c.n printed = λ s R F r e. let S = stage s R in
+    let carried : (s : Session) (R : entered s) (rest : Rest) (F : First c.args.text.now c.loop-c.p c.in-Command.c rest) (r : Outcome) → c.tell-done.result ≡ r → Carried r (step (stage s R).session F.command) left c.loop-c.output c.loop-c.n printed = λ s R rest F r e. let S = stage s R in
     known (λ (o : Outcome). Carried o (step S.session F.command) left c.loop-c.output c.loop-c.n printed)
     (c.tell-done.ensures (step S.session F.command) S.session left (c.act-acted.ensures S.session F.command S.running F.meant)) e in
     let F = first _ c.in_default-rest.is in
-    ends (stage s R) F (carried s R F (Out.Done c.in-Done.k c.in-Done.m) c.in-Done.is)
+    ends (stage s R) F (carried s R _ F (Out.Done c.in-Done.k c.in-Done.m) c.in-Done.is)
 
 pub loop-c-smaller : goal.loop-c-smaller
 loop-c-smaller c =
@@ -489,7 +489,7 @@ loop-c-preserved c =
     (known (ReadFrom c.args.text.now c.loop-c.p) c.read_at-read.ensures c.in-Command.is) is in
     let left : Slices = slices c.act-acted.new.principals c.act-acted.new.principal_slots c.act-acted.new.vars c.act-acted.new.variable_slots c.act-acted.new.locals c.act-acted.new.local_slots c.act-acted.new.assertions in
     let printed : Text = c.tell-done.new.output in
-    let carried : (s : Session) (R : entered s) {rest : Rest} (F : First c.args.text.now c.loop-c.p c.in-Command.c rest) (r : Outcome) → c.tell-done.result ≡ r → Carried r (step (stage s R).session F.command) left c.loop-c.output c.loop-c.n printed = λ s R F r e. let S = stage s R in
+    let carried : (s : Session) (R : entered s) (rest : Rest) (F : First c.args.text.now c.loop-c.p c.in-Command.c rest) (r : Outcome) → c.tell-done.result ≡ r → Carried r (step (stage s R).session F.command) left c.loop-c.output c.loop-c.n printed = λ s R rest F r e. let S = stage s R in
     known (λ (o : Outcome). Carried o (step S.session F.command) left c.loop-c.output c.loop-c.n printed)
     (c.tell-done.ensures (step S.session F.command) S.session left (c.act-acted.ensures S.session F.command S.running F.meant)) e in
     let lengths : (length c.act-acted.new.principals ≡ length c.args.principals.now) × (length c.act-acted.new.principal_slots ≡ length c.args.principal_slots.now) × (length c.act-acted.new.vars ≡ length c.args.vars.now) × (length c.act-acted.new.variable_slots ≡ length c.args.variable_slots.now) × (length c.act-acted.new.locals ≡ length c.args.locals.now) × (length c.act-acted.new.local_slots ≡ length c.args.local_slots.now) × (length c.act-acted.new.assertions ≡ length c.args.assertions.now) × (length c.act-acted.new.value ≡ length c.args.value.now) × (length c.act-acted.new.labels ≡ length c.args.labels.now) × (length c.tell-done.new.output ≡ length c.args.output.now) = let i = c.loop-c.invariant.2 in (
@@ -506,6 +506,6 @@ loop-c-preserved c =
     ) in
     let F = first _ c.in-At.is in (
       F.placed.1,
-      λ s R. goes_on (stage s R) F (carried s R F (Out.Done c.in-Done.k c.in-Done.m) c.in-Done.is),
+      λ s R. goes_on (stage s R) F (carried s R _ F (Out.Done c.in-Done.k c.in-Done.m) c.in-Done.is),
       lengths,
     )

@@ -25,7 +25,11 @@ pub act-requires-in-Variable : goal.act-requires-in-Variable
 act-requires-in-Variable c =
     let spoken : (k : Read.Command) → c.args.c ≡ k → SomeCommand c.args.text.now k = λ k e. known (λ (d : Read.Command). SomeCommand c.args.text.now d) c.requires.some_command.0 e in
     let S = spoken (Is.Variable c.in-Variable.v) c.in-Variable.is in
-    (c.requires.some_running, (c.requires.value_len, (S, c.requires.some_command.1)))
+    record {
+      some_running = c.requires.some_running;
+      value_len = c.requires.value_len;
+      some_command = (S, c.requires.some_command.1);
+    }
 
 pub returns-in-Administer : goal.returns-in-Administer
 returns-in-Administer c s k R m = c.act.ensures s k c.args.value.now R (sym (ap (command_meant c.args.text.now) c.in-Administer.is) ∙ m)
