@@ -20,7 +20,11 @@ session-requires c =
     let answered : (u : Known) (r : Admission) → c.admit-admission.result ≡ r → Admits r u.state c.args.program.now = λ u r is. let a = c.args in
     subst (λ (o : Admission). Admits o u.state a.program.now) is (c.admit-admission.ensures a.variable_slots.now a.assertions.now u.state u.represents) in
     let admitted : (u : Known) → let a = c.args in Admitted a.state.now a.principal_slots.now a.variable_slots.now a.assertions.now a.parts a.program.now c.in-Sender.sender c.in-Sender.at = λ u. record { understood = u; sent_by = answered u (Is.Sender c.in-Sender.sender c.in-Sender.at) c.in-Sender.is } in
-    (admitted c.requires.understood, c.requires.1)
+    record {
+      admitted = admitted c.requires.understood;
+      state_len = c.requires.state_len;
+      principal_slots_len = c.requires.principal_slots_len;
+    }
 
 pub returns-in-Refused : goal.returns-in-Refused
 returns-in-Refused c u =
