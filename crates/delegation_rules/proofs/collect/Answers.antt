@@ -36,19 +36,22 @@ overflow_add-k c = omega (arith, c.requires.3)
 pub loop-k-preserved : goal.loop-k-preserved
 loop-k-preserved c =
     let size : length c.if-may.targets ≡ length c.args.targets.now = let l = c.loop-k in
-    elim c.if-may.branch [ then-may w ↦ ap length w.targets-is ∙ length-set l.targets l.n l.k ∙ l.invariant.0
-    | else-may w ↦ ap length w.targets-is ∙ l.invariant.0
+    elim c.if-may.branch [
+      | then-may w ↦ ap length w.targets-is ∙ length-set l.targets l.n l.k ∙ l.invariant.0
+      | else-may w ↦ ap length w.targets-is ∙ l.invariant.0
     ] in
-    let low : c.if-may.n ≤ c.loop-k.k + 1 = elim c.if-may.branch [ then-may w ↦ omega arith
-    | else-may w ↦ omega arith
+    let low : c.if-may.n ≤ c.loop-k.k + 1 = elim c.if-may.branch [
+      | then-may w ↦ omega arith
+      | else-may w ↦ omega arith
     ] in
     let told : (s : Store) (name : Name) → let a = c.args in Counted s a.assertions.now a.asserted a.principals a.vars → Numbered s name a.q → take c.if-may.n c.if-may.targets ≡ gathered s name (c.loop-k.k + 1) = λ s name C N. let a = c.args in
     let l = c.loop-k in
     let h : l.k < a.vars = c.loop-k-test.true in
     let m : l.n < length l.targets = omega (arith, l.invariant.0, l.invariant.1, c.requires.3, c.requires.4) in
     let x = c.may.ensures s delegate (get_or (variables s) l.k []) name C.is_valid C.assertions_held (asks s name a.assertions.now a.asserted a.principals a.vars a.q C N l.k h) in
-    elim c.if-may.branch [ then-may w ↦ (λ i. take (w.n-is i) (w.targets-is i)) ∙ gathered_more s name a.assertions.now a.asserted a.principals a.vars a.q C N l.targets l.n l.k h m (l.invariant.3 s name C N) (sym x ∙ w.if-may.true)
-    | else-may w ↦ (λ i. take (w.n-is i) (w.targets-is i)) ∙ gathered_same s name a.assertions.now a.asserted a.principals a.vars a.q C N l.targets l.n l.k h (l.invariant.3 s name C N) (sym x ∙ w.if-may.false)
+    elim c.if-may.branch [
+      | then-may w ↦ (λ i. take (w.n-is i) (w.targets-is i)) ∙ gathered_more s name a.assertions.now a.asserted a.principals a.vars a.q C N l.targets l.n l.k h m (l.invariant.3 s name C N) (sym x ∙ w.if-may.true)
+      | else-may w ↦ (λ i. take (w.n-is i) (w.targets-is i)) ∙ gathered_same s name a.assertions.now a.asserted a.principals a.vars a.q C N l.targets l.n l.k h (l.invariant.3 s name C N) (sym x ∙ w.if-may.false)
     ] in
     (size, low, omega arith, told)
 
