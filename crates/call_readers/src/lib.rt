@@ -1,180 +1,119 @@
 // Readers of calls: a function or a comparison, and as many values as it takes.
 #![tactic(auto)]
 
-ghost use Rattle.std.specs.Prelude.{◌≡◌, ◌≤◌, ◌∷◌, length, drop};
+ghost use Rattle.std.specs.Prelude.{◌≡◌, ◌∷◌, drop};
 ghost use Rattle.language.specs.Text.{bytes};
 ghost use Rattle.language.specs.Tokens.{lex, sign};
 ghost use Rattle.language.specs.Grammar.{operation_of, function_of, comparison_of, any_call};
 ghost use Rattle.text.specs.Meaning.{part, Within};
-ghost use Rattle.syntax.specs.Values.{term_read_meant, TermPlaced};
-ghost use Rattle.call_readers.specs.Functions.{operation_read_meant, function_read_meant, comparison_read_meant, Made, two_values, comparing, pair_read_meant, PairPlaced};
+ghost use Rattle.tokens.specs.Readers.{found_meant, read_meant, ReadPlaced};
+ghost use Rattle.syntax.specs.Values.{operation_meant, function_meant, comparison_meant, term_read_meant, TermWithin};
+ghost use Rattle.call_readers.specs.Functions.{Made, two_values, comparing, pair_meant, PairWithin};
 
-use syntax::{Comparison, Function, Operand, OperandRead, Operation, Term, TermRead, operand_at};
+use syntax::{Comparison, Function, Operand, Operation, Term, read_operand};
 use text::Span;
-use tokens::reader::Next;
+use tokens::scanner::Scanner;
 
-// The value that `tolower` takes, in parentheses, from the place `at` past the keyword.
-fn lowered(text: &[u8], at: usize) -> TermRead
-    requires { at ≤ length text.now }
-    ensures meant { term_read_meant text.now result ≡ any_call (sign (bytes "tolower") ∷ lex (drop at text.now)) }
-    ensures placed { TermPlaced text.now at result }
+// The value that `tolower` takes, in parentheses.
+fn read_lowered(scanner: &mut Scanner) -> Option<Term>
+    ensures text { scanner.new.text ≡ scanner.old.text }
+    ensures meant { term_read_meant scanner.old.text.now result scanner.new.at ≡ any_call (sign (bytes "tolower") ∷ lex (drop scanner.old.at scanner.old.text.now)) }
+    ensures placed { ReadPlaced TermWithin scanner.old.text.now scanner.old.at result scanner.new.at }
 {
-    let open = tokens::reader::expect(text, at, b"(");
-    let Next::At(a) = open else {
-        return TermRead::No;
-    };
-    let value = operand_at(text, a);
-    let OperandRead::Found(v, b) = value else {
-        return TermRead::No;
-    };
-    let end = tokens::reader::expect(text, b, b")");
-    let Next::At(n) = end else {
-        return TermRead::No;
-    };
-    TermRead::Found(Term::Lower(v), n)
+    scanner.expect(b"(")?;
+    let value = read_operand(scanner)?;
+    scanner.expect(b")")?;
+    Some(Term::Lower(value))
 }
 
-// The two values that a function or a comparison takes, and the place past them.
-#[derive(Clone, Copy)]
-enum PairRead {
-    Found(Operand, Operand, usize),
-    No,
-}
-
-// Two values in parentheses, from the place `at` past the keyword that takes them.
-fn two_values(text: &[u8], at: usize) -> PairRead
-    requires { at ≤ length text.now }
-    ensures meant { (made : Made) → pair_read_meant text.now made result ≡ two_values made (lex (drop at text.now)) }
-    ensures placed { PairPlaced text.now at result }
+// The two values that a function or a comparison takes, in parentheses.
+fn read_pair(scanner: &mut Scanner) -> Option<(Operand, Operand)>
+    ensures text { scanner.new.text ≡ scanner.old.text }
+    ensures meant { (made : Made) → read_meant (pair_meant made) scanner.old.text.now result scanner.new.at ≡ two_values made (lex (drop scanner.old.at scanner.old.text.now)) }
+    ensures placed { ReadPlaced PairWithin scanner.old.text.now scanner.old.at result scanner.new.at }
 {
-    let open = tokens::reader::expect(text, at, b"(");
-    let Next::At(a) = open else {
-        return PairRead::No;
-    };
-    let first = operand_at(text, a);
-    let OperandRead::Found(v, b) = first else {
-        return PairRead::No;
-    };
-    let comma = tokens::reader::expect(text, b, b",");
-    let Next::At(d) = comma else {
-        return PairRead::No;
-    };
-    let second = operand_at(text, d);
-    let OperandRead::Found(w, e) = second else {
-        return PairRead::No;
-    };
-    let close = tokens::reader::expect(text, e, b")");
-    let Next::At(n) = close else {
-        return PairRead::No;
-    };
-    PairRead::Found(v, w, n)
-}
-
-#[derive(Clone, Copy)]
-enum OperationRead {
-    Found(Operation),
-    No,
+    scanner.expect(b"(")?;
+    let first = read_operand(scanner)?;
+    scanner.expect(b",")?;
+    let second = read_operand(scanner)?;
+    scanner.expect(b")")?;
+    Some((first, second))
 }
 
 // The operation on two prices that a keyword names.
-fn operation_of(text: &[u8], word: Span) -> OperationRead
-    requires { Within text.now word }
-    ensures { operation_read_meant result ≡ operation_of (part text.now word) }
+fn operation_of(scanner: &Scanner, word: Span) -> Option<Operation>
+    requires { Within scanner.now.text.now word }
+    ensures { found_meant operation_meant result ≡ operation_of (part scanner.now.text.now word) }
 {
-    if tokens::reader::is_sign(text, word, b"add") {
-        return OperationRead::Found(Operation::Add);
+    if scanner.is(word, b"add") {
+        return Some(Operation::Add);
     }
-    if tokens::reader::is_sign(text, word, b"sub") {
-        return OperationRead::Found(Operation::Sub);
+    if scanner.is(word, b"sub") {
+        return Some(Operation::Sub);
     }
-    if tokens::reader::is_sign(text, word, b"times") {
-        return OperationRead::Found(Operation::Times);
+    if scanner.is(word, b"times") {
+        return Some(Operation::Times);
     }
-    if tokens::reader::is_sign(text, word, b"per") {
-        return OperationRead::Found(Operation::Per);
+    if scanner.is(word, b"per") {
+        return Some(Operation::Per);
     }
-    OperationRead::No
-}
-
-#[derive(Clone, Copy)]
-enum FunctionRead {
-    Found(Function),
-    No,
+    None
 }
 
 // The function of two values that a keyword names.
-fn function_of(text: &[u8], word: Span) -> FunctionRead
-    requires { Within text.now word }
-    ensures { function_read_meant result ≡ function_of (part text.now word) }
+fn function_of(scanner: &Scanner, word: Span) -> Option<Function>
+    requires { Within scanner.now.text.now word }
+    ensures { found_meant function_meant result ≡ function_of (part scanner.now.text.now word) }
 {
-    if tokens::reader::is_sign(text, word, b"split") {
-        return FunctionRead::Found(Function::Split);
+    if scanner.is(word, b"split") {
+        return Some(Function::Split);
     }
-    if tokens::reader::is_sign(text, word, b"concat") {
-        return FunctionRead::Found(Function::Concat);
+    if scanner.is(word, b"concat") {
+        return Some(Function::Concat);
     }
-    let operation = operation_of(text, word);
-    let OperationRead::Found(o) = operation else {
-        return FunctionRead::No;
-    };
-    FunctionRead::Found(Function::Arithmetic(o))
-}
-
-#[derive(Clone, Copy)]
-enum ComparisonRead {
-    Found(Comparison),
-    No,
+    let operation = operation_of(scanner, word)?;
+    Some(Function::Arithmetic(operation))
 }
 
 // The comparison that a keyword names.
-fn comparison_of(text: &[u8], word: Span) -> ComparisonRead
-    requires { Within text.now word }
-    ensures { comparison_read_meant result ≡ comparison_of (part text.now word) }
+fn comparison_of(scanner: &Scanner, word: Span) -> Option<Comparison>
+    requires { Within scanner.now.text.now word }
+    ensures { found_meant comparison_meant result ≡ comparison_of (part scanner.now.text.now word) }
 {
-    if tokens::reader::is_sign(text, word, b"equal") {
-        return ComparisonRead::Found(Comparison::Equal);
+    if scanner.is(word, b"equal") {
+        return Some(Comparison::Equal);
     }
-    if tokens::reader::is_sign(text, word, b"notequal") {
-        return ComparisonRead::Found(Comparison::NotEqual);
+    if scanner.is(word, b"notequal") {
+        return Some(Comparison::NotEqual);
     }
-    ComparisonRead::No
+    None
 }
 
-// The comparison that starts with a keyword, from the place `at` past it.
-fn compared(text: &[u8], word: Span, at: usize) -> TermRead
-    requires at_in_bounds { at ≤ length text.now }
-    requires within { Within text.now word }
-    ensures meant { term_read_meant text.now result ≡ comparing (sign (part text.now word) ∷ lex (drop at text.now)) }
-    ensures placed { TermPlaced text.now at result }
+// The comparison that starts with a keyword, which was read.
+fn read_comparison(scanner: &mut Scanner, word: Span) -> Option<Term>
+    requires { Within scanner.old.text.now word }
+    ensures text { scanner.new.text ≡ scanner.old.text }
+    ensures meant { term_read_meant scanner.old.text.now result scanner.new.at ≡ comparing (sign (part scanner.old.text.now word) ∷ lex (drop scanner.old.at scanner.old.text.now)) }
+    ensures placed { ReadPlaced TermWithin scanner.old.text.now scanner.old.at result scanner.new.at }
 {
-    let comparison = comparison_of(text, word);
-    let ComparisonRead::Found(k) = comparison else {
-        return TermRead::No;
-    };
-    let values = two_values(text, at);
-    let PairRead::Found(v, w, n) = values else {
-        return TermRead::No;
-    };
-    TermRead::Found(Term::Compare(k, v, w), n)
+    let comparison = comparison_of(scanner, word)?;
+    let (first, second) = read_pair(scanner)?;
+    Some(Term::Compare(comparison, first, second))
 }
 
-// The call that starts with a keyword, from the place `at` past it: a function or a comparison, and as many values as it takes.
-pub fn called(text: &[u8], word: Span, at: usize) -> TermRead
-    requires at_in_bounds { at ≤ length text.now }
-    requires within { Within text.now word }
-    ensures meant { term_read_meant text.now result ≡ any_call (sign (part text.now word) ∷ lex (drop at text.now)) }
-    ensures placed { TermPlaced text.now at result }
+// The call that starts with a keyword, which was read: a function or a comparison, and as many values as it takes.
+pub fn read_call(scanner: &mut Scanner, word: Span) -> Option<Term>
+    requires { Within scanner.old.text.now word }
+    ensures text { scanner.new.text ≡ scanner.old.text }
+    ensures meant { term_read_meant scanner.old.text.now result scanner.new.at ≡ any_call (sign (part scanner.old.text.now word) ∷ lex (drop scanner.old.at scanner.old.text.now)) }
+    ensures placed { ReadPlaced TermWithin scanner.old.text.now scanner.old.at result scanner.new.at }
 {
-    if tokens::reader::is_sign(text, word, b"tolower") {
-        return lowered(text, at);
+    if scanner.is(word, b"tolower") {
+        return read_lowered(scanner);
     }
-    let function = function_of(text, word);
-    let FunctionRead::Found(f) = function else {
-        return compared(text, word, at);
+    let Some(function) = function_of(scanner, word) else {
+        return read_comparison(scanner, word);
     };
-    let values = two_values(text, at);
-    let PairRead::Found(v, w, n) = values else {
-        return TermRead::No;
-    };
-    TermRead::Found(Term::Call(f, v, w), n)
+    let (first, second) = read_pair(scanner)?;
+    Some(Term::Call(function, first, second))
 }

@@ -14,28 +14,12 @@ use Rattle.language.specs.Grammar.{Reader, then_read, ◌>>=◌, ◌>>◌, give,
 use Rattle.text.proofs.Words.{same_true}
 use Rattle.tokens.proofs.Reading.{no_some, or_else_none}
 use Rattle.syntax.specs.declared.Term as Read
-use Rattle.syntax.specs.declared.ExprRead.{ExprRead}
-use Rattle.syntax.specs.declared.ExprRead.TheVariants as ExprIs
-use Rattle.syntax.specs.Values.{term_meant, TermWithin, ExprPlaced}
+use Rattle.syntax.specs.Values.{term_meant, TermWithin}
 use Rattle.syntax.proofs.Lets.{expression_step}
 use Rattle.syntax.proofs.Said.{term_there}
 use Rattle.expression_readers.specs.Heads.{let_head}
 
 -- ---- what a `let` starts with
-module _ (ts : List Token) where
-  pub no_let : the "let" ts ≡ none → let_head ts ≡ none
-  no_let e = rw e
-
-  module _ {us : List Token} (e₁ : the "let" ts ≡ some (tt, us)) where
-    pub no_name : any_name us ≡ none → let_head ts ≡ none
-    no_name e₂ = rw (e₁, e₂)
-
-    module _ {x : Name} {vs : List Token} (e₂ : any_name us ≡ some (x, vs)) where
-      pub no_equals : the "=" vs ≡ none → let_head ts ≡ none
-      no_equals e₃ = rw (e₁, e₂, e₃)
-
-      pub head_read : {ws : List Token} → the "=" vs ≡ some (tt, ws) → let_head ts ≡ some (x, ws)
-      head_read e₃ = rw (e₁, e₂, e₃)
 
 -- a reader that starts with `let x =` goes on past that
 head_then : {A : Type 0} (next : Name → Reader A) (ts : List Token) → (do the "let"; x ← any_name; the "="; next x) ts ≡ then_read (let_head ts) next
@@ -163,6 +147,14 @@ term_found t e ts us h q = go (term_meant t e) (term_there t e h) q
     go none p q = absurd (let z : ◌≡◌ {A = ℕ} 0 1 = cc in omega arith)
     go (some x) p q = record { found = x; is = q }
 
+-- what follows the term that was read
+pub past_read :
+    (t : Text) (e : Read.Term) (k : ℕ) (ts us : List Token)
+    → TermWithin t e
+    → any_term ts ≡ Options.◌>>=◌ (term_meant t e) (λ x. some (x, us))
+    → after k ts ≡ still k us
+past_read t e k ts us h q = past_term k ts (term_found t e ts us h q).is
+
 -- the expression that was read is a term
 pub term_read :
     (t : Text) (e : Read.Term) (ts us : List Token)
@@ -196,8 +188,3 @@ end_read (some r) {us} e =
 pub no_end : (o : Option (Expr × List Token)) → ended o ≡ none → o ≡ none
 no_end none e = refl
 no_end (some r) e = no_some (sym e)
-
--- what is past a later place is past an earlier one
-pub expr_later : (t : Text) (at n : ℕ) (r : ExprRead) → at < n → ExprPlaced t n r → ExprPlaced t at r
-expr_later t at n (ExprIs.Found e m) h p = (p.0, omega arith, p.2)
-expr_later t at n ExprIs.No h p = tt

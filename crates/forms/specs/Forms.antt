@@ -1,5 +1,6 @@
 -- What the readers that several commands share mean in the terms of document 01's grammar, and where their parts stand.
-use Rattle.std.specs.Prelude.{ℕ, ◌≤◌, ◌<◌, List, length, drop}
+use Rattle.std.specs.Prelude.{ℕ, List, drop, Some, None}
+use Rattle.std.specs.Prelude as Code
 use Rattle.std.proofs.Math.Option.{Option, none, some}
 use Rattle.language.specs.Text as Options
 use Rattle.language.specs.Text.{Text}
@@ -7,22 +8,14 @@ use Rattle.language.specs.Tokens.{Token, lex}
 use Rattle.language.specs.Syntax as Syntax
 use Rattle.language.specs.Grammar.{Reader, ◌>>=◌, ◌>>◌, give, the_sign, the, any_name, any_string, any_expression, any_target, any_right}
 use Rattle.text.specs.Meaning.{part, Within}
-use Rattle.forms.specs.declared.AccountRead.{AccountRead}
-use Rattle.forms.specs.declared.AccountRead.TheVariants as AccountIs
-use Rattle.forms.specs.declared.AssignRead.{AssignRead}
-use Rattle.forms.specs.declared.AssignRead.TheVariants as AssignIs
-use Rattle.forms.specs.declared.EachRead.{EachRead}
-use Rattle.forms.specs.declared.EachRead.TheVariants as EachIs
+use Rattle.forms.specs.declared.Account.{Account}
+use Rattle.forms.specs.declared.Assign.{Assign}
+use Rattle.forms.specs.declared.Each.{Each}
+use Rattle.forms.specs.declared.Delegation.{Delegation}
 use Rattle.forms.specs.declared.Right.{Right}
 use Rattle.forms.specs.declared.Right.TheVariants as RightIs
-use Rattle.forms.specs.declared.RightRead.{RightRead}
-use Rattle.forms.specs.declared.RightRead.TheVariants as RightReadIs
 use Rattle.forms.specs.declared.Target.{Target}
 use Rattle.forms.specs.declared.Target.TheVariants as TargetIs
-use Rattle.forms.specs.declared.TargetRead.{TargetRead}
-use Rattle.forms.specs.declared.TargetRead.TheVariants as TargetReadIs
-use Rattle.forms.specs.declared.DelegationRead.{DelegationRead}
-use Rattle.forms.specs.declared.DelegationRead.TheVariants as DelegationIs
 use Rattle.syntax.specs.Values.{expr_meant, ExprWithin}
 
 -- ---- rights and targets
@@ -32,13 +25,8 @@ right_meant RightIs.Write = Syntax.write
 right_meant RightIs.Append = Syntax.append
 right_meant RightIs.Delegate = Syntax.delegate
 
-abbrev pub right_read_meant : Text → RightRead → Option (Syntax.Right × List Token)
-right_read_meant t (RightReadIs.Found r n) = some (right_meant r, lex (drop n t))
-right_read_meant t RightReadIs.No = none
-
-abbrev pub RightPlaced : Text → ℕ → RightRead → Type 0
-RightPlaced t at (RightReadIs.Found r n) = (at < n) × (n ≤ length t)
-RightPlaced t at RightReadIs.No = Unit
+abbrev pub right_of : Text → Right → Syntax.Right
+right_of t r = right_meant r
 
 abbrev pub target_meant : Text → Target → Syntax.Target
 target_meant t TargetIs.All = Syntax.every
@@ -48,25 +36,15 @@ abbrev pub TargetWithin : Text → Target → Type 0
 TargetWithin t TargetIs.All = Unit
 TargetWithin t (TargetIs.Only x) = Within t x
 
-abbrev pub target_read_meant : Text → TargetRead → Option (Syntax.Target × List Token)
-target_read_meant t (TargetReadIs.Found x n) = some (target_meant t x, lex (drop n t))
-target_read_meant t TargetReadIs.No = none
-
-abbrev pub TargetPlaced : Text → ℕ → TargetRead → Type 0
-TargetPlaced t at (TargetReadIs.Found x n) = TargetWithin t x × (at < n) × (n ≤ length t)
-TargetPlaced t at TargetReadIs.No = Unit
-
 -- ---- `w p s`, of which k makes a command
 abbrev pub account_form : Text → (Syntax.Name → Text → Syntax.Command) → Reader Syntax.Command
 account_form w k = do the_sign w; p ← any_name; s ← any_string; give (k p s)
 
-abbrev pub account_meant : Text → (Syntax.Name → Text → Syntax.Command) → AccountRead → Option (Syntax.Command × List Token)
-account_meant t k (AccountIs.Found p s n) = some (k (part t p) (part t s), lex (drop n t))
-account_meant t k AccountIs.No = none
+abbrev pub account_meant : (Syntax.Name → Text → Syntax.Command) → Text → Account → Syntax.Command
+account_meant k t a = k (part t a.name) (part t a.string)
 
-abbrev pub AccountPlaced : Text → ℕ → AccountRead → Type 0
-AccountPlaced t at (AccountIs.Found p s n) = Within t p × Within t s × (at < n) × (n ≤ length t)
-AccountPlaced t at AccountIs.No = Unit
+abbrev pub AccountWithin : Text → Account → Type 0
+AccountWithin t a = Within t a.name × Within t a.string
 
 -- ---- `w e`
 abbrev pub value_form : Text → Reader Syntax.Expr
@@ -81,34 +59,30 @@ abbrev pub of_expr : Option Syntax.Expr → (Syntax.Expr → Syntax.Command) →
 of_expr none k ts = none
 of_expr (some v) k ts = some (k v, ts)
 
-abbrev pub assign_meant : Text → (Syntax.Name → Syntax.Expr → Syntax.Command) → AssignRead → Option (Syntax.Command × List Token)
-assign_meant t k (AssignIs.Found x e n) = of_expr (expr_meant t e) (k (part t x)) (lex (drop n t))
-assign_meant t k AssignIs.No = none
+abbrev pub assign_meant : Text → (Syntax.Name → Syntax.Expr → Syntax.Command) → Code.Option Assign → ℕ → Option (Syntax.Command × List Token)
+assign_meant t k (Some a) n = of_expr (expr_meant t a.value) (k (part t a.name)) (lex (drop n t))
+assign_meant t k None n = none
 
-abbrev pub AssignPlaced : Text → ℕ → AssignRead → Type 0
-AssignPlaced t at (AssignIs.Found x e n) = Within t x × ExprWithin t e × (at < n) × (n ≤ length t)
-AssignPlaced t at AssignIs.No = Unit
+abbrev pub AssignWithin : Text → Assign → Type 0
+AssignWithin t a = Within t a.name × ExprWithin t a.value
 
 -- ---- `y in x w e`, of which k makes a command
 abbrev pub each_form : Text → (Syntax.Name → Syntax.Name → Syntax.Expr → Syntax.Command) → Reader Syntax.Command
 each_form w k = do y ← any_name; the "in"; x ← any_name; the_sign w; e ← any_expression; give (k y x e)
 
-abbrev pub each_meant : Text → (Syntax.Name → Syntax.Name → Syntax.Expr → Syntax.Command) → EachRead → Option (Syntax.Command × List Token)
-each_meant t k (EachIs.Found y x e n) = of_expr (expr_meant t e) (k (part t y) (part t x)) (lex (drop n t))
-each_meant t k EachIs.No = none
+abbrev pub each_meant : Text → (Syntax.Name → Syntax.Name → Syntax.Expr → Syntax.Command) → Code.Option Each → ℕ → Option (Syntax.Command × List Token)
+each_meant t k (Some e) n = of_expr (expr_meant t e.value) (k (part t e.element) (part t e.list)) (lex (drop n t))
+each_meant t k None n = none
 
-abbrev pub EachPlaced : Text → ℕ → EachRead → Type 0
-EachPlaced t at (EachIs.Found y x e n) = Within t y × Within t x × ExprWithin t e × (at < n) × (n ≤ length t)
-EachPlaced t at EachIs.No = Unit
+abbrev pub EachWithin : Text → Each → Type 0
+EachWithin t e = Within t e.element × Within t e.list × ExprWithin t e.value
 
 -- ---- `t q right -> p`, of which k makes a command
 abbrev pub delegation_form : (Syntax.Target → Syntax.Name → Syntax.Right → Syntax.Name → Syntax.Command) → Reader Syntax.Command
 delegation_form k = do t ← any_target; q ← any_name; r ← any_right; the "->"; p ← any_name; give (k t q r p)
 
-abbrev pub delegation_meant : Text → (Syntax.Target → Syntax.Name → Syntax.Right → Syntax.Name → Syntax.Command) → DelegationRead → Option (Syntax.Command × List Token)
-delegation_meant t k (DelegationIs.Found x q r p n) = some (k (target_meant t x) (part t q) (right_meant r) (part t p), lex (drop n t))
-delegation_meant t k DelegationIs.No = none
+abbrev pub delegation_meant : (Syntax.Target → Syntax.Name → Syntax.Right → Syntax.Name → Syntax.Command) → Text → Delegation → Syntax.Command
+delegation_meant k t d = k (target_meant t d.target) (part t d.from) (right_meant d.right) (part t d.to)
 
-abbrev pub DelegationPlaced : Text → ℕ → DelegationRead → Type 0
-DelegationPlaced t at (DelegationIs.Found x q r p n) = TargetWithin t x × Within t q × Within t p × (at < n) × (n ≤ length t)
-DelegationPlaced t at DelegationIs.No = Unit
+abbrev pub DelegationWithin : Text → Delegation → Type 0
+DelegationWithin t d = TargetWithin t d.target × Within t d.from × Within t d.to

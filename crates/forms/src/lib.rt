@@ -1,110 +1,90 @@
 // Readers of what several commands have in common: a name with a string, one or two names with an expression, and a delegation.
 #![tactic(auto)]
 
-ghost use Rattle.std.specs.Prelude.{◌≡◌, ◌≤◌, length, drop};
+ghost use Rattle.std.specs.Prelude.{◌≡◌, drop};
 ghost use Rattle.language.specs.Text.{Text};
 ghost use Rattle.language.specs.Tokens.{lex};
 ghost use Rattle.language.specs.Syntax as Syntax;
 ghost use Rattle.language.specs.Grammar.{any_right, any_target};
-ghost use Rattle.syntax.specs.Values.{expr_read_meant, ExprPlaced};
-ghost use Rattle.forms.specs.Forms.{right_read_meant, RightPlaced, target_read_meant, TargetPlaced, account_form, account_meant, AccountPlaced, value_form, assign_form, assign_meant, AssignPlaced, each_form, each_meant, EachPlaced, delegation_form, delegation_meant, DelegationPlaced};
+ghost use Rattle.tokens.specs.Readers.{read_meant, ReadPlaced, anywhere};
+ghost use Rattle.syntax.specs.Values.{expr_read_meant, ExprWithin};
+ghost use Rattle.forms.specs.Forms.{right_of, target_meant, TargetWithin, account_form, account_meant, AccountWithin, value_form, assign_form, assign_meant, AssignWithin, each_form, each_meant, EachWithin, delegation_form, delegation_meant, DelegationWithin};
 
-use syntax::{Expr, ExprRead};
+use expression_readers::read_expression;
+use syntax::Expr;
 use text::Span;
-use tokens::reader::{Found, Next};
+use tokens::scanner::Scanner;
 use tokens::token::Token;
 
 // A name and a string.
 #[derive(Clone, Copy)]
-pub enum AccountRead {
-    Found(Span, Span, usize),
-    No,
+pub struct Account {
+    pub name: Span,
+    pub string: Span,
 }
 
 // A keyword, then a name and a string.
-pub fn account_at(text: &[u8], at: usize, word: &[u8]) -> AccountRead
-    requires { at ≤ length text.now }
-    ensures meant { (k : Syntax.Name → Text → Syntax.Command) → account_meant text.now k result ≡ account_form word.now k (lex (drop at text.now)) }
-    ensures placed { AccountPlaced text.now at result }
+pub fn read_account(scanner: &mut Scanner, word: &[u8]) -> Option<Account>
+    ensures text { scanner.new.text ≡ scanner.old.text }
+    ensures meant { (k : Syntax.Name → Text → Syntax.Command) → read_meant (account_meant k) scanner.old.text.now result scanner.new.at ≡ account_form word.now k (lex (drop scanner.old.at scanner.old.text.now)) }
+    ensures placed { ReadPlaced AccountWithin scanner.old.text.now scanner.old.at result scanner.new.at }
 {
-    let key = tokens::reader::expect(text, at, word);
-    let Next::At(a) = key else {
-        return AccountRead::No;
-    };
-    let name = tokens::reader::name_at(text, a);
-    let Found::At(p, b) = name else {
-        return AccountRead::No;
-    };
-    let string = tokens::reader::string_at(text, b);
-    let Found::At(s, n) = string else {
-        return AccountRead::No;
-    };
-    AccountRead::Found(p, s, n)
+    scanner.expect(word)?;
+    let name = scanner.name()?;
+    let string = scanner.string()?;
+    Some(Account { name, string })
 }
 
 // A keyword or a mark, then an expression.
-pub fn value_at(text: &[u8], at: usize, word: &[u8]) -> ExprRead
-    requires { at ≤ length text.now }
-    ensures meant { expr_read_meant text.now result ≡ value_form word.now (lex (drop at text.now)) }
-    ensures placed { ExprPlaced text.now at result }
+pub fn read_value(scanner: &mut Scanner, word: &[u8]) -> Option<Expr>
+    ensures text { scanner.new.text ≡ scanner.old.text }
+    ensures meant { expr_read_meant scanner.old.text.now result scanner.new.at ≡ value_form word.now (lex (drop scanner.old.at scanner.old.text.now)) }
+    ensures placed { ReadPlaced ExprWithin scanner.old.text.now scanner.old.at result scanner.new.at }
 {
-    let key = tokens::reader::expect(text, at, word);
-    let Next::At(a) = key else {
-        return ExprRead::No;
-    };
-    expression_readers::expression_at(text, a)
+    scanner.expect(word)?;
+    read_expression(scanner)
 }
 
 // A name and an expression.
 #[derive(Clone, Copy)]
-pub enum AssignRead {
-    Found(Span, Expr, usize),
-    No,
+pub struct Assign {
+    pub name: Span,
+    pub value: Expr,
 }
 
 // A name, then a keyword or a mark, then an expression.
-pub fn assign_at(text: &[u8], at: usize, word: &[u8]) -> AssignRead
-    requires { at ≤ length text.now }
-    ensures meant { (k : Syntax.Name → Syntax.Expr → Syntax.Command) → assign_meant text.now k result ≡ assign_form word.now k (lex (drop at text.now)) }
-    ensures placed { AssignPlaced text.now at result }
+pub fn read_assign(scanner: &mut Scanner, word: &[u8]) -> Option<Assign>
+    ensures text { scanner.new.text ≡ scanner.old.text }
+    ensures meant { (k : Syntax.Name → Syntax.Expr → Syntax.Command) → assign_meant scanner.old.text.now k result scanner.new.at ≡ assign_form word.now k (lex (drop scanner.old.at scanner.old.text.now)) }
+    ensures placed { ReadPlaced AssignWithin scanner.old.text.now scanner.old.at result scanner.new.at }
 {
-    let name = tokens::reader::name_at(text, at);
-    let Found::At(x, a) = name else {
-        return AssignRead::No;
-    };
-    let value = value_at(text, a, word);
-    let ExprRead::Found(e, n) = value else {
-        return AssignRead::No;
-    };
-    AssignRead::Found(x, e, n)
+    let name = scanner.name()?;
+    let value = read_value(scanner, word)?;
+    Some(Assign { name, value })
 }
 
-// Two names and an expression.
+// The name of the element, that of the list, and an expression.
 #[derive(Clone, Copy)]
-pub enum EachRead {
-    Found(Span, Span, Expr, usize),
-    No,
+pub struct Each {
+    pub element: Span,
+    pub list: Span,
+    pub value: Expr,
 }
 
 // `y in x`, then a keyword, then an expression.
-pub fn each_at(text: &[u8], at: usize, word: &[u8]) -> EachRead
-    requires { at ≤ length text.now }
-    ensures meant { (k : Syntax.Name → Syntax.Name → Syntax.Expr → Syntax.Command) → each_meant text.now k result ≡ each_form word.now k (lex (drop at text.now)) }
-    ensures placed { EachPlaced text.now at result }
+pub fn read_each(scanner: &mut Scanner, word: &[u8]) -> Option<Each>
+    ensures text { scanner.new.text ≡ scanner.old.text }
+    ensures meant { (k : Syntax.Name → Syntax.Name → Syntax.Expr → Syntax.Command) → each_meant scanner.old.text.now k result scanner.new.at ≡ each_form word.now k (lex (drop scanner.old.at scanner.old.text.now)) }
+    ensures placed { ReadPlaced EachWithin scanner.old.text.now scanner.old.at result scanner.new.at }
 {
-    let name = tokens::reader::name_at(text, at);
-    let Found::At(y, a) = name else {
-        return EachRead::No;
-    };
-    let key = tokens::reader::expect(text, a, b"in");
-    let Next::At(b) = key else {
-        return EachRead::No;
-    };
-    let assign = assign_at(text, b, word);
-    let AssignRead::Found(x, e, n) = assign else {
-        return EachRead::No;
-    };
-    EachRead::Found(y, x, e, n)
+    let element = scanner.name()?;
+    scanner.expect(b"in")?;
+    let assign = read_assign(scanner, word)?;
+    Some(Each {
+        element,
+        list: assign.name,
+        value: assign.value,
+    })
 }
 
 #[derive(Clone, Copy)]
@@ -115,34 +95,25 @@ pub enum Right {
     Delegate,
 }
 
-#[derive(Clone, Copy)]
-pub enum RightRead {
-    Found(Right, usize),
-    No,
-}
-
-fn right_at(text: &[u8], at: usize) -> RightRead
-    requires { at ≤ length text.now }
-    ensures meant { right_read_meant text.now result ≡ any_right (lex (drop at text.now)) }
-    ensures placed { RightPlaced text.now at result }
+fn read_right(scanner: &mut Scanner) -> Option<Right>
+    ensures text { scanner.new.text ≡ scanner.old.text }
+    ensures meant { read_meant right_of scanner.old.text.now result scanner.new.at ≡ any_right (lex (drop scanner.old.at scanner.old.text.now)) }
+    ensures placed { ReadPlaced anywhere scanner.old.text.now scanner.old.at result scanner.new.at }
 {
-    let sign = tokens::reader::sign_at(text, at);
-    let Found::At(s, n) = sign else {
-        return RightRead::No;
-    };
-    if tokens::reader::is_sign(text, s, b"read") {
-        return RightRead::Found(Right::Read, n);
+    let sign = scanner.sign()?;
+    if scanner.is(sign, b"read") {
+        return Some(Right::Read);
     }
-    if tokens::reader::is_sign(text, s, b"write") {
-        return RightRead::Found(Right::Write, n);
+    if scanner.is(sign, b"write") {
+        return Some(Right::Write);
     }
-    if tokens::reader::is_sign(text, s, b"append") {
-        return RightRead::Found(Right::Append, n);
+    if scanner.is(sign, b"append") {
+        return Some(Right::Append);
     }
-    if tokens::reader::is_sign(text, s, b"delegate") {
-        return RightRead::Found(Right::Delegate, n);
+    if scanner.is(sign, b"delegate") {
+        return Some(Right::Delegate);
     }
-    RightRead::No
+    None
 }
 
 // What a delegation is about: every variable, or one.
@@ -152,63 +123,46 @@ pub enum Target {
     Only(Span),
 }
 
-#[derive(Clone, Copy)]
-pub enum TargetRead {
-    Found(Target, usize),
-    No,
-}
-
-fn target_at(text: &[u8], at: usize) -> TargetRead
-    requires { at ≤ length text.now }
-    ensures meant { target_read_meant text.now result ≡ any_target (lex (drop at text.now)) }
-    ensures placed { TargetPlaced text.now at result }
+fn read_target(scanner: &mut Scanner) -> Option<Target>
+    ensures text { scanner.new.text ≡ scanner.old.text }
+    ensures meant { read_meant target_meant scanner.old.text.now result scanner.new.at ≡ any_target (lex (drop scanner.old.at scanner.old.text.now)) }
+    ensures placed { ReadPlaced TargetWithin scanner.old.text.now scanner.old.at result scanner.new.at }
 {
-    let t = tokens::scanner::first_token(text, at);
-    match t {
-        Token::End => TargetRead::No,
-        Token::Sign(s, n) => {
-            if tokens::reader::is_sign(text, s, b"all") {
-                return TargetRead::Found(Target::All, n);
+    match scanner.token() {
+        Token::Sign(s) => {
+            if scanner.is(s, b"all") {
+                return Some(Target::All);
             }
-            TargetRead::No
+            None
         }
-        Token::Name(x, n) => TargetRead::Found(Target::Only(x), n),
-        Token::Quoted(_, _) => TargetRead::No,
-        Token::Wrong => TargetRead::No,
+        Token::Name(x) => Some(Target::Only(x)),
+        _ => None,
     }
 }
 
 // A target, who delegates, the right, and to whom.
 #[derive(Clone, Copy)]
-pub enum DelegationRead {
-    Found(Target, Span, Right, Span, usize),
-    No,
+pub struct Delegation {
+    pub target: Target,
+    pub from: Span,
+    pub right: Right,
+    pub to: Span,
 }
 
-pub fn delegation_at(text: &[u8], at: usize) -> DelegationRead
-    requires { at ≤ length text.now }
-    ensures meant { (k : Syntax.Target → Syntax.Name → Syntax.Right → Syntax.Name → Syntax.Command) → delegation_meant text.now k result ≡ delegation_form k (lex (drop at text.now)) }
-    ensures placed { DelegationPlaced text.now at result }
+pub fn read_delegation(scanner: &mut Scanner) -> Option<Delegation>
+    ensures text { scanner.new.text ≡ scanner.old.text }
+    ensures meant { (k : Syntax.Target → Syntax.Name → Syntax.Right → Syntax.Name → Syntax.Command) → read_meant (delegation_meant k) scanner.old.text.now result scanner.new.at ≡ delegation_form k (lex (drop scanner.old.at scanner.old.text.now)) }
+    ensures placed { ReadPlaced DelegationWithin scanner.old.text.now scanner.old.at result scanner.new.at }
 {
-    let target = target_at(text, at);
-    let TargetRead::Found(t, a) = target else {
-        return DelegationRead::No;
-    };
-    let from = tokens::reader::name_at(text, a);
-    let Found::At(q, b) = from else {
-        return DelegationRead::No;
-    };
-    let right = right_at(text, b);
-    let RightRead::Found(r, d) = right else {
-        return DelegationRead::No;
-    };
-    let arrow = tokens::reader::expect(text, d, b"->");
-    let Next::At(e) = arrow else {
-        return DelegationRead::No;
-    };
-    let name = tokens::reader::name_at(text, e);
-    let Found::At(p, n) = name else {
-        return DelegationRead::No;
-    };
-    DelegationRead::Found(t, q, r, p, n)
+    let target = read_target(scanner)?;
+    let from = scanner.name()?;
+    let right = read_right(scanner)?;
+    scanner.expect(b"->")?;
+    let to = scanner.name()?;
+    Some(Delegation {
+        target,
+        from,
+        right,
+        to,
+    })
 }

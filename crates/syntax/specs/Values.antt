@@ -1,18 +1,16 @@
 -- What values, fields, functions and expressions that were read mean in the terms of the language's grammar, and where they stand.
-use Rattle.std.specs.Prelude.{ℕ, ◌≤◌, ◌<◌, Bool, true, false, List, [], ◌∷◌, T, length, drop, ◌≡◌}
+use Rattle.std.specs.Prelude.{ℕ, ◌≤◌, ◌<◌, Bool, true, false, List, [], ◌∷◌, T, length, drop, ◌≡◌, Some, None}
+use Rattle.std.specs.Prelude as Code
 use Rattle.std.proofs.Math.Option.{Option, none, some}
 use Rattle.language.specs.Text.{Text, ◌>>=◌, present}
 use Rattle.language.specs.Tokens.{Token, lex}
 use Rattle.language.specs.Syntax as Syntax
-use Rattle.language.specs.Grammar.{any_fields, any_expression}
+use Rattle.language.specs.Grammar.{Reader, then_read, the, any_name, any_fields, any_expression}
 use Rattle.language.proofs.Parsing.ValidPrograms.{valid_term, valid_expr}
 use Rattle.text.specs.Meaning.{part, Within}
 use Rattle.syntax.specs.declared.Operand.{Operand}
 use Rattle.syntax.specs.declared.Operand.TheVariants.{Name, Field, Quoted}
-use Rattle.syntax.specs.declared.OperandRead.{OperandRead}
-use Rattle.syntax.specs.declared.OperandRead.TheVariants as OperandIs
-use Rattle.syntax.specs.declared.FieldRead.{FieldRead}
-use Rattle.syntax.specs.declared.FieldRead.TheVariants as FieldIs
+use Rattle.syntax.specs.declared.Field as Fields
 use Rattle.syntax.specs.declared.Function.{Function}
 use Rattle.syntax.specs.declared.Function.TheVariants.{Split, Concat, Arithmetic}
 use Rattle.syntax.specs.declared.Operation.{Operation}
@@ -21,12 +19,8 @@ use Rattle.syntax.specs.declared.Comparison.{Comparison}
 use Rattle.syntax.specs.declared.Comparison.TheVariants.{Equal, NotEqual}
 use Rattle.syntax.specs.declared.Term.{Term}
 use Rattle.syntax.specs.declared.Term.TheVariants.{Single, Empty, Record, Lower, Call, Compare}
-use Rattle.syntax.specs.declared.TermRead.{TermRead}
-use Rattle.syntax.specs.declared.TermRead.TheVariants as TermIs
 use Rattle.syntax.specs.declared.Expr.{Expr}
 use Rattle.syntax.specs.declared.Expr.TheVariants as ExprOf
-use Rattle.syntax.specs.declared.ExprRead.{ExprRead}
-use Rattle.syntax.specs.declared.ExprRead.TheVariants as ExprIs
 
 -- ---- values
 abbrev pub operand_meant : Text → Operand → Syntax.Operand
@@ -39,13 +33,9 @@ OperandWithin t (Name x) = Within t x
 OperandWithin t (Field x y) = Within t x × Within t y
 OperandWithin t (Quoted s) = Within t s
 
-abbrev pub operand_read_meant : Text → OperandRead → Option (Syntax.Operand × List Token)
-operand_read_meant t (OperandIs.Found o n) = some (operand_meant t o, lex (drop n t))
-operand_read_meant t OperandIs.No = none
-
-abbrev pub OperandPlaced : Text → ℕ → OperandRead → Type 0
-OperandPlaced t at (OperandIs.Found o n) = OperandWithin t o × (at < n) × (n ≤ length t)
-OperandPlaced t at OperandIs.No = Unit
+-- a dot and the label of a field
+abbrev pub dot_label : Reader Text
+dot_label ts = then_read (the "." ts) (λ _. any_name)
 
 -- ---- fields
 -- the fields of a record that stand from place `at` on, and the tokens past its brace
@@ -66,13 +56,12 @@ abbrev pub with_field : Text → Syntax.Binding → Bool → ℕ → Option (Lis
 with_field t b true n = before b (record_at t n)
 with_field t b false n = some (b ∷ [], lex (drop n t))
 
-abbrev pub field_meant : Text → FieldRead → Option (List Syntax.Binding × List Token)
-field_meant t (FieldIs.Found x v more n) = with_field t (record { label = part t x; operand = operand_meant t v }) more n
-field_meant t FieldIs.No = none
+abbrev pub field_meant : Text → Code.Option Fields.Field → ℕ → Option (List Syntax.Binding × List Token)
+field_meant t (Some f) n = with_field t (record { label = part t f.label; operand = operand_meant t f.value }) f.more n
+field_meant t None n = none
 
-abbrev pub FieldPlaced : Text → ℕ → FieldRead → Type 0
-FieldPlaced t at (FieldIs.Found x v more n) = Within t x × OperandWithin t v × (at < n) × (n ≤ length t)
-FieldPlaced t at FieldIs.No = Unit
+abbrev pub FieldWithin : Text → Fields.Field → Type 0
+FieldWithin t f = Within t f.label × OperandWithin t f.value
 
 -- ---- functions
 abbrev pub operation_meant : Operation → Syntax.Operation
@@ -108,13 +97,14 @@ TermWithin t (Lower v) = OperandWithin t v
 TermWithin t (Call f v w) = OperandWithin t v × OperandWithin t w
 TermWithin t (Compare c v w) = OperandWithin t v × OperandWithin t w
 
-abbrev pub term_read_meant : Text → TermRead → Option (Syntax.Term × List Token)
-term_read_meant t (TermIs.Found e n) = term_meant t e >>= λ x. some (x, lex (drop n t))
-term_read_meant t TermIs.No = none
+abbrev pub term_read_meant : Text → Code.Option Term → ℕ → Option (Syntax.Term × List Token)
+term_read_meant t (Some e) n = term_meant t e >>= λ x. some (x, lex (drop n t))
+term_read_meant t None n = none
 
-abbrev pub TermPlaced : Text → ℕ → TermRead → Type 0
-TermPlaced t at (TermIs.Found e n) = TermWithin t e × (at < n) × (n ≤ length t)
-TermPlaced t at TermIs.No = Unit
+-- a term whose first word was read before place `at`
+abbrev pub TermFollows : Text → ℕ → Code.Option Term → ℕ → Type 0
+TermFollows t at (Some e) n = TermWithin t e × (at ≤ n) × (n ≤ length t)
+TermFollows t at None n = Unit
 
 -- ---- expressions
 -- the expression that stands from place `at` on, and the tokens past it
@@ -129,13 +119,9 @@ abbrev pub ExprWithin : Text → Expr → Type 0
 ExprWithin t (ExprOf.Term e) = TermWithin t e
 ExprWithin t (ExprOf.Let p) = (p ≤ length t) × (present (expression_at t p) ≡ true)
 
-abbrev pub expr_read_meant : Text → ExprRead → Option (Syntax.Expr × List Token)
-expr_read_meant t (ExprIs.Found e n) = expr_meant t e >>= λ x. some (x, lex (drop n t))
-expr_read_meant t ExprIs.No = none
-
-abbrev pub ExprPlaced : Text → ℕ → ExprRead → Type 0
-ExprPlaced t at (ExprIs.Found e n) = ExprWithin t e × (at < n) × (n ≤ length t)
-ExprPlaced t at ExprIs.No = Unit
+abbrev pub expr_read_meant : Text → Code.Option Expr → ℕ → Option (Syntax.Expr × List Token)
+expr_read_meant t (Some e) n = expr_meant t e >>= λ x. some (x, lex (drop n t))
+expr_read_meant t None n = none
 
 -- ---- what a text says
 -- the program's text says a valid term at these places

@@ -2,15 +2,16 @@
 // copy of it.
 #![tactic(auto)]
 
-ghost use Rattle.std.specs.Prelude.{◌≡◌, ℕ, ◌≤◌, ◌<◌, length, drop};
+ghost use Rattle.std.specs.Prelude.{◌≡◌, ◌≤◌, length, drop};
+ghost use Rattle.std.proofs.Math.Option.{some};
 ghost use Rattle.language.specs.Tokens.{lex};
 ghost use Rattle.language.specs.Grammar.{any_operand, field_or_variable};
 ghost use Rattle.text.specs.Meaning.{part, Within};
-ghost use Rattle.tokens.specs.Readers.{next_meant, NextPlaced};
-ghost use Rattle.syntax.specs.Values.{record_at, skipped, operand_read_meant, OperandPlaced, field_meant, FieldPlaced};
+ghost use Rattle.tokens.specs.Readers.{read_meant, ReadPlaced, nothing_kept, anywhere};
+ghost use Rattle.syntax.specs.Values.{dot_label, record_at, skipped, operand_meant, OperandWithin, field_meant, FieldWithin};
 
 use text::Span;
-use tokens::reader::{Found, Next};
+use tokens::scanner::Scanner;
 use tokens::token::Token;
 
 // A value: x, x.y or a string.
@@ -21,100 +22,80 @@ pub enum Operand {
     Quoted(Span),
 }
 
+// A dot and the label of a field.
+fn read_label(scanner: &mut Scanner) -> Option<Span>
+    ensures text { scanner.new.text ≡ scanner.old.text }
+    ensures meant { read_meant part scanner.old.text.now result scanner.new.at ≡ dot_label (lex (drop scanner.old.at scanner.old.text.now)) }
+    ensures placed { ReadPlaced Within scanner.old.text.now scanner.old.at result scanner.new.at }
+{
+    scanner.expect(b".")?;
+    scanner.name()
+}
+
+// The value that starts with a name, which was read: a field of the variable, or the variable.
+pub fn after_name(scanner: &mut Scanner, name: Span) -> Operand
+    requires { Within scanner.old.text.now name }
+    ensures text { scanner.new.text ≡ scanner.old.text }
+    ensures meant { some (operand_meant scanner.old.text.now result, lex (drop scanner.new.at scanner.old.text.now)) ≡ field_or_variable (part scanner.old.text.now name) (lex (drop scanner.old.at scanner.old.text.now)) }
+    ensures placed { OperandWithin scanner.old.text.now result × (scanner.old.at ≤ scanner.new.at) × (scanner.new.at ≤ length scanner.old.text.now) }
+{
+    let mut next = *scanner;
+    let Some(field) = read_label(&mut next) else {
+        return Operand::Name(name);
+    };
+    *scanner = next;
+    Operand::Field(name, field)
+}
+
+pub fn read_operand(scanner: &mut Scanner) -> Option<Operand>
+    ensures text { scanner.new.text ≡ scanner.old.text }
+    ensures meant { read_meant operand_meant scanner.old.text.now result scanner.new.at ≡ any_operand (lex (drop scanner.old.at scanner.old.text.now)) }
+    ensures placed { ReadPlaced OperandWithin scanner.old.text.now scanner.old.at result scanner.new.at }
+{
+    match scanner.token() {
+        Token::Name(x) => Some(after_name(scanner, x)),
+        Token::Quoted(s) => Some(Operand::Quoted(s)),
+        _ => None,
+    }
+}
+
+// A field of a record: its label, its value, and whether another field follows.
 #[derive(Clone, Copy)]
-pub enum OperandRead {
-    Found(Operand, usize),
-    No,
+pub struct Field {
+    pub label: Span,
+    pub value: Operand,
+    pub more: bool,
 }
 
-// The value that starts with a name, from the place `at` past it: a field of the variable, or the variable.
-pub fn dotted(text: &[u8], name: Span, at: usize) -> OperandRead
-    requires at_in_bounds { at ≤ length text.now }
-    requires within { Within text.now name }
-    ensures meant { operand_read_meant text.now result ≡ field_or_variable (part text.now name) (lex (drop at text.now)) }
-    ensures placed { (from : ℕ) → from < at → OperandPlaced text.now from result }
+// The first of the fields of a record that follow, past its comma or the record's brace.
+#[tactic(auto, using(crate::proofs::Fuel::record_step, crate::proofs::Fields::comma_field))]
+pub fn read_field(scanner: &mut Scanner) -> Option<Field>
+    ensures text { scanner.new.text ≡ scanner.old.text }
+    ensures meant { field_meant scanner.old.text.now result scanner.new.at ≡ record_at scanner.old.text.now scanner.old.at }
+    ensures placed { ReadPlaced FieldWithin scanner.old.text.now scanner.old.at result scanner.new.at }
 {
-    let dot = tokens::reader::expect(text, at, b".");
-    let Next::At(p) = dot else {
-        return OperandRead::Found(Operand::Name(name), at);
-    };
-    let field = tokens::reader::name_at(text, p);
-    let Found::At(y, n) = field else {
-        return OperandRead::Found(Operand::Name(name), at);
-    };
-    OperandRead::Found(Operand::Field(name, y), n)
+    let label = scanner.name()?;
+    scanner.expect(b"=")?;
+    let value = read_operand(scanner)?;
+    let sign = scanner.sign()?;
+    if scanner.is(sign, b",") {
+        return Some(Field { label, value, more: true });
+    }
+    if scanner.is(sign, b"}") {
+        return Some(Field { label, value, more: false });
+    }
+    None
 }
 
-pub fn operand_at(text: &[u8], at: usize) -> OperandRead
-    requires { at ≤ length text.now }
-    ensures meant { operand_read_meant text.now result ≡ any_operand (lex (drop at text.now)) }
-    ensures placed { OperandPlaced text.now at result }
+// The fields of a record and its brace are passed over.
+#[tactic(auto, using(crate::proofs::Fields::skip_before))]
+pub fn skip_record(scanner: &mut Scanner) -> Option<()>
+    ensures text { scanner.new.text ≡ scanner.old.text }
+    ensures meant { read_meant nothing_kept scanner.old.text.now result scanner.new.at ≡ skipped (record_at scanner.old.text.now scanner.old.at) }
+    ensures placed { ReadPlaced anywhere scanner.old.text.now scanner.old.at result scanner.new.at }
 {
-    let t = tokens::scanner::first_token(text, at);
-    match t {
-        Token::End => OperandRead::No,
-        Token::Sign(_, _) => OperandRead::No,
-        Token::Name(s, n) => dotted(text, s, n),
-        Token::Quoted(s, n) => OperandRead::Found(Operand::Quoted(s), n),
-        Token::Wrong => OperandRead::No,
-    }
-}
-
-// A field of a record: its label, its value, whether another field follows, and the place past the comma or the brace.
-#[derive(Clone, Copy)]
-pub enum FieldRead {
-    Found(Span, Operand, bool, usize),
-    No,
-}
-
-// The fields of a record from `at` on: the first one, and where the others stand.
-pub fn field_at(text: &[u8], at: usize) -> FieldRead
-    requires { at ≤ length text.now }
-    ensures meant { field_meant text.now result ≡ record_at text.now at }
-    ensures placed { FieldPlaced text.now at result }
-{
-    let label = tokens::reader::name_at(text, at);
-    let Found::At(x, a) = label else {
-        return FieldRead::No;
-    };
-    let equals = tokens::reader::expect(text, a, b"=");
-    let Next::At(b) = equals else {
-        return FieldRead::No;
-    };
-    let value = operand_at(text, b);
-    let OperandRead::Found(v, e) = value else {
-        return FieldRead::No;
-    };
-    let sign = tokens::reader::sign_at(text, e);
-    let Found::At(s, n) = sign else {
-        return FieldRead::No;
-    };
-    if tokens::reader::is_sign(text, s, b",") {
-        return FieldRead::Found(x, v, true, n);
-    }
-    if tokens::reader::is_sign(text, s, b"}") {
-        return FieldRead::Found(x, v, false, n);
-    }
-    FieldRead::No
-}
-
-// The place past the fields of a record and its brace.
-pub fn record_end(text: &[u8], at: usize) -> Next
-    requires { at ≤ length text.now }
-    ensures meant { next_meant text.now result ≡ skipped (record_at text.now at) }
-    ensures placed { NextPlaced text.now at result }
-{
-    let mut p = at;
-    loop {
-        let field = field_at(text, p);
-        let FieldRead::Found(_, _, more, n) = field else {
-            return Next::No;
-        };
-        if !more {
-            return Next::At(n);
-        }
-        p = n;
-    }
+    while read_field(scanner)?.more {}
+    Some(())
 }
 
 // An operation on two prices.
@@ -153,21 +134,9 @@ pub enum Term {
     Compare(Comparison, Operand, Operand),
 }
 
-#[derive(Clone, Copy)]
-pub enum TermRead {
-    Found(Term, usize),
-    No,
-}
-
 // An expression: a term, or a `let`, which stands from a place on and is read again where it is evaluated: it may be as long as the text.
 #[derive(Clone, Copy)]
 pub enum Expr {
     Term(Term),
     Let(usize),
-}
-
-#[derive(Clone, Copy)]
-pub enum ExprRead {
-    Found(Expr, usize),
-    No,
 }

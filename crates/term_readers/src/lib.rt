@@ -1,55 +1,46 @@
 // The reader of a term: a value, `[]`, a record or a call.
 #![tactic(auto)]
 
-ghost use Rattle.std.specs.Prelude.{◌≡◌, ℕ, ◌≤◌, ◌<◌, ◌∷◌, length, drop};
+ghost use Rattle.std.specs.Prelude.{◌≡◌, ◌≤◌, ◌∷◌, length, drop, OnSome};
 ghost use Rattle.language.specs.Tokens.{lex, sign};
 ghost use Rattle.language.specs.Grammar.{any_term};
 ghost use Rattle.text.specs.Meaning.{part, Within};
-ghost use Rattle.syntax.specs.Values.{term_read_meant, TermPlaced};
+ghost use Rattle.tokens.specs.Readers.{ReadPlaced};
+ghost use Rattle.syntax.specs.Values.{term_read_meant, TermWithin, TermFollows};
 
-use call_readers::called;
-use syntax::{Operand, OperandRead, Term, TermRead, dotted, record_end};
+use call_readers::read_call;
+use syntax::{Operand, Term, after_name, skip_record};
 use text::Span;
-use tokens::reader::Next;
+use tokens::scanner::Scanner;
 use tokens::token::Token;
 
-// The term that starts with a keyword or a mark, from the place `at` past it: a record, `[]`, or a call.
-fn enclosed(text: &[u8], word: Span, at: usize) -> TermRead
-    requires at_in_bounds { at ≤ length text.now }
-    requires within { Within text.now word }
-    ensures meant { term_read_meant text.now result ≡ any_term (sign (part text.now word) ∷ lex (drop at text.now)) }
-    ensures placed { (from : ℕ) → from < at → TermPlaced text.now from result }
+// The term that starts with a keyword or a mark, which was read: a record, `[]`, or a call.
+fn read_enclosed(scanner: &mut Scanner, word: Span) -> Option<Term>
+    requires { Within scanner.old.text.now word }
+    ensures text { scanner.new.text ≡ scanner.old.text }
+    ensures meant { term_read_meant scanner.old.text.now result scanner.new.at ≡ any_term (sign (part scanner.old.text.now word) ∷ lex (drop scanner.old.at scanner.old.text.now)) }
+    ensures placed { TermFollows scanner.old.text.now scanner.old.at result scanner.new.at }
 {
-    if tokens::reader::is_sign(text, word, b"{") {
-        let last = record_end(text, at);
-        let Next::At(n) = last else {
-            return TermRead::No;
-        };
-        return TermRead::Found(Term::Record(at), n);
+    if scanner.is(word, b"{") {
+        let start = scanner.at;
+        skip_record(scanner)?;
+        return Some(Term::Record(start));
     }
-    if tokens::reader::is_sign(text, word, b"[]") {
-        return TermRead::Found(Term::Empty, at);
+    if scanner.is(word, b"[]") {
+        return Some(Term::Empty);
     }
-    called(text, word, at)
+    read_call(scanner, word)
 }
 
-pub fn term_at(text: &[u8], at: usize) -> TermRead
-    requires { at ≤ length text.now }
-    ensures meant { term_read_meant text.now result ≡ any_term (lex (drop at text.now)) }
-    ensures placed { TermPlaced text.now at result }
+pub fn read_term(scanner: &mut Scanner) -> Option<Term>
+    ensures text { scanner.new.text ≡ scanner.old.text }
+    ensures meant { term_read_meant scanner.old.text.now result scanner.new.at ≡ any_term (lex (drop scanner.old.at scanner.old.text.now)) }
+    ensures placed { ReadPlaced TermWithin scanner.old.text.now scanner.old.at result scanner.new.at }
 {
-    let t = tokens::scanner::first_token(text, at);
-    match t {
-        Token::End => TermRead::No,
-        Token::Sign(s, n) => enclosed(text, s, n),
-        Token::Name(s, n) => {
-            let value = dotted(text, s, n);
-            let OperandRead::Found(v, e) = value else {
-                return TermRead::No;
-            };
-            TermRead::Found(Term::Single(v), e)
-        }
-        Token::Quoted(s, n) => TermRead::Found(Term::Single(Operand::Quoted(s)), n),
-        Token::Wrong => TermRead::No,
+    match scanner.token() {
+        Token::Sign(s) => read_enclosed(scanner, s),
+        Token::Name(x) => Some(Term::Single(after_name(scanner, x))),
+        Token::Quoted(s) => Some(Term::Single(Operand::Quoted(s))),
+        Token::End | Token::Wrong => None,
     }
 }

@@ -167,9 +167,9 @@ class_mark b m q = go (between "a" "z" b || between "A" "Z" b) (between "0" "9" 
     go false false false false true e = cc
     go false false false false false e = cc
 
-pub placed_from : (t : Text) (at i : ℕ) (r : Read.Token) → at ≤ i → Placed t i r → Placed t at r
-placed_from t at i Variants.End h p = tt
-placed_from t at i (Variants.Sign s n) h p = omega arith
-placed_from t at i (Variants.Name s n) h p = omega arith
-placed_from t at i (Variants.Quoted s n) h p = omega arith
-placed_from t at i Variants.Wrong h p = tt
+pub placed_from : (t : Text) (at i : ℕ) (r : Read.Token) (n : ℕ) → at ≤ i → Placed t i r n → Placed t at r n
+placed_from t at i Variants.End n h p = tt
+placed_from t at i (Variants.Sign s) n h p = omega arith
+placed_from t at i (Variants.Name s) n h p = omega arith
+placed_from t at i (Variants.Quoted s) n h p = omega arith
+placed_from t at i Variants.Wrong n h p = tt

@@ -12,20 +12,10 @@ use Rattle.text.proofs.Words.{same_true}
 use Rattle.language.specs.Tokens as Tokens
 use Rattle.language.specs.Syntax.{name, dot}
 use Rattle.language.specs.Grammar.{the_sign, the, any_name, field_or_variable}
-use Rattle.tokens.specs.declared.token.Token.{Token}
-use Rattle.tokens.specs.Tokens.{tokens_meant, Placed}
 use Rattle.tokens.specs.Readers.{any_sign}
 
 pub no_some : {A : Type 0} {a : A} {B : Type 0} → ◌≡◌ {A = Option A} none (some a) → B
 no_some e = absurd (let z : ◌≡◌ {A = ℕ} 0 1 = cc in omega arith)
-
--- a token r that is s
-module _ (t : Text) (at : ℕ) (r : Token) {s : Token} (is : r ≡ s) where
-  pub read_as : {A : Type 0} (f : List Tokens.Token → A) → Tokens.lex (drop at t) ≡ tokens_meant t r → f (tokens_meant t s) ≡ f (Tokens.lex (drop at t))
-  read_as f m = sym (ap f (m ∙ ap (tokens_meant t) is))
-
-  pub placed_as : Placed t at r → Placed t at s
-  placed_as p = subst (λ (x : Token). Placed t at x) is p
 
 -- an answer r that is s: what it means, and what is known of it
 pub told : {A B : Type 0} (f : A → B) {r s : A} {m : B} → f r ≡ m → r ≡ s → m ≡ f s

@@ -1,4 +1,3 @@
 -- What the crate's types mean in the terms of the language.
 pub mod Tokens
-pub mod Scanning
 pub mod Readers

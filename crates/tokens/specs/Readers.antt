@@ -1,14 +1,11 @@
--- What the answers of the readers of one token mean in the terms of document 01's grammar, and where they stand.
-use Rattle.std.specs.Prelude.{ℕ, ◌≤◌, ◌<◌, List, [], ◌∷◌, length, drop}
-use Rattle.std.proofs.Math.Option.{Option, none, some}
+-- What the answers of the readers mean in the terms of document 01's grammar, and where the scanner stands behind what was read.
+use Rattle.std.specs.Prelude.{ℕ, ◌≤◌, ◌<◌, List, [], ◌∷◌, length, drop, Option, Some, None}
+use Rattle.std.proofs.Math.Option.{none, some}
+use Rattle.std.proofs.Math.Option as Math
 use Rattle.language.specs.Text.{Text}
 use Rattle.language.specs.Tokens.{Token, sign, ident, text, wrong, lex}
 use Rattle.language.specs.Grammar.{Reader}
-use Rattle.text.specs.Meaning.{part}
-use Rattle.tokens.specs.declared.reader.Next.{Next}
-use Rattle.tokens.specs.declared.reader.Next.TheVariants as NextIs
-use Rattle.tokens.specs.declared.reader.Found.{Found}
-use Rattle.tokens.specs.declared.reader.Found.TheVariants as FoundIs
+use Rattle.text.specs.declared.Span.{Span}
 use Rattle.tokens.specs.Tokens.{Stands}
 
 -- a keyword or a mark, whichever it is
@@ -19,19 +16,29 @@ any_sign (ident w ∷ ts) = none
 any_sign (text w ∷ ts) = none
 any_sign (wrong ∷ ts) = none
 
--- what a reader read, and the tokens that follow
-abbrev pub next_meant : Text → Next → Option (Unit {0} × List Token)
-next_meant t (NextIs.At n) = some (tt, lex (drop n t))
-next_meant t NextIs.No = none
+-- what was found, where f is what it means
+abbrev pub found_meant : {A B : Type 0} → (A → B) → Option A → Math.Option B
+found_meant f (Some x) = some (f x)
+found_meant f None = none
 
-abbrev pub NextPlaced : Text → ℕ → Next → Type 0
-NextPlaced t at (NextIs.At n) = (at < n) × (n ≤ length t)
-NextPlaced t at NextIs.No = Unit
+-- what a reader read, where f is what it means, and the tokens that follow the place n
+abbrev pub read_meant : {A B : Type 0} → (Text → A → B) → Text → Option A → ℕ → Math.Option (B × List Token)
+read_meant f t (Some x) n = some (f t x, lex (drop n t))
+read_meant f t None n = none
 
-abbrev pub found_meant : Text → Found → Option (Text × List Token)
-found_meant t (FoundIs.At s n) = some (part t s, lex (drop n t))
-found_meant t FoundIs.No = none
+-- what was read from place `at` on is W, and the place n is past it
+abbrev pub ReadPlaced : {A : Type 0} → (Text → A → Type 0) → Text → ℕ → Option A → ℕ → Type 0
+ReadPlaced W t at (Some x) n = W t x × (at < n) × (n ≤ length t)
+ReadPlaced W t at None n = Unit
 
-abbrev pub FoundPlaced : Text → ℕ → Found → Type 0
-FoundPlaced t at (FoundIs.At s n) = Stands t at s n
-FoundPlaced t at FoundIs.No = Unit
+-- what was found from place `at` on stands at s, and the place n is past it
+abbrev pub FoundPlaced : Text → ℕ → Option Span → ℕ → Type 0
+FoundPlaced t at (Some s) n = Stands t at s n
+FoundPlaced t at None n = Unit
+
+-- of a keyword or a mark that is asked for nothing is kept
+abbrev pub nothing_kept : Text → Unit {0} → Unit {0}
+nothing_kept t u = u
+
+abbrev pub anywhere : Text → Unit {0} → Type 0
+anywhere t u = Unit

@@ -1,6 +1,5 @@
-// Program text: from its bytes to tokens, and readers of one token. Every answer holds places in the text, and no copy of it.
+// Program text: from its bytes to tokens, and a scanner that reads them one by one. Every answer holds places in the text, and no copy of it.
 #![tactic(auto)]
 
-pub mod reader;
 pub mod scanner;
 pub mod token;

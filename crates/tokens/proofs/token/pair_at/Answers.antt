@@ -1,68 +1,30 @@
-use mathlib.Core.Path.{ap, ◌∙◌}
+use borrow.Author.Tests.{ne_eqb}
 use native.Mathlib.Omega.{arith}
 use lib.ListN.{get_or}
-use borrow.Author.Tests.{ne_eqb}
-use Rattle.language.specs.Bytes.{mark}
 use Rattle.tokens.proofs.Lexing.{class_mark, pair_sign, pair_bad}
 use Rattle.tokens.proofs.token.pair_at.Goals as goal
 
-pub returns-then-n-eq62 : goal.returns-then-n-eq62
-returns-then-n-eq62 c =
-    let t = c.args.text.now in
-    let i = c.args.at in
-    let m = c.args.m in
-    let n = c.args.n in record {
-      meant = pair_sign t i (omega (arith, c.requires.at_in_bounds)) m n c.requires.at_in_bounds c.requires.at_value c.requires.at_value_2 c.requires.text_value (class_mark (get_or t i 0) m c.requires.at_value) (rw (c.in-45.is, c.if-n-eq62.true));
-      placed = omega (arith, c.requires);
-    }
+pub returns-in-45-eq62-clause-meant : goal.returns-in-45-eq62-clause-meant
+returns-in-45-eq62-clause-meant c =
+    let a = c.args in
+    pair_sign a.text.now a.at (omega (arith, c.requires.at_in_bounds)) a.m a.n c.requires.at_in_bounds c.requires.at_value c.requires.at_value_2 c.requires.text_value (class_mark (get_or a.text.now a.at 0) a.m c.requires.at_value) (rw (c.in-45-eq62.is-0, c.in-45-eq62.is-1))
 
-pub returns-then-n-eq93 : goal.returns-then-n-eq93
-returns-then-n-eq93 c =
-    let t = c.args.text.now in
-    let i = c.args.at in
-    let m = c.args.m in
-    let n = c.args.n in record {
-      meant = pair_sign t i (omega (arith, c.requires.at_in_bounds)) m n c.requires.at_in_bounds c.requires.at_value c.requires.at_value_2 c.requires.text_value (class_mark (get_or t i 0) m c.requires.at_value) (rw (c.in-91.is, c.if-n-eq93.true));
-      placed = omega (arith, c.requires);
-    }
+pub returns-in-45-eq62-2-clause-meant : goal.returns-in-45-eq62-2-clause-meant
+returns-in-45-eq62-2-clause-meant c =
+    let a = c.args in
+    pair_sign a.text.now a.at (omega (arith, c.requires.at_in_bounds)) a.m a.n c.requires.at_in_bounds c.requires.at_value c.requires.at_value_2 c.requires.text_value (class_mark (get_or a.text.now a.at 0) a.m c.requires.at_value) (rw (c.in-45-eq62.is-0, c.in-45-eq62.is-1))
 
-pub comment_at-requires : goal.comment_at-requires
-comment_at-requires c =
-    let t = c.args.text.now in
-    let i = c.args.at in
-    let m = c.args.m in
-    let n = c.args.n in record {
-      at_in_bounds = c.requires.at_in_bounds;
-      at_value = c.requires.at_value ∙ ap mark c.in-47.is;
-      at_value_2 = c.requires.at_value_2 ∙ c.if-n-eq47.true;
-    }
+pub returns-in_default-clause-meant : goal.returns-in_default-clause-meant
+returns-in_default-clause-meant c =
+    let a = c.args in
+    pair_bad a.text.now a.at (omega (arith, c.requires.at_in_bounds)) a.m a.n c.requires.at_in_bounds c.requires.at_value c.requires.at_value_2 c.requires.text_value (rw (c.in_default.is-0, ne_eqb a.n 62 c.in_default.is-1.1))
 
-pub returns-else-n-eq62 : goal.returns-else-n-eq62
-returns-else-n-eq62 c =
-    let t = c.args.text.now in
-    let i = c.args.at in
-    let m = c.args.m in
-    let n = c.args.n in record {
-      meant = pair_bad t i (omega (arith, c.requires.at_in_bounds)) m n c.requires.at_in_bounds c.requires.at_value c.requires.at_value_2 c.requires.text_value (rw (c.in-45.is, ne_eqb n 62 c.if-n-eq62.false));
-      placed = tt;
-    }
+pub returns-in_default-2-clause-meant : goal.returns-in_default-2-clause-meant
+returns-in_default-2-clause-meant c =
+    let a = c.args in
+    pair_bad a.text.now a.at (omega (arith, c.requires.at_in_bounds)) a.m a.n c.requires.at_in_bounds c.requires.at_value c.requires.at_value_2 c.requires.text_value (rw (c.in_default.is-0, ne_eqb a.n 93 c.in_default.is-1.1))
 
-pub returns-else-n-eq93 : goal.returns-else-n-eq93
-returns-else-n-eq93 c =
-    let t = c.args.text.now in
-    let i = c.args.at in
-    let m = c.args.m in
-    let n = c.args.n in record {
-      meant = pair_bad t i (omega (arith, c.requires.at_in_bounds)) m n c.requires.at_in_bounds c.requires.at_value c.requires.at_value_2 c.requires.text_value (rw (c.in-91.is, ne_eqb n 93 c.if-n-eq93.false));
-      placed = tt;
-    }
-
-pub returns-else-n-eq47 : goal.returns-else-n-eq47
-returns-else-n-eq47 c =
-    let t = c.args.text.now in
-    let i = c.args.at in
-    let m = c.args.m in
-    let n = c.args.n in record {
-      meant = pair_bad t i (omega (arith, c.requires.at_in_bounds)) m n c.requires.at_in_bounds c.requires.at_value c.requires.at_value_2 c.requires.text_value (rw (c.in-47.is, ne_eqb n 47 c.if-n-eq47.false));
-      placed = tt;
-    }
+pub returns-in_default-3-clause-meant : goal.returns-in_default-3-clause-meant
+returns-in_default-3-clause-meant c =
+    let a = c.args in
+    pair_bad a.text.now a.at (omega (arith, c.requires.at_in_bounds)) a.m a.n c.requires.at_in_bounds c.requires.at_value c.requires.at_value_2 c.requires.text_value (rw (c.in_default.is-0, ne_eqb a.n 47 c.in_default.is-1.1))
