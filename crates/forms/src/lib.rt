@@ -79,11 +79,12 @@ pub fn read_each(scanner: &mut Scanner, word: &[u8]) -> Option<Each>
 {
     let element = scanner.name()?;
     scanner.expect(b"in")?;
-    let assign = read_assign(scanner, word)?;
+    let list = scanner.name()?;
+    let value = read_value(scanner, word)?;
     Some(Each {
         element,
-        list: assign.name,
-        value: assign.value,
+        list,
+        value,
     })
 }
 

@@ -40,5 +40,5 @@ FoundPlaced t at None n = Unit
 abbrev pub nothing_kept : Text → Unit {0} → Unit {0}
 nothing_kept t u = u
 
-abbrev pub anywhere : Text → Unit {0} → Type 0
-anywhere t u = Unit
+abbrev pub anywhere : {A : Type 0} → Text → A → Type 0
+anywhere t x = Unit
