@@ -4,17 +4,13 @@ use mathlib.Core.Path.{◌≡◌, refl, ap, ◌∙◌}
 use mathlib.Core.Bool.{true, false}
 use mathlib.Core.Option.{Option, none, some}
 use mathlib.Core.List.{List, ◌∷◌}
-use Prim.Native.Nat.{ℕ, ◌<◌}
-use native.Mathlib.Omega.{arith}
 use Rattle.language.specs.Text.{Text, bytes, ◌≟◌, ◌>>=◌}
 use Rattle.language.specs.Tokens.{Token, sign, ident}
 use Rattle.language.specs.Syntax.{Name, Expr, Command, set, set_delegation, exit, return}
 use Rattle.language.specs.Grammar.{the, any_expression, create_form, change_form, append_form, local_form, foreach_form, filtereach_form, delete_delegation_form, any_command, any_ending}
 use Rattle.tokens.specs.Readers.{any_sign}
 use Rattle.forms.specs.Forms.{of_expr, assign_form, delegation_form}
-use Rattle.command_readers.specs.Commands.{CommandPlaced, about_principals}
-use Rattle.command_readers.specs.declared.CommandRead.{CommandRead}
-use Rattle.command_readers.specs.declared.CommandRead.TheVariants as CommandIs
+use Rattle.command_readers.specs.Commands.{about_principals}
 use Rattle.text.proofs.Words.{same_true}
 use Rattle.tokens.proofs.Reading.{sign_none, or_else_none}
 use Rattle.forms.proofs.Phrases.{of_expr_lem}
@@ -109,8 +105,3 @@ module _ (ts : List Token) where
       → any_expression us ≡ (o >>= λ x. some (x, ws))
       → any_ending ts ≡ of_expr o return ws
   return_is ws o e f g = rw (e, f, g) (of_expr_lem o return ws)
-
--- what is past a later place is past an earlier one
-pub placed_later : (t : Text) (at n : ℕ) (r : CommandRead) → at < n → CommandPlaced t n r → CommandPlaced t at r
-placed_later t at n (CommandIs.Found c m) h p = (p.0, omega arith, p.2)
-placed_later t at n CommandIs.No h p = tt

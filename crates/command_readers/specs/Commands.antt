@@ -1,5 +1,6 @@
 -- What commands that were read mean in the terms of document 01's grammar, and where their parts stand.
-use Rattle.std.specs.Prelude.{ℕ, ◌≤◌, ◌<◌, ◌≡◌, T, List, length, drop}
+use Rattle.std.specs.Prelude.{ℕ, ◌≡◌, T, List, drop, Some, None}
+use Rattle.std.specs.Prelude as Code
 use Rattle.std.proofs.Math.Option.{Option, none, some}
 use Rattle.language.specs.Text.{Text, ◌>>=◌}
 use Rattle.language.specs.Tokens.{Token, lex}
@@ -13,8 +14,6 @@ use Rattle.command_readers.specs.declared.Administration.{Administration}
 use Rattle.command_readers.specs.declared.Administration.TheVariants.{CreatePrincipal, ChangePassword, SetDelegation, DeleteDelegation, DefaultDelegator, Exit}
 use Rattle.command_readers.specs.declared.VariableCommand.{VariableCommand}
 use Rattle.command_readers.specs.declared.VariableCommand.TheVariants.{Set, Append, Local, Foreach, Filtereach, Return}
-use Rattle.command_readers.specs.declared.CommandRead.{CommandRead}
-use Rattle.command_readers.specs.declared.CommandRead.TheVariants as CommandIs
 use Rattle.syntax.specs.Values.{expr_meant, ExprWithin}
 use Rattle.forms.specs.Forms.{right_meant, target_meant, TargetWithin}
 
@@ -66,13 +65,9 @@ pub record SomeCommand (t : Text) (c : Command) : Type 0 where
   pub within : CommandWithin t c
   pub is_valid : T (valid_command command)
 
-abbrev pub command_read_meant : Text → CommandRead → Option (Syntax.Command × List Token)
-command_read_meant t (CommandIs.Found c n) = command_meant t c >>= λ k. some (k, lex (drop n t))
-command_read_meant t CommandIs.No = none
-
-abbrev pub CommandPlaced : Text → ℕ → CommandRead → Type 0
-CommandPlaced t at (CommandIs.Found c n) = CommandWithin t c × (at < n) × (n ≤ length t)
-CommandPlaced t at CommandIs.No = Unit
+abbrev pub command_read_meant : Text → Code.Option Command → ℕ → Option (Syntax.Command × List Token)
+command_read_meant t (Some c) n = command_meant t c >>= λ k. some (k, lex (drop n t))
+command_read_meant t None n = none
 
 -- the commands about principals and what they delegate, but for `set delegation`
 abbrev pub about_principals : Reader Syntax.Command

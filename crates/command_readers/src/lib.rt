@@ -1,17 +1,19 @@
-// Readers of commands, each from the place past its first word. Every answer holds places in the text, and no copy of it.
+// Readers of commands, each past its first word. Every answer holds places in the text, and no copy of it.
 #![tactic(auto)]
 
-ghost use Rattle.std.specs.Prelude.{◌≡◌, ◌≤◌, ◌∷◌, length, drop};
+ghost use Rattle.std.specs.Prelude.{◌≡◌, ◌∷◌, drop};
 ghost use Rattle.language.specs.Text.{bytes};
 ghost use Rattle.language.specs.Tokens.{lex, sign};
 ghost use Rattle.language.specs.Grammar.{create_form, change_form, append_form, local_form, foreach_form, filtereach_form, delete_delegation_form, delegator_form, any_command, any_ending};
 ghost use Rattle.text.specs.Meaning.{part, Within};
-ghost use Rattle.command_readers.specs.Commands.{command_read_meant, CommandPlaced, about_principals};
+ghost use Rattle.tokens.specs.Readers.{ReadPlaced};
+ghost use Rattle.command_readers.specs.Commands.{command_read_meant, CommandWithin, about_principals};
 
-use forms::{AccountRead, AssignRead, DelegationRead, EachRead, Right, Target};
-use syntax::{Expr, ExprRead};
+use expression_readers::read_expression;
+use forms::{Right, Target, read_account, read_assign, read_delegation, read_each, read_value};
+use syntax::Expr;
 use text::Span;
-use tokens::reader::{Found, Next};
+use tokens::scanner::Scanner;
 use tokens::token::Token;
 
 // A command about principals and what they delegate, or the exit.
@@ -43,249 +45,180 @@ pub enum Command {
     Variable(VariableCommand),
 }
 
-#[derive(Clone, Copy)]
-pub enum CommandRead {
-    Found(Command, usize),
-    No,
-}
-
 // create principal p s
-fn create_at(text: &[u8], at: usize) -> CommandRead
-    requires { at ≤ length text.now }
-    ensures meant { command_read_meant text.now result ≡ create_form (sign (bytes "create") ∷ lex (drop at text.now)) }
-    ensures placed { CommandPlaced text.now at result }
+fn read_create(scanner: &mut Scanner) -> Option<Command>
+    ensures text { scanner.new.text ≡ scanner.old.text }
+    ensures meant { command_read_meant scanner.old.text.now result scanner.new.at ≡ create_form (sign (bytes "create") ∷ lex (drop scanner.old.at scanner.old.text.now)) }
+    ensures placed { ReadPlaced CommandWithin scanner.old.text.now scanner.old.at result scanner.new.at }
 {
-    let account = forms::account_at(text, at, b"principal");
-    let AccountRead::Found(p, s, n) = account else {
-        return CommandRead::No;
-    };
-    CommandRead::Found(
-        Command::Administer(Administration::CreatePrincipal(p, s)),
-        n,
-    )
+    let account = read_account(scanner, b"principal")?;
+    Some(Command::Administer(Administration::CreatePrincipal(account.name, account.string)))
 }
 
 // change password p s
-fn change_at(text: &[u8], at: usize) -> CommandRead
-    requires { at ≤ length text.now }
-    ensures meant { command_read_meant text.now result ≡ change_form (sign (bytes "change") ∷ lex (drop at text.now)) }
-    ensures placed { CommandPlaced text.now at result }
+fn read_change(scanner: &mut Scanner) -> Option<Command>
+    ensures text { scanner.new.text ≡ scanner.old.text }
+    ensures meant { command_read_meant scanner.old.text.now result scanner.new.at ≡ change_form (sign (bytes "change") ∷ lex (drop scanner.old.at scanner.old.text.now)) }
+    ensures placed { ReadPlaced CommandWithin scanner.old.text.now scanner.old.at result scanner.new.at }
 {
-    let account = forms::account_at(text, at, b"password");
-    let AccountRead::Found(p, s, n) = account else {
-        return CommandRead::No;
-    };
-    CommandRead::Found(Command::Administer(Administration::ChangePassword(p, s)), n)
+    let account = read_account(scanner, b"password")?;
+    Some(Command::Administer(Administration::ChangePassword(account.name, account.string)))
 }
 
-// set delegation t q right -> p, from the place `at` past its second word, which stands at `word`
-fn set_delegation_at(text: &[u8], word: Span, at: usize) -> CommandRead
-    requires at_in_bounds { at ≤ length text.now }
-    requires within { Within text.now word }
-    ensures meant { command_read_meant text.now result ≡ any_command (sign (bytes "set") ∷ sign (part text.now word) ∷ lex (drop at text.now)) }
-    ensures placed { CommandPlaced text.now at result }
+// set delegation t q right -> p, past its second word
+fn read_set_delegation(scanner: &mut Scanner, word: Span) -> Option<Command>
+    requires { Within scanner.old.text.now word }
+    ensures text { scanner.new.text ≡ scanner.old.text }
+    ensures meant { command_read_meant scanner.old.text.now result scanner.new.at ≡ any_command (sign (bytes "set") ∷ sign (part scanner.old.text.now word) ∷ lex (drop scanner.old.at scanner.old.text.now)) }
+    ensures placed { ReadPlaced CommandWithin scanner.old.text.now scanner.old.at result scanner.new.at }
 {
-    if tokens::reader::is_sign(text, word, b"delegation") {
-        let delegation = forms::delegation_at(text, at);
-        let DelegationRead::Found(t, q, r, p, n) = delegation else {
-            return CommandRead::No;
-        };
-        return CommandRead::Found(
-            Command::Administer(Administration::SetDelegation(t, q, r, p)),
-            n,
-        );
+    if !scanner.is(word, b"delegation") {
+        return None;
     }
-    CommandRead::No
+    let d = read_delegation(scanner)?;
+    Some(Command::Administer(Administration::SetDelegation(d.target, d.from, d.right, d.to)))
 }
 
 // set x = e, or set delegation t q right -> p
-fn set_at(text: &[u8], at: usize) -> CommandRead
-    requires { at ≤ length text.now }
-    ensures meant { command_read_meant text.now result ≡ any_command (sign (bytes "set") ∷ lex (drop at text.now)) }
-    ensures placed { CommandPlaced text.now at result }
+fn read_set(scanner: &mut Scanner) -> Option<Command>
+    ensures text { scanner.new.text ≡ scanner.old.text }
+    ensures meant { command_read_meant scanner.old.text.now result scanner.new.at ≡ any_command (sign (bytes "set") ∷ lex (drop scanner.old.at scanner.old.text.now)) }
+    ensures placed { ReadPlaced CommandWithin scanner.old.text.now scanner.old.at result scanner.new.at }
 {
-    let t = tokens::scanner::first_token(text, at);
-    match t {
-        Token::End => CommandRead::No,
-        Token::Sign(s, n) => set_delegation_at(text, s, n),
-        Token::Name(x, n) => {
-            let value = forms::value_at(text, n, b"=");
-            let ExprRead::Found(e, m) = value else {
-                return CommandRead::No;
-            };
-            CommandRead::Found(Command::Variable(VariableCommand::Set(x, e)), m)
+    match scanner.token() {
+        Token::Sign(s) => read_set_delegation(scanner, s),
+        Token::Name(x) => {
+            let value = read_value(scanner, b"=")?;
+            Some(Command::Variable(VariableCommand::Set(x, value)))
         }
-        Token::Quoted(_, _) => CommandRead::No,
-        Token::Wrong => CommandRead::No,
+        _ => None,
     }
 }
 
 // append to x with e
-fn append_at(text: &[u8], at: usize) -> CommandRead
-    requires { at ≤ length text.now }
-    ensures meant { command_read_meant text.now result ≡ append_form (sign (bytes "append") ∷ lex (drop at text.now)) }
-    ensures placed { CommandPlaced text.now at result }
+fn read_append(scanner: &mut Scanner) -> Option<Command>
+    ensures text { scanner.new.text ≡ scanner.old.text }
+    ensures meant { command_read_meant scanner.old.text.now result scanner.new.at ≡ append_form (sign (bytes "append") ∷ lex (drop scanner.old.at scanner.old.text.now)) }
+    ensures placed { ReadPlaced CommandWithin scanner.old.text.now scanner.old.at result scanner.new.at }
 {
-    let key = tokens::reader::expect(text, at, b"to");
-    let Next::At(a) = key else {
-        return CommandRead::No;
-    };
-    let assign = forms::assign_at(text, a, b"with");
-    let AssignRead::Found(x, e, n) = assign else {
-        return CommandRead::No;
-    };
-    CommandRead::Found(Command::Variable(VariableCommand::Append(x, e)), n)
+    scanner.expect(b"to")?;
+    let assign = read_assign(scanner, b"with")?;
+    Some(Command::Variable(VariableCommand::Append(assign.name, assign.value)))
 }
 
 // local x = e
-fn local_at(text: &[u8], at: usize) -> CommandRead
-    requires { at ≤ length text.now }
-    ensures meant { command_read_meant text.now result ≡ local_form (sign (bytes "local") ∷ lex (drop at text.now)) }
-    ensures placed { CommandPlaced text.now at result }
+fn read_local(scanner: &mut Scanner) -> Option<Command>
+    ensures text { scanner.new.text ≡ scanner.old.text }
+    ensures meant { command_read_meant scanner.old.text.now result scanner.new.at ≡ local_form (sign (bytes "local") ∷ lex (drop scanner.old.at scanner.old.text.now)) }
+    ensures placed { ReadPlaced CommandWithin scanner.old.text.now scanner.old.at result scanner.new.at }
 {
-    let assign = forms::assign_at(text, at, b"=");
-    let AssignRead::Found(x, e, n) = assign else {
-        return CommandRead::No;
-    };
-    CommandRead::Found(Command::Variable(VariableCommand::Local(x, e)), n)
+    let assign = read_assign(scanner, b"=")?;
+    Some(Command::Variable(VariableCommand::Local(assign.name, assign.value)))
 }
 
 // foreach y in x replacewith e
-fn foreach_at(text: &[u8], at: usize) -> CommandRead
-    requires { at ≤ length text.now }
-    ensures meant { command_read_meant text.now result ≡ foreach_form (sign (bytes "foreach") ∷ lex (drop at text.now)) }
-    ensures placed { CommandPlaced text.now at result }
+fn read_foreach(scanner: &mut Scanner) -> Option<Command>
+    ensures text { scanner.new.text ≡ scanner.old.text }
+    ensures meant { command_read_meant scanner.old.text.now result scanner.new.at ≡ foreach_form (sign (bytes "foreach") ∷ lex (drop scanner.old.at scanner.old.text.now)) }
+    ensures placed { ReadPlaced CommandWithin scanner.old.text.now scanner.old.at result scanner.new.at }
 {
-    let each = forms::each_at(text, at, b"replacewith");
-    let EachRead::Found(y, x, e, n) = each else {
-        return CommandRead::No;
-    };
-    CommandRead::Found(Command::Variable(VariableCommand::Foreach(y, x, e)), n)
+    let each = read_each(scanner, b"replacewith")?;
+    Some(Command::Variable(VariableCommand::Foreach(each.element, each.list, each.value)))
 }
 
 // filtereach y in x with e
-fn filtereach_at(text: &[u8], at: usize) -> CommandRead
-    requires { at ≤ length text.now }
-    ensures meant { command_read_meant text.now result ≡ filtereach_form (sign (bytes "filtereach") ∷ lex (drop at text.now)) }
-    ensures placed { CommandPlaced text.now at result }
+fn read_filtereach(scanner: &mut Scanner) -> Option<Command>
+    ensures text { scanner.new.text ≡ scanner.old.text }
+    ensures meant { command_read_meant scanner.old.text.now result scanner.new.at ≡ filtereach_form (sign (bytes "filtereach") ∷ lex (drop scanner.old.at scanner.old.text.now)) }
+    ensures placed { ReadPlaced CommandWithin scanner.old.text.now scanner.old.at result scanner.new.at }
 {
-    let each = forms::each_at(text, at, b"with");
-    let EachRead::Found(y, x, e, n) = each else {
-        return CommandRead::No;
-    };
-    CommandRead::Found(Command::Variable(VariableCommand::Filtereach(y, x, e)), n)
+    let each = read_each(scanner, b"with")?;
+    Some(Command::Variable(VariableCommand::Filtereach(each.element, each.list, each.value)))
 }
 
 // delete delegation t q right -> p
-fn delete_at(text: &[u8], at: usize) -> CommandRead
-    requires { at ≤ length text.now }
-    ensures meant { command_read_meant text.now result ≡ delete_delegation_form (sign (bytes "delete") ∷ lex (drop at text.now)) }
-    ensures placed { CommandPlaced text.now at result }
+fn read_delete(scanner: &mut Scanner) -> Option<Command>
+    ensures text { scanner.new.text ≡ scanner.old.text }
+    ensures meant { command_read_meant scanner.old.text.now result scanner.new.at ≡ delete_delegation_form (sign (bytes "delete") ∷ lex (drop scanner.old.at scanner.old.text.now)) }
+    ensures placed { ReadPlaced CommandWithin scanner.old.text.now scanner.old.at result scanner.new.at }
 {
-    let key = tokens::reader::expect(text, at, b"delegation");
-    let Next::At(a) = key else {
-        return CommandRead::No;
-    };
-    let delegation = forms::delegation_at(text, a);
-    let DelegationRead::Found(t, q, r, p, n) = delegation else {
-        return CommandRead::No;
-    };
-    CommandRead::Found(
-        Command::Administer(Administration::DeleteDelegation(t, q, r, p)),
-        n,
-    )
+    scanner.expect(b"delegation")?;
+    let d = read_delegation(scanner)?;
+    Some(Command::Administer(Administration::DeleteDelegation(d.target, d.from, d.right, d.to)))
 }
 
 // default delegator = p
-fn default_at(text: &[u8], at: usize) -> CommandRead
-    requires { at ≤ length text.now }
-    ensures meant { command_read_meant text.now result ≡ delegator_form (sign (bytes "default") ∷ lex (drop at text.now)) }
-    ensures placed { CommandPlaced text.now at result }
+fn read_default(scanner: &mut Scanner) -> Option<Command>
+    ensures text { scanner.new.text ≡ scanner.old.text }
+    ensures meant { command_read_meant scanner.old.text.now result scanner.new.at ≡ delegator_form (sign (bytes "default") ∷ lex (drop scanner.old.at scanner.old.text.now)) }
+    ensures placed { ReadPlaced CommandWithin scanner.old.text.now scanner.old.at result scanner.new.at }
 {
-    let key = tokens::reader::expect(text, at, b"delegator");
-    let Next::At(a) = key else {
-        return CommandRead::No;
-    };
-    let equals = tokens::reader::expect(text, a, b"=");
-    let Next::At(b) = equals else {
-        return CommandRead::No;
-    };
-    let name = tokens::reader::name_at(text, b);
-    let Found::At(p, n) = name else {
-        return CommandRead::No;
-    };
-    CommandRead::Found(Command::Administer(Administration::DefaultDelegator(p)), n)
+    scanner.expect(b"delegator")?;
+    scanner.expect(b"=")?;
+    let name = scanner.name()?;
+    Some(Command::Administer(Administration::DefaultDelegator(name)))
 }
 
-// A command about principals, by its first word, which stands at `word`; `at` is the place past it.
-fn principal_command(text: &[u8], word: Span, at: usize) -> CommandRead
-    requires at_in_bounds { at ≤ length text.now }
-    requires within { Within text.now word }
-    ensures meant { command_read_meant text.now result ≡ about_principals (sign (part text.now word) ∷ lex (drop at text.now)) }
-    ensures placed { CommandPlaced text.now at result }
+// A command about principals, by its first word, which was read.
+fn read_about_principals(scanner: &mut Scanner, word: Span) -> Option<Command>
+    requires { Within scanner.old.text.now word }
+    ensures text { scanner.new.text ≡ scanner.old.text }
+    ensures meant { command_read_meant scanner.old.text.now result scanner.new.at ≡ about_principals (sign (part scanner.old.text.now word) ∷ lex (drop scanner.old.at scanner.old.text.now)) }
+    ensures placed { ReadPlaced CommandWithin scanner.old.text.now scanner.old.at result scanner.new.at }
 {
-    if tokens::reader::is_sign(text, word, b"create") {
-        return create_at(text, at);
+    if scanner.is(word, b"create") {
+        return read_create(scanner);
     }
-    if tokens::reader::is_sign(text, word, b"change") {
-        return change_at(text, at);
+    if scanner.is(word, b"change") {
+        return read_change(scanner);
     }
-    if tokens::reader::is_sign(text, word, b"delete") {
-        return delete_at(text, at);
+    if scanner.is(word, b"delete") {
+        return read_delete(scanner);
     }
-    if tokens::reader::is_sign(text, word, b"default") {
-        return default_at(text, at);
+    if scanner.is(word, b"default") {
+        return read_default(scanner);
     }
-    CommandRead::No
+    None
 }
 
 // A command, by its first word.
-pub fn command_at(text: &[u8], at: usize) -> CommandRead
-    requires { at ≤ length text.now }
-    ensures meant { command_read_meant text.now result ≡ any_command (lex (drop at text.now)) }
-    ensures placed { CommandPlaced text.now at result }
+pub fn read_command(scanner: &mut Scanner) -> Option<Command>
+    ensures text { scanner.new.text ≡ scanner.old.text }
+    ensures meant { command_read_meant scanner.old.text.now result scanner.new.at ≡ any_command (lex (drop scanner.old.at scanner.old.text.now)) }
+    ensures placed { ReadPlaced CommandWithin scanner.old.text.now scanner.old.at result scanner.new.at }
 {
-    let sign = tokens::reader::sign_at(text, at);
-    let Found::At(s, n) = sign else {
-        return CommandRead::No;
-    };
-    if tokens::reader::is_sign(text, s, b"set") {
-        return set_at(text, n);
+    let word = scanner.sign()?;
+    if scanner.is(word, b"set") {
+        return read_set(scanner);
     }
-    if tokens::reader::is_sign(text, s, b"append") {
-        return append_at(text, n);
+    if scanner.is(word, b"append") {
+        return read_append(scanner);
     }
-    if tokens::reader::is_sign(text, s, b"local") {
-        return local_at(text, n);
+    if scanner.is(word, b"local") {
+        return read_local(scanner);
     }
-    if tokens::reader::is_sign(text, s, b"foreach") {
-        return foreach_at(text, n);
+    if scanner.is(word, b"foreach") {
+        return read_foreach(scanner);
     }
-    if tokens::reader::is_sign(text, s, b"filtereach") {
-        return filtereach_at(text, n);
+    if scanner.is(word, b"filtereach") {
+        return read_filtereach(scanner);
     }
-    principal_command(text, s, n)
+    read_about_principals(scanner, word)
 }
 
 // What ends a program: exit, or return e.
-pub fn ending_at(text: &[u8], at: usize) -> CommandRead
-    requires { at ≤ length text.now }
-    ensures meant { command_read_meant text.now result ≡ any_ending (lex (drop at text.now)) }
-    ensures placed { CommandPlaced text.now at result }
+pub fn read_ending(scanner: &mut Scanner) -> Option<Command>
+    ensures text { scanner.new.text ≡ scanner.old.text }
+    ensures meant { command_read_meant scanner.old.text.now result scanner.new.at ≡ any_ending (lex (drop scanner.old.at scanner.old.text.now)) }
+    ensures placed { ReadPlaced CommandWithin scanner.old.text.now scanner.old.at result scanner.new.at }
 {
-    let sign = tokens::reader::sign_at(text, at);
-    let Found::At(s, a) = sign else {
-        return CommandRead::No;
-    };
-    if tokens::reader::is_sign(text, s, b"exit") {
-        return CommandRead::Found(Command::Administer(Administration::Exit), a);
+    let word = scanner.sign()?;
+    if scanner.is(word, b"exit") {
+        return Some(Command::Administer(Administration::Exit));
     }
-    if tokens::reader::is_sign(text, s, b"return") {
-        let expr = expression_readers::expression_at(text, a);
-        let ExprRead::Found(e, n) = expr else {
-            return CommandRead::No;
-        };
-        return CommandRead::Found(Command::Variable(VariableCommand::Return(e)), n);
+    if scanner.is(word, b"return") {
+        let value = read_expression(scanner)?;
+        return Some(Command::Variable(VariableCommand::Return(value)));
     }
-    CommandRead::No
+    None
 }

@@ -45,18 +45,6 @@ module _ {A : Type 0} where
   all_spent (some a) [] e = refl
   all_spent (some a) (u ∷ us) e = cc
 
--- ---- the first line
-pub login_is :
-    (ts : List Token) {us vs ws xs ys zs : List Token} {p : Syntax.Name} {s : Text}
-    → the "as" ts ≡ some (tt, us)
-    → the "principal" us ≡ some (tt, vs)
-    → any_name vs ≡ some (p, ws)
-    → the "password" ws ≡ some (tt, xs)
-    → any_string xs ≡ some (s, ys)
-    → the "do" ys ≡ some (tt, zs)
-    → any_login ts ≡ some (record { sender = p; password = s }, zs)
-login_is ts a b c d e f = rw (a, b, c, d, e, f)
-
 -- ---- what was read means something
 pub command_meant_lem : (t : Text) (c : Command) → CommandWithin t c → present (command_meant t c) ≡ true
 command_meant_lem t (Administer (CreatePrincipal p s)) h = refl

@@ -1,15 +1,14 @@
 -- What whole lines that were read mean in the terms of document 01, and where their parts stand.
-use Rattle.std.specs.Prelude.{Bool, true, false, List, [], ◌∷◌}
+use Rattle.std.specs.Prelude.{Bool, true, false, List, [], ◌∷◌, Some, None}
+use Rattle.std.specs.Prelude as Code
 use Rattle.std.proofs.Math.Option.{Option, none, some}
 use Rattle.language.specs.Text.{Text}
 use Rattle.language.specs.Tokens.{Token}
 use Rattle.language.specs.Syntax as Syntax
 use Rattle.language.specs.Grammar.{Opening}
 use Rattle.text.specs.Meaning.{part, Within}
-use Rattle.line_readers.specs.declared.LineRead.{LineRead}
-use Rattle.line_readers.specs.declared.LineRead.TheVariants as LineReadIs
-use Rattle.line_readers.specs.declared.LoginRead.{LoginRead}
-use Rattle.line_readers.specs.declared.LoginRead.TheVariants as LoginIs
+use Rattle.line_readers.specs.declared.Login.{Login}
+use Rattle.command_readers.specs.declared.Command.{Command}
 use Rattle.command_readers.specs.Commands.{command_meant, CommandWithin}
 
 abbrev pub is_nil : List Token → Bool
@@ -17,18 +16,24 @@ is_nil [] = true
 is_nil (t ∷ ts) = false
 
 -- ---- a whole line
-abbrev pub line_read_meant : Text → LineRead → Option Syntax.Command
-line_read_meant t (LineReadIs.Found c) = command_meant t c
-line_read_meant t LineReadIs.No = none
+abbrev pub line_read_meant : Text → Code.Option Command → Option Syntax.Command
+line_read_meant t (Some c) = command_meant t c
+line_read_meant t None = none
 
-abbrev pub LineWithin : Text → LineRead → Type 0
-LineWithin t (LineReadIs.Found c) = CommandWithin t c
-LineWithin t LineReadIs.No = Unit
+abbrev pub LineWithin : Text → Code.Option Command → Type 0
+LineWithin t (Some c) = CommandWithin t c
+LineWithin t None = Unit
 
-abbrev pub login_meant : Text → LoginRead → Option Opening
-login_meant t (LoginIs.Found p s) = some (record { sender = part t p; password = part t s })
-login_meant t LoginIs.No = none
+abbrev pub opening_of : Text → Login → Opening
+opening_of t l = record { sender = part t l.sender; password = part t l.password }
 
-abbrev pub LoginWithin : Text → LoginRead → Type 0
-LoginWithin t (LoginIs.Found p s) = Within t p × Within t s
-LoginWithin t LoginIs.No = Unit
+abbrev pub OpeningWithin : Text → Login → Type 0
+OpeningWithin t l = Within t l.sender × Within t l.password
+
+abbrev pub login_meant : Text → Code.Option Login → Option Opening
+login_meant t (Some l) = some (opening_of t l)
+login_meant t None = none
+
+abbrev pub LoginWithin : Text → Code.Option Login → Type 0
+LoginWithin t (Some l) = OpeningWithin t l
+LoginWithin t None = Unit

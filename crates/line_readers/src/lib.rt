@@ -5,104 +5,86 @@ ghost use Rattle.std.specs.Prelude.{◌≡◌, ◌≤◌, length, drop};
 ghost use Rattle.language.specs.Tokens.{lex};
 ghost use Rattle.language.specs.Programs.{login_line, command_line, ending_line};
 ghost use Rattle.program_lines.specs.Lines.{line_from};
-ghost use Rattle.line_readers.specs.WholeLines.{is_nil, line_read_meant, LineWithin, login_meant, LoginWithin};
+ghost use Rattle.language.specs.Grammar.{any_login};
+ghost use Rattle.tokens.specs.Readers.{read_meant, ReadPlaced};
+ghost use Rattle.line_readers.specs.WholeLines.{is_nil, line_read_meant, LineWithin, opening_of, OpeningWithin, login_meant, LoginWithin};
 
-use command_readers::{Command, CommandRead};
+use command_readers::{Command, read_command, read_ending};
 use text::Span;
-use tokens::reader::{Found, Next};
+use tokens::scanner::Scanner;
 use tokens::token::Token;
 
 // Whether the line ends here, perhaps after a comment.
-fn ends_at(text: &[u8], at: usize) -> bool
-    requires { at ≤ length text.now }
-    ensures { result ≡ is_nil (lex (drop at text.now)) }
+fn ends(scanner: &mut Scanner) -> bool
+    ensures text { scanner.new.text ≡ scanner.old.text }
+    ensures ended { result ≡ is_nil (lex (drop scanner.old.at scanner.old.text.now)) }
 {
-    let t = tokens::scanner::first_token(text, at);
-    match t {
-        Token::End => true,
-        Token::Sign(_, _) => false,
-        Token::Name(_, _) => false,
-        Token::Quoted(_, _) => false,
-        Token::Wrong => false,
-    }
+    matches!(&scanner.token(), Token::End)
 }
 
 // A line that is a command.
-#[derive(Clone, Copy)]
-pub enum LineRead {
-    Found(Command),
-    No,
-}
-
-pub fn command_line(text: &[u8], at: usize) -> LineRead
+pub fn command_line(text: &[u8], at: usize) -> Option<Command>
     requires { at ≤ length text.now }
     ensures meant { line_read_meant text.now result ≡ command_line (line_from text.now at) }
     ensures placed { LineWithin text.now result }
 {
-    let command = command_readers::command_at(text, at);
-    let CommandRead::Found(c, n) = command else {
-        return LineRead::No;
-    };
-    if !ends_at(text, n) {
-        return LineRead::No;
+    let mut scanner = Scanner { text, at };
+    let command = read_command(&mut scanner)?;
+    if ends(&mut scanner) {
+        Some(command)
+    } else {
+        None
     }
-    LineRead::Found(c)
 }
 
-pub fn ending_line(text: &[u8], at: usize) -> LineRead
+// A line that ends a program.
+pub fn ending_line(text: &[u8], at: usize) -> Option<Command>
     requires { at ≤ length text.now }
     ensures meant { line_read_meant text.now result ≡ ending_line (line_from text.now at) }
     ensures placed { LineWithin text.now result }
 {
-    let ending = command_readers::ending_at(text, at);
-    let CommandRead::Found(c, n) = ending else {
-        return LineRead::No;
-    };
-    if !ends_at(text, n) {
-        return LineRead::No;
+    let mut scanner = Scanner { text, at };
+    let ending = read_ending(&mut scanner)?;
+    if ends(&mut scanner) {
+        Some(ending)
+    } else {
+        None
     }
-    LineRead::Found(c)
 }
 
 // The line that names the sender and gives the password.
 #[derive(Clone, Copy)]
-pub enum LoginRead {
-    Found(Span, Span),
-    No,
+pub struct Login {
+    pub sender: Span,
+    pub password: Span,
 }
 
 // as principal p password s do
-pub fn login_line(text: &[u8], at: usize) -> LoginRead
+fn read_login(scanner: &mut Scanner) -> Option<Login>
+    ensures text { scanner.new.text ≡ scanner.old.text }
+    ensures meant { read_meant opening_of scanner.old.text.now result scanner.new.at ≡ any_login (lex (drop scanner.old.at scanner.old.text.now)) }
+    ensures placed { ReadPlaced OpeningWithin scanner.old.text.now scanner.old.at result scanner.new.at }
+{
+    scanner.expect(b"as")?;
+    scanner.expect(b"principal")?;
+    let sender = scanner.name()?;
+    scanner.expect(b"password")?;
+    let password = scanner.string()?;
+    scanner.expect(b"do")?;
+    Some(Login { sender, password })
+}
+
+// The first line of a program.
+pub fn login_line(text: &[u8], at: usize) -> Option<Login>
     requires { at ≤ length text.now }
     ensures meant { login_meant text.now result ≡ login_line (line_from text.now at) }
     ensures placed { LoginWithin text.now result }
 {
-    let one = tokens::reader::expect(text, at, b"as");
-    let Next::At(a) = one else {
-        return LoginRead::No;
-    };
-    let two = tokens::reader::expect(text, a, b"principal");
-    let Next::At(b) = two else {
-        return LoginRead::No;
-    };
-    let name = tokens::reader::name_at(text, b);
-    let Found::At(p, d) = name else {
-        return LoginRead::No;
-    };
-    let three = tokens::reader::expect(text, d, b"password");
-    let Next::At(e) = three else {
-        return LoginRead::No;
-    };
-    let string = tokens::reader::string_at(text, e);
-    let Found::At(s, f) = string else {
-        return LoginRead::No;
-    };
-    let four = tokens::reader::expect(text, f, b"do");
-    let Next::At(n) = four else {
-        return LoginRead::No;
-    };
-    if !ends_at(text, n) {
-        return LoginRead::No;
+    let mut scanner = Scanner { text, at };
+    let login = read_login(&mut scanner)?;
+    if ends(&mut scanner) {
+        Some(login)
+    } else {
+        None
     }
-    LoginRead::Found(p, s)
 }

@@ -18,7 +18,7 @@ use Rattle.language.proofs.Parsing.Parsing.{command_line_valid, ending_line_vali
 use Rattle.command_readers.specs.declared.Command as Places
 use Rattle.command_readers.specs.Commands.{command_meant, CommandWithin}
 use Rattle.program_lines.specs.Lines.{written_from, ahead, line_from, line_length}
-use Rattle.parser.specs.declared.Rest.TheVariants.{At, End}
+use Rattle.std.proofs.Common.{Some, None}
 use Rattle.parser.specs.Bodies.{is_empty, body_from, First}
 use Rattle.line_readers.proofs.Wholes.{command_meant_lem}
 use Rattle.parser.proofs.Bodies.{command_body, ending_body, neither_body, ending_more}
@@ -34,10 +34,10 @@ module _ (t : Text) (at s n : ℕ) (later : at ≤ s) (past : s + line_length t 
   from_here : {o : Option (List Command)} → (ahead (line_from t s) (written_from t n) >>= body) ≡ o → body_from t at ≡ o
   from_here e = ap (λ (z : Option (List Text)). z >>= body) lines ∙ e
 
-  pub first_command : (c : Places.Command) → CommandWithin t c → command_line (line_from t s) ≡ command_meant t c → First t at c (At n)
+  pub first_command : (c : Places.Command) → CommandWithin t c → command_line (line_from t s) ≡ command_meant t c → First t at c (Some n)
   first_command c w e = go (command_meant t c) refl (command_meant_lem t c w)
     where
-      go : (m : Option Command) → command_meant t c ≡ m → present m ≡ true → First t at c (At n)
+      go : (m : Option Command) → command_meant t c ≡ m → present m ≡ true → First t at c (Some n)
       go none q h = absurd (let z : ◌≡◌ {A = ℕ} 0 1 = cc in omega arith)
       go (some k) q h =
           let K : Inner k × (least_room k ≤ length (line_from t s)) =
@@ -53,10 +53,10 @@ module _ (t : Text) (at s n : ℕ) (later : at ≤ s) (past : s + line_length t 
           }
 
   module _ (inner : command_line (line_from t s) ≡ none) where
-    pub first_ending : (c : Places.Command) → CommandWithin t c → ending_line (line_from t s) ≡ command_meant t c → is_empty (written_from t n) ≡ true → First t at c End
+    pub first_ending : (c : Places.Command) → CommandWithin t c → ending_line (line_from t s) ≡ command_meant t c → is_empty (written_from t n) ≡ true → First t at c None
     first_ending c w e z = go (command_meant t c) refl (command_meant_lem t c w)
       where
-        go : (m : Option Command) → command_meant t c ≡ m → present m ≡ true → First t at c End
+        go : (m : Option Command) → command_meant t c ≡ m → present m ≡ true → First t at c None
         go none q h = absurd (let z : ◌≡◌ {A = ℕ} 0 1 = cc in omega arith)
         go (some k) q h =
             let K : Ending k × (least_room k ≤ length (line_from t s)) =

@@ -1,5 +1,6 @@
 -- What the answers about a program's login and its commands mean in the terms of document 01.
-use Rattle.std.specs.Prelude.{ℕ, ◌+◌, ◌≤◌, ◌≡◌, Bool, true, false, List, [], ◌∷◌, T, length}
+use Rattle.std.specs.Prelude.{ℕ, ◌+◌, ◌≤◌, ◌≡◌, Bool, true, false, List, [], ◌∷◌, T, length, Some, None}
+use Rattle.std.specs.Prelude as Code
 use Rattle.std.proofs.Math.Option.{Option, none, some}
 use Rattle.language.specs.Text.{Text, ◌>>=◌}
 use Rattle.language.specs.Syntax as Syntax
@@ -11,11 +12,7 @@ use Rattle.text.specs.Meaning.{part, Within}
 use Rattle.command_readers.specs.declared.Command as Places
 use Rattle.command_readers.specs.Commands.{command_meant, CommandWithin}
 use Rattle.parser.specs.declared.Head.{Head}
-use Rattle.parser.specs.declared.Head.TheVariants.{Login, No}
-use Rattle.parser.specs.declared.Rest.{Rest}
-use Rattle.parser.specs.declared.Rest.TheVariants.{At, End}
 use Rattle.parser.specs.declared.Read.{Read}
-use Rattle.parser.specs.declared.Read.TheVariants.{Command, Broken}
 use Rattle.program_lines.specs.Lines.{written_from}
 
 -- nothing but `***` is left
@@ -33,30 +30,30 @@ abbrev pub with_body : Opening → Option (List Syntax.Command) → Option Synta
 with_body p o = o >>= λ cs. some (record { sender = p.sender; password = p.password; commands = cs })
 
 -- what the whole text is
-abbrev pub head_meant : Text → Head → Option Syntax.Program
-head_meant t (Login s w at) = with_body (record { sender = part t s; password = part t w }) (body_from t at)
-head_meant t No = none
+abbrev pub head_meant : Text → Code.Option Head → Option Syntax.Program
+head_meant t (Some h) = with_body (record { sender = part t h.sender; password = part t h.password }) (body_from t h.at)
+head_meant t None = none
 
-abbrev pub HeadWithin : Text → Head → Type 0
-HeadWithin t (Login s w at) = Within t s × Within t w × (at ≤ length t) × (length t ≤ longest)
-HeadWithin t No = Unit
+abbrev pub HeadWithin : Text → Code.Option Head → Type 0
+HeadWithin t (Some h) = Within t h.sender × Within t h.password × (h.at ≤ length t) × (length t ≤ longest)
+HeadWithin t None = Unit
 
 -- ---- a command, and what follows it
-abbrev pub is_last : Rest → Bool
-is_last (At n) = false
-is_last End = true
+abbrev pub is_last : Code.Option ℕ → Bool
+is_last (Some n) = false
+is_last None = true
 
-abbrev pub rest_from : Text → Rest → Option (List Syntax.Command)
-rest_from t (At n) = body_from t n
-rest_from t End = some []
+abbrev pub rest_from : Text → Code.Option ℕ → Option (List Syntax.Command)
+rest_from t (Some n) = body_from t n
+rest_from t None = some []
 
 -- the command k has room before the next line, or before the text's end
-abbrev pub RestPlaced : Text → ℕ → Syntax.Command → Rest → Type 0
-RestPlaced t at k (At n) = (at + command_room k ≤ n) × (n ≤ length t)
-RestPlaced t at k End = at + command_room k ≤ length t
+abbrev pub RestPlaced : Text → ℕ → Syntax.Command → Code.Option ℕ → Type 0
+RestPlaced t at k (Some n) = (at + command_room k ≤ n) × (n ≤ length t)
+RestPlaced t at k None = at + command_room k ≤ length t
 
 -- the command at the places c is the first of the lines from `at` on, and valid
-pub record First (t : Text) (at : ℕ) (c : Places.Command) (rest : Rest) : Type 0 where
+pub record First (t : Text) (at : ℕ) (c : Places.Command) (rest : Code.Option ℕ) : Type 0 where
   pub command : Syntax.Command
   pub meant : command_meant t c ≡ some command
   pub within : CommandWithin t c
@@ -65,6 +62,6 @@ pub record First (t : Text) (at : ℕ) (c : Places.Command) (rest : Rest) : Type
   pub placed : RestPlaced t at command rest
   pub all : body_from t at ≡ (rest_from t rest >>= λ cs. some (command ∷ cs))
 
-abbrev pub ReadFrom : Text → ℕ → Read → Type 0
-ReadFrom t at (Command c rest) = First t at c rest
-ReadFrom t at Broken = body_from t at ≡ none
+abbrev pub ReadFrom : Text → ℕ → Code.Option Read → Type 0
+ReadFrom t at (Some r) = First t at r.command r.rest
+ReadFrom t at None = body_from t at ≡ none

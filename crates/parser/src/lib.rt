@@ -8,59 +8,44 @@ ghost use Rattle.program_lines.specs.Lines.{written_from};
 ghost use Rattle.parser.specs.Bodies.{is_empty, body_from, head_meant, HeadWithin, ReadFrom};
 
 use command_readers::Command;
-use line_readers::{LineRead, LoginRead};
-use program_lines::Step;
+use line_readers::{command_line, ending_line, login_line};
+use program_lines::{Step, next_line};
 use text::Span;
 
 // The login of a text: who sends it, the password, and where its commands start.
 #[derive(Clone, Copy)]
-pub enum Head {
-    Login {
-        sender: Span,
-        password: Span,
-        at: usize,
-    },
-    No,
+pub struct Head {
+    pub sender: Span,
+    pub password: Span,
+    pub at: usize,
 }
 
 // The login that a text starts with, if it is not too long.
-pub fn login(text: &[u8]) -> Head
+pub fn login(text: &[u8]) -> Option<Head>
     ensures meant { parse text.now ≡ head_meant text.now result }
     ensures placed { HeadWithin text.now result }
 {
     if text.len() > 16384 {
-        return Head::No;
+        return None;
     }
-    let step = program_lines::next_line(text, 0);
-    match step {
+    match next_line(text, 0) {
         Step::Tokens(s, at) => {
-            let first = line_readers::login_line(text, s);
-            let LoginRead::Found(sender, password) = first else {
-                return Head::No;
-            };
-            Head::Login {
-                sender,
-                password,
+            let login = login_line(text, s)?;
+            Some(Head {
+                sender: login.sender,
+                password: login.password,
                 at,
-            }
+            })
         }
-        Step::Stars => Head::No,
-        Step::Broken => Head::No,
+        Step::Stars | Step::Broken => None,
     }
 }
 
-// What follows a command: further lines from a place on, or nothing, for it ends the program.
+// A command, and where further lines follow it; where none do, it ends the program.
 #[derive(Clone, Copy)]
-pub enum Rest {
-    At(usize),
-    End,
-}
-
-// A command and what follows it; or lines that are not the rest of a program.
-#[derive(Clone, Copy)]
-pub enum Read {
-    Command(Command, Rest),
-    Broken,
+pub struct Read {
+    pub command: Command,
+    pub rest: Option<usize>,
 }
 
 // Whether nothing but `***` follows from `at` on.
@@ -68,37 +53,32 @@ fn stars_at(text: &[u8], at: usize) -> bool
     requires { at ≤ length text.now }
     ensures { result ≡ is_empty (written_from text.now at) }
 {
-    let step = program_lines::next_line(text, at);
-    match step {
-        Step::Tokens(_, _) => false,
-        Step::Stars => true,
-        Step::Broken => false,
-    }
+    matches!(&next_line(text, at), Step::Stars)
 }
 
-// The first command of the lines from `at` on.
-pub fn read_at(text: &[u8], at: usize) -> Read
+// The first command of the lines from `at` on; none where they are not the rest of a program.
+pub fn read_at(text: &[u8], at: usize) -> Option<Read>
     requires { at ≤ length text.now }
     ensures { ReadFrom text.now at result }
 {
-    let step = program_lines::next_line(text, at);
-    match step {
+    match next_line(text, at) {
         Step::Tokens(s, n) => {
-            let line = line_readers::command_line(text, s);
-            if let LineRead::Found(c) = line {
-                return Read::Command(c, Rest::At(n));
+            if let Some(command) = command_line(text, s) {
+                return Some(Read {
+                    command,
+                    rest: Some(n),
+                });
             }
-            let ending = line_readers::ending_line(text, s);
-            let LineRead::Found(c) = ending else {
-                return Read::Broken;
-            };
+            let command = ending_line(text, s)?;
             if !stars_at(text, n) {
-                return Read::Broken;
+                return None;
             }
-            Read::Command(c, Rest::End)
+            Some(Read {
+                command,
+                rest: None,
+            })
         }
-        Step::Stars => Read::Broken,
-        Step::Broken => Read::Broken,
+        Step::Stars | Step::Broken => None,
     }
 }
 
@@ -108,14 +88,11 @@ pub fn body_at(text: &[u8], at: usize) -> bool
     ensures { result ≡ present (body_from text.now at) }
 {
     let mut p = at;
-    loop {
-        let read = read_at(text, p);
-        let Read::Command(_, rest) = read else {
-            return false;
-        };
-        let Rest::At(n) = rest else {
+    while let Some(read) = read_at(text, p) {
+        let Some(next) = read.rest else {
             return true;
         };
-        p = n;
+        p = next;
     }
+    false
 }

@@ -1,46 +1,28 @@
 use mathlib.Core.Path.{sym, ap, ◌∙◌}
 use native.Mathlib.Omega.{arith}
-use borrow.Author.Rules.{rules}
 use lib.ListN.{drop}
+use Rattle.std.proofs.lemmas.Grind.{common_steps}
 use Rattle.language.specs.Tokens.{lex}
-use Rattle.tokens.proofs.Reading.{told, known}
-use borrow.Author.Tests.{not-true, not-false}
 use Rattle.language.specs.Grammar.{spent}
-use Rattle.command_readers.specs.Commands.{command_meant, command_read_meant, CommandPlaced}
+use Rattle.command_readers.specs.Commands.{command_meant}
 use Rattle.line_readers.proofs.Wholes.{command_tokens, not_spent, all_spent}
 use Rattle.line_readers.proofs.command_line.Goals as goal
 
-pub returns-in_default : goal.returns-in_default
-returns-in_default c =
-    let a = c.args in
-    let t = a.text.now in
-    let e1 = told (command_read_meant t) c.command_at-command.ensures.meant c.in_default.is in record {
-      meant = sym (command_tokens t a.at ∙ ap spent e1);
-      placed = tt;
-    }
+pub returns-in_err-command-clause-meant : goal.returns-in_err-command-clause-meant
+returns-in_err-command-clause-meant c =
+    let e = command_tokens c.args.text.now c.args.at ∙ ap spent (sym c.in_err-command.ensures.meant) in
+    grind (arith, common_steps, e)
 
-pub ends_at-requires : goal.ends_at-requires
-ends_at-requires c =
-    let a = c.args in
-    let t = a.text.now in
-    let p1 = known (CommandPlaced t a.at) c.command_at-command.ensures.placed c.in-Found.is in
-    omega arith
+pub returns-then-ends-clause-meant : goal.returns-then-ends-clause-meant
+returns-then-ends-clause-meant c =
+    let t = c.args.text.now in
+    let us = lex (drop c.read_command.new.scanner.at t) in
+    let end = sym (rw c.in_ok-command.ensures.text at c.ends.ensures.ended) ∙ c.if-ends.true in
+    sym (command_tokens t c.args.at ∙ ap spent (sym c.in_ok-command.ensures.meant) ∙ all_spent (command_meant t c.in_ok-command.command) us end)
 
-pub returns-then-not-ends_at : goal.returns-then-not-ends_at
-returns-then-not-ends_at c =
-    let a = c.args in
-    let t = a.text.now in
-    let e1 = told (command_read_meant t) c.command_at-command.ensures.meant c.in-Found.is in record {
-      meant = sym (command_tokens t a.at ∙ ap spent e1 ∙ not_spent (command_meant t c.in-Found.c) (lex (drop c.in-Found.n t)) (sym c.ends_at.ensures ∙ not-true c.ends_at.result c.if-not-ends_at.true-raw));
-      placed = tt;
-    }
-
-pub returns : goal.returns
-returns c =
-    let a = c.args in
-    let t = a.text.now in
-    let e1 = told (command_read_meant t) c.command_at-command.ensures.meant c.in-Found.is in
-    let p1 = known (CommandPlaced t a.at) c.command_at-command.ensures.placed c.in-Found.is in record {
-      meant = sym (command_tokens t a.at ∙ ap spent e1 ∙ all_spent (command_meant t c.in-Found.c) (lex (drop c.in-Found.n t)) (sym c.ends_at.ensures ∙ not-false c.ends_at.result c.if-not-ends_at.false-raw));
-      placed = p1.0;
-    }
+pub returns-else-ends-clause-meant : goal.returns-else-ends-clause-meant
+returns-else-ends-clause-meant c =
+    let t = c.args.text.now in
+    let us = lex (drop c.read_command.new.scanner.at t) in
+    let end = sym (rw c.in_ok-command.ensures.text at c.ends.ensures.ended) ∙ c.if-ends.false in
+    sym (command_tokens t c.args.at ∙ ap spent (sym c.in_ok-command.ensures.meant) ∙ not_spent (command_meant t c.in_ok-command.command) us end)

@@ -5,8 +5,12 @@ use Rattle.language.specs.Text.{present}
 use Rattle.parser.specs.Bodies.{body_from}
 use Rattle.parser.proofs.body_at.Given as goal
 
-abbrev pub invariant-loop-rest : goal.invariant-loop-rest
-invariant-loop-rest l = (l.p ≤ length l.text) × (present (body_from l.text l.at) ≡ present (body_from l.text l.p))
+-- the rest from p on is one where all from `at` on is
+abbrev pub invariant-loop-read : goal.invariant-loop-read
+invariant-loop-read l = record {
+  within : l.p ≤ length l.text;
+  same : present (body_from l.text l.at) ≡ present (body_from l.text l.p);
+}
 
-abbrev pub decreases-loop-rest : goal.decreases-loop-rest
-decreases-loop-rest l = length l.text - l.p
+abbrev pub decreases-loop-read : goal.decreases-loop-read
+decreases-loop-read l = length l.text - l.p
