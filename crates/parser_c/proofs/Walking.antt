@@ -13,8 +13,8 @@ use lib.Seq.{drop-cons, set_at}
 use Rattle.language.specs.Text.{Text, ◌>>=◌, present}
 use Rattle.text.specs.Meaning.{part}
 use Rattle.language.specs.Syntax as Syntax
-use Rattle.parser.specs.declared.Rest.{Rest}
-use Rattle.parser.specs.declared.Rest.TheVariants.{At, End}
+use Rattle.std.proofs.Common as Code
+use Rattle.std.proofs.Common.{Some, None}
 use Rattle.parser.specs.Bodies.{body_from, with_body, rest_from, First}
 use Rattle.tokens.proofs.Reading.{no_some}
 use Rattle.command_readers.specs.Commands.{command_meant}
@@ -95,16 +95,16 @@ module _ (t : Text) (at : ℕ) (old now : Text) (p n : ℕ) (short : length t �
   pub not_broken : {A : Type 0} → body_from t p ≡ none → A
   not_broken e = no_some (sym e ∙ g.left)
 
-  module _ (k : Command) (rest : Rest) (f : First t p k rest) where
+  module _ (k : Command) (rest : Code.Option ℕ) (f : First t p k rest) where
     next : Split g.rest f.command (rest_from t rest)
     next = split g.rest f.command (rest_from t rest) (sym g.left ∙ f.all)
 
     fits : n < length old
     fits = omega (arith, g.pace, g.within, room_left rest f)
       where
-        room_left : (rest : Rest) → First t p k rest → p < length t
-        room_left (At m) f = omega (arith, f.placed.0, f.placed.1)
-        room_left End f = omega (arith, f.placed)
+        room_left : (rest : Code.Option ℕ) → First t p k rest → p < length t
+        room_left (Some m) f = omega (arith, f.placed.0, f.placed.1)
+        room_left None f = omega (arith, f.placed)
 
     pub write_fits : n < length now
     write_fits = omega (arith, fits, below)
@@ -124,25 +124,25 @@ module _ (t : Text) (at : ℕ) (old now : Text) (p n : ℕ) (short : length t �
     count_one : n + 1 ≡ length (g.passed ++ (f.command ∷ []))
     count_one = ap (λ y. y + 1) g.count ∙ sym (length-append g.passed (f.command ∷ []))
 
-  pub goes_on : (k : Command) (m : ℕ) → First t p k (At m) → Going t at old (put now n (code k)) m (n + 1)
+  pub goes_on : (k : Command) (m : ℕ) → First t p k (Some m) → Going t at old (put now n (code k)) m (n + 1)
   goes_on k m f = record {
     passed = g.passed ++ (f.command ∷ []);
-    rest = (next k (At m) f).others;
-    all = passed_all k (At m) f;
-    left = (next k (At m) f).are;
-    count = count_one k (At m) f;
-    kinds = listed k (At m) f;
+    rest = (next k (Some m) f).others;
+    all = passed_all k (Some m) f;
+    left = (next k (Some m) f).are;
+    count = count_one k (Some m) f;
+    kinds = listed k (Some m) f;
     within = f.placed.1;
     pace = omega (arith, g.pace, f.placed.0);
   }
 
-  pub ends : (k : Command) → First t p k End → (cs : List Syntax.Command) → body_from t at ≡ some cs → Listed cs old (put now n (code k)) (n + 1)
+  pub ends : (k : Command) → First t p k None → (cs : List Syntax.Command) → body_from t at ≡ some cs → Listed cs old (put now n (code k)) (n + 1)
   ends k f cs e =
-      let N = next k End f in
+      let N = next k None f in
       let last : N.others ≡ [] = some_inj.0 (sym N.are) in
       let same : cs ≡ g.passed ++ (f.command ∷ []) =
-      some_inj.0 (sym e ∙ passed_all k End f) ∙ ap (λ y. (g.passed ++ (f.command ∷ [])) ++ y) last ∙ append-nil (g.passed ++ (f.command ∷ [])) in
-      record { count = count_one k End f ∙ ap length (sym same); kinds = listed k End f ∙ ap (λ l. map kind_of l ++ drop (n + 1) old) (sym same) }
+      some_inj.0 (sym e ∙ passed_all k None f) ∙ ap (λ y. (g.passed ++ (f.command ∷ [])) ++ y) last ∙ append-nil (g.passed ++ (f.command ∷ [])) in
+      record { count = count_one k None f ∙ ap length (sym same); kinds = listed k None f ∙ ap (λ l. map kind_of l ++ drop (n + 1) old) (sym same) }
 
 -- ---- the whole text
 -- there are commands from `at` on, where the text is a program

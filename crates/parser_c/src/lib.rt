@@ -8,7 +8,6 @@ ghost use Rattle.parser.specs.Bodies.{body_from};
 ghost use Rattle.parser_c.specs.Kinds.{administration_code, variable_code, code, SomeCommands, Listed, Reported};
 
 use command_readers::{Administration, Command, VariableCommand};
-use parser::{Head, Read, Rest};
 
 const NO: u64 = 65536;
 
@@ -56,18 +55,15 @@ fn list(text: &[u8], at: usize, kinds: &mut [u8]) -> usize
 {
     let mut p = at;
     let mut n: usize = 0;
-    loop {
-        let read = parser::read_at(text, p);
-        let Read::Command(c, rest) = read else {
-            return n;
-        };
-        kinds[n] = kind(c);
+    while let Some(read) = parser::read_at(text, p) {
+        kinds[n] = kind(read.command);
         n += 1;
-        let Rest::At(next) = rest else {
+        let Some(next) = read.rest else {
             return n;
         };
         p = next;
     }
+    n
 }
 
 // How many commands a program has, their kinds in the first bytes of `kinds`; or the number for a text that does not parse, or for too
@@ -79,19 +75,13 @@ pub extern "C" fn parser_kinds(text: &[u8], kinds: &mut [u8]) -> u64
     if kinds.len() < 16384 {
         return REFUSED;
     }
-    let head = parser::login(text);
-    match head {
-        Head::Login {
-            sender: _,
-            password: _,
-            at,
-        } => {
-            if !parser::body_at(text, at) {
+    match parser::login(text) {
+        Some(head) => {
+            if !parser::body_at(text, head.at) {
                 return NO;
             }
-            let n = list(text, at, kinds);
-            n as u64
+            list(text, head.at, kinds) as u64
         }
-        Head::No => NO,
+        None => NO,
     }
 }
