@@ -79,10 +79,18 @@ pub fn read_field(scanner: &mut Scanner) -> Option<Field>
     let value = read_operand(scanner)?;
     let sign = scanner.sign()?;
     if scanner.is(sign, b",") {
-        return Some(Field { label, value, more: true });
+        return Some(Field {
+            label,
+            value,
+            more: true,
+        });
     }
     if scanner.is(sign, b"}") {
-        return Some(Field { label, value, more: false });
+        return Some(Field {
+            label,
+            value,
+            more: false,
+        });
     }
     None
 }
