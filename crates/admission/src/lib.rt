@@ -8,7 +8,6 @@ ghost use Rattle.opening.specs.Logins.{SomeState};
 ghost use Rattle.admission.specs.Admissions.{Admits};
 
 use opening::{Login, log_in};
-use parser::Head;
 use refusal::Refusal;
 use validate::Parts;
 
@@ -26,33 +25,25 @@ pub fn admit(state: &[u8], principal_slots: &[u32], parts: Parts, program: &[u8]
     ensures { (variable_slots assertions : List ℕ) (s : Store) → Represents state.now principal_slots.now variable_slots assertions parts s
         → Admits result s program.now }
 {
-    let head = parser::login(program);
-    let Head::Login {
-        sender,
-        password,
-        at,
-    } = head
-    else {
+    let Some(head) = parser::login(program) else {
         return Admission::Refused(Refusal::Failed);
     };
-    let name_from = sender.start;
-    let name_to = sender.end;
-    let from = password.start;
-    let to = password.end;
+    let name = head.sender;
+    let password = head.password;
     let login = log_in(
         state,
         principal_slots,
         parts,
-        &program[name_from..name_to],
-        &program[from..to],
+        &program[name.start..name.end],
+        &program[password.start..password.end],
     );
     match login {
         Login::Mistaken => {
-            if parser::body_at(program, at) {
+            if parser::body_at(program, head.at) {
                 return Admission::Refused(Refusal::Denied);
             }
             Admission::Refused(Refusal::Failed)
         }
-        Login::Right(number) => Admission::Sender(number, at),
+        Login::Right(number) => Admission::Sender(number, head.at),
     }
 }

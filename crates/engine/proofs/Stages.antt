@@ -21,8 +21,8 @@ use Rattle.language.proofs.Parsing.Printing.{inner_short}
 use Rattle.language.proofs.Meaning.Sent.{step_sender}
 use Rattle.language.proofs.Meaning.Printed.{count_append, few_lines as lines-short}
 use Rattle.command_readers.specs.declared.Command as Read
-use Rattle.parser.specs.declared.Rest.{Rest}
-use Rattle.parser.specs.declared.Rest.TheVariants as Follows
+use Rattle.std.proofs.Common as Code
+use Rattle.std.proofs.Common.{Some, None}
 use Rattle.parser.specs.Bodies.{body_from, rest_from, First}
 use Rattle.value_text.specs.Writing.{Written}
 use Rattle.value_text.proofs.Pieces.{◌▸◌, written_none}
@@ -99,7 +99,7 @@ module _ {s : Session} {t : Text} {at : ℕ} {before : Text} {l : Layout} {b : S
   pub has_room : p ≤ length t → length t ≤ longest → n + 28707 ≤ buffer_size
   has_room h k = omega (arith, S.short)
 
-  module _ {c : Read.Command} {rest : Rest} (F : First t p c rest) where
+  module _ {c : Read.Command} {rest : Code.Option ℕ} (F : First t p c rest) where
     -- the command cannot be done
     pub stops : (r : Refusal) → step S.session F.command ≡ refused r
         → end_on s (body_from t at) ≡ (when present (rest_from t rest) then some (refusal r) else none)
@@ -127,16 +127,16 @@ module _ {s : Session} {t : Text} {at : ℕ} {before : Text} {l : Layout} {b : S
           let one : line_count A.effect.line ≡ 1 = line_one S.session S.running.ready F.command F.is_valid A.effect A.is_step in
           omega (arith, S.counted, one, count_append S.so_far A.effect.line)
 
-pub some_command : {t : Text} {p : ℕ} {c : Read.Command} {rest : Rest} → First t p c rest → SomeCommand t c
+pub some_command : {t : Text} {p : ℕ} {c : Read.Command} {rest : Code.Option ℕ} → First t p c rest → SomeCommand t c
 some_command F = record { command = F.command; meant = F.meant; within = F.within; is_valid = F.is_valid }
 
-pub rest_within : {t : Text} {p : ℕ} {c : Read.Command} (rest : Rest) → First t p c rest → RestWithin t rest
-rest_within (Follows.At n) F = F.placed.1
-rest_within Follows.End F = tt
+pub rest_within : {t : Text} {p : ℕ} {c : Read.Command} (rest : Code.Option ℕ) → First t p c rest → RestWithin t rest
+rest_within (Some n) F = F.placed.1
+rest_within None F = tt
 
 module _ {s : Session} {t : Text} {at : ℕ} {before : Text} {l : Layout} {b : Slices} {p n lines : ℕ} {output : Text} (S : Stage s t at before l b p n lines output)
     {c : Read.Command} {m : Layout} {d : Slices} {r : ℕ} {out : Text} where
-  pub goes_on : {next : ℕ} (F : First t p c (Follows.At next)) → Advances (step S.session F.command) m d output n r out
+  pub goes_on : {next : ℕ} (F : First t p c (Some next)) → Advances (step S.session F.command) m d output n r out
       → Stage s t at before m d next r (lines + 1) out
   goes_on {next} F A = record {
     session = A.effect.after;
@@ -155,7 +155,7 @@ module _ {s : Session} {t : Text} {at : ℕ} {before : Text} {l : Layout} {b : S
       not_last true h = let z : ◌≡◌ {A = ℕ} 0 1 = cc in absurd (omega arith)
       not_last false h = tt
 
-  pub ends : (F : First t p c Follows.End) → Advances (step S.session F.command) m d output n r out
+  pub ends : (F : First t p c None) → Advances (step S.session F.command) m d output n r out
       → Completes s.sender (end_on s (body_from t at)) m r (lines + 1) d before out
   ends F A = record {
     session = A.effect.after;

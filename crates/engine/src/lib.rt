@@ -12,7 +12,6 @@ ghost use Rattle.outcome.specs.Ends.{end_on, Ends};
 
 use command::Outcome;
 use outcome::{Performed, refused};
-use parser::{Read, Rest};
 use session::Layout;
 
 // The commands of the lines from `at` on, each done as it is read, to the first that cannot be. The scratch buffers are room for values and
@@ -43,8 +42,7 @@ pub fn perform(
     let mut n: usize = 0;
     let mut lines: usize = 0;
     loop {
-        let read = parser::read_at(text, p);
-        let Read::Command(c, rest) = read else {
+        let Some(read) = parser::read_at(text, p) else {
             return Performed::Broken;
         };
         let acted = command::act(
@@ -59,14 +57,14 @@ pub fn perform(
             labels,
             l,
             text,
-            c,
+            read.command,
         );
         let done = command::tell(acted, value, l, output, n);
         match done {
-            Outcome::Refused(how) => return refused(text, rest, how),
+            Outcome::Refused(how) => return refused(text, read.rest, how),
             Outcome::Done(k, m) => {
                 lines += 1;
-                let Rest::At(next) = rest else {
+                let Some(next) = read.rest else {
                     return Performed::Completed(k, m, lines);
                 };
                 l = k;

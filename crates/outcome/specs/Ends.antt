@@ -1,13 +1,12 @@
 -- How all the commands of a program in turn end (document 01, "A run").
-use Rattle.std.specs.Prelude.{◌≡◌, ℕ, ◌≤◌, Bool, true, false, List, length}
+use Rattle.std.specs.Prelude.{◌≡◌, ℕ, ◌≤◌, Bool, true, false, List, length, Some, None}
+use Rattle.std.specs.Prelude as Code
 use Rattle.std.proofs.Math.Option.{Option, none, some}
 use Rattle.language.specs.Text.{Text}
 use Rattle.language.specs.Syntax.{Name, Command}
 use Rattle.language.specs.Values.{Session}
 use Rattle.language.specs.Run.{End, refusal, completed, perform, line_count}
 use Rattle.value_text.specs.Writing.{Written}
-use Rattle.parser.specs.declared.Rest.{Rest}
-use Rattle.parser.specs.declared.Rest.TheVariants as Follows
 use Rattle.session.specs.declared.Layout.{Layout}
 use Rattle.session.specs.Sessions.{Slices, Running}
 use Rattle.refusal.specs.declared.Refusal.{Refusal}
@@ -16,9 +15,9 @@ use Rattle.outcome.specs.declared.Performed.{Performed}
 use Rattle.outcome.specs.declared.Performed.TheVariants.{Broken, Refused, Completed}
 
 -- the lines that follow start within the text
-abbrev pub RestWithin : Text → Rest → Type 0
-RestWithin t (Follows.At n) = n ≤ length t
-RestWithin t Follows.End = Unit
+abbrev pub RestWithin : Text → Code.Option ℕ → Type 0
+RestWithin t (Some n) = n ≤ length t
+RestWithin t None = Unit
 
 -- the answer where a command is refused, by whether the rest of the text is that of a program
 abbrev pub unless_broken : Bool → Refusal → Performed

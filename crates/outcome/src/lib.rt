@@ -6,7 +6,6 @@ ghost use Rattle.language.specs.Text.{present};
 ghost use Rattle.parser.specs.Bodies.{rest_from};
 ghost use Rattle.outcome.specs.Ends.{RestWithin, unless_broken};
 
-use parser::Rest;
 use refusal::Refusal;
 use session::Layout;
 
@@ -20,11 +19,11 @@ pub enum Performed {
 }
 
 // A command before `rest` was refused. So is its program, where the rest of the text is that of a program.
-pub fn refused(text: &[u8], rest: Rest, how: Refusal) -> Performed
+pub fn refused(text: &[u8], rest: Option<usize>, how: Refusal) -> Performed
     requires { RestWithin text.now rest }
     ensures { result ≡ unless_broken (present (rest_from text.now rest)) how }
 {
-    let Rest::At(n) = rest else {
+    let Some(n) = rest else {
         return Performed::Refused(how);
     };
     if parser::body_at(text, n) {

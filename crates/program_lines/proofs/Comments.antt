@@ -11,7 +11,7 @@ use borrow.Author.Tests.{eq-eqb, ne_eqb, eqb-true}
 use Rattle.language.specs.Text.{Text, when◌then◌else◌, all, front}
 use Rattle.language.specs.Bytes.{comment_byte}
 use Rattle.language.specs.Programs.{is_comment}
-use Rattle.language.proofs.Logic.Tests.{and_false}
+use Rattle.std.specs.List.{starts_with}
 
 eqb_suc : (m n : ℕ) → eqb (suc m) (suc n) ≡ eqb m n
 eqb_suc m n = go (eqb m n) refl
@@ -35,30 +35,23 @@ front_all f (b ∷ t) = go (f b) (front_all f t)
     go true e = e ∙ sym (eqb_suc (length (front f t)) (length t))
     go false e = sym (ne_eqb 0 (suc (length t)) (λ z. omega arith))
 
-pub short_line : (t : Text) → length t < 2 → is_comment t ≡ false
-short_line [] h = refl
-short_line (b ∷ []) h = refl
-short_line (b ∷ c ∷ cs) h = absurd (omega arith)
+two_true : (a b : Bool) → (a && b) ≡ true → (a ≡ true) × (b ≡ true)
+two_true true b e = (refl, e)
+two_true false b e = (cc, cc)
 
-pub no_slash : (t : Text) → (get_or t 0 0 ≡ 47 → ⊥) → is_comment t ≡ false
-no_slash [] n = refl
-no_slash (b ∷ []) n = refl
-no_slash (b ∷ c ∷ cs) n = rw (ne_eqb b 47 n)
-
-pub one_slash : (t : Text) → (get_or t 1 0 ≡ 47 → ⊥) → is_comment t ≡ false
-one_slash [] n = refl
-one_slash (b ∷ []) n = refl
-one_slash (b ∷ c ∷ cs) n = rw (ne_eqb c 47 n) (and_false (eqb b 47))
-
-pub slashes : (t : Text) (e : ℕ) → 2 ≤ length t → get_or t 0 0 ≡ 47 → get_or t 1 0 ≡ 47 → e ≡ 2 + length (front comment_byte (drop 2 t)) → eqb e (length t) ≡ is_comment t
-slashes [] e h p q r = absurd (omega arith)
-slashes (b ∷ []) e h p q r = absurd (omega arith)
-slashes (b ∷ c ∷ cs) e h p q r =
+-- a line that starts with two slashes
+pub slashes : (t : Text) (e : ℕ) → 2 ≤ length t → starts_with eqb t (47 ∷ 47 ∷ []) ≡ true → e ≡ 2 + length (front comment_byte (drop 2 t)) → eqb e (length t) ≡ is_comment t
+slashes [] e h p r = absurd (omega arith)
+slashes (b ∷ []) e h p r = absurd (omega arith)
+slashes (b ∷ c ∷ cs) e h p r =
     let k : ℕ = length (front comment_byte cs) in
+    let two = two_true (eqb 47 b) (eqb 47 c && true) p in
+    let first : b ≡ 47 = sym (eqb-true 47 b two.0) in
+    let second : c ≡ 47 = sym (eqb-true 47 c (two_true (eqb 47 c) true two.1).0) in
     let sum : e ≡ 2 + k = r in
     let size : e ≡ suc (suc k) = omega arith in
     let left : eqb e (suc (suc (length cs))) ≡ all comment_byte cs =
     ap (λ (x : ℕ). eqb x (suc (suc (length cs)))) size
     ∙ (eqb_suc (suc k) (suc (length cs)) ∙ (eqb_suc k (length cs) ∙ sym (front_all comment_byte cs))) in
-    let right : is_comment (b ∷ c ∷ cs) ≡ all comment_byte cs = rw (eq-eqb b 47 p, eq-eqb c 47 q) in
+    let right : is_comment (b ∷ c ∷ cs) ≡ all comment_byte cs = rw (eq-eqb b 47 first, eq-eqb c 47 second) in
     left ∙ sym right

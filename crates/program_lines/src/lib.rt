@@ -11,16 +11,7 @@ use text::Alphabet;
 fn is_comment(line: &[u8]) -> bool
     ensures { result ≡ is_comment line.now }
 {
-    if line.len() < 2 {
-        return false;
-    }
-    if line[0] != b'/' {
-        return false;
-    }
-    if line[1] != b'/' {
-        return false;
-    }
-    text::run_end(line, 2, Alphabet::Comment) == line.len()
+    line.starts_with(b"//") && text::run_end(line, 2, Alphabet::Comment) == line.len()
 }
 
 // The line that starts at a place: a comment, `***` with a right end after it, or tokens, and where the next line starts.
@@ -69,8 +60,7 @@ pub fn next_line(text: &[u8], at: usize) -> Step
 {
     let mut p = at;
     loop {
-        let line = line_at(text, p);
-        match line {
+        match line_at(text, p) {
             Line::Comment(n) => p = n,
             Line::Stars => return Step::Stars,
             Line::Tokens(n) => return Step::Tokens(p, n),
