@@ -11,6 +11,14 @@ use assertion::Assertion;
 // The number of no assertion.
 pub const NOTHING: u16 = 65535;
 
+// Whom an assertion's step reaches: nobody, somebody, or the principal that the search is for (specs/Board.antt, `Stepped`).
+#[derive(Clone, Copy)]
+pub enum Reached {
+    Nobody,
+    Somebody,
+    Principal,
+}
+
 // Assertion k is from q, and comes first of those from q. One from a number that no principal has leads nowhere.
 fn enter(q: usize, k: usize, count: usize, board: &mut [u16])
     requires { (count ≤ 4096) × (k < 2048) × (board_size count k < length board.old) }
