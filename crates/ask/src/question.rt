@@ -71,7 +71,7 @@ pub fn decide(
     };
     let chain = named_rights::chain(assertions, parts.asserted, count, shared, code, number);
     match chain {
-        chains::Answer::Yes(n) => Answer::Yes(n),
-        chains::Answer::No => Answer::No,
+        Some(n) => Answer::Yes(n),
+        None => Answer::No,
     }
 }

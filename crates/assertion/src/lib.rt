@@ -14,7 +14,7 @@ pub const APPEND: u16 = 2;
 
 pub const DELEGATE: u16 = 3;
 
-#[derive(Clone, Copy)]
+#[derive(Clone, Copy, Default)]
 pub struct Assertion {
     pub variable: u16,
     pub from: u16,
@@ -31,14 +31,16 @@ pub fn pack(variable: usize, from: usize, right: u16, to: usize) -> u64
 }
 
 // The record that a packed assertion is.
-pub fn unpack(packed: u64) -> Assertion
-    ensures { result ≡ fields packed }
-{
-    Assertion {
-        variable: (packed / 281474976710656) as u16,
-        from: (packed / 65536 % 65536) as u16,
-        right: (packed / 4294967296 % 65536) as u16,
-        to: (packed % 65536) as u16,
+impl From<u64> for Assertion {
+    ghost from_gives = { λ packed r. r ≡ fields packed };
+
+    fn from(packed: u64) -> Assertion {
+        Assertion {
+            variable: (packed / 281474976710656) as u16,
+            from: (packed / 65536 % 65536) as u16,
+            right: (packed / 4294967296 % 65536) as u16,
+            to: (packed % 65536) as u16,
+        }
     }
 }
 
@@ -46,7 +48,7 @@ pub fn unpack(packed: u64) -> Assertion
 pub fn key(variable: u16, right: u16) -> u64
     ensures { result ≡ key variable right }
 {
-    variable as u64 * 65536 + right as u64
+    u64::from(variable) * 65536 + u64::from(right)
 }
 
 // The key of a packed assertion.

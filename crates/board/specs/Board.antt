@@ -5,8 +5,10 @@
 --     3 n              the first assertion of the round to come, or `nothing`
 --     from 3 n + 1 on  for each assertion the one that is gone over after it, or `nothing`
 -- A round goes over those assertions only that lead on from somebody who was reached in the round before.
-use Rattle.std.specs.Prelude.{◌≡◌, List, [], ◌∷◌, ◌⊎◌, cond, ℕ, ◌+◌, ◌*◌, ◌≤◌, ◌<◌, length, get_or, set, take, replicate, eqb}
+use Rattle.std.specs.Prelude.{◌≡◌, List, [], ◌∷◌, ◌⊎◌, Bool, true, cond, ℕ, ◌+◌, ◌*◌, ◌≤◌, ◌<◌, length, get_or, set, take, replicate, eqb}
 use Rattle.assertion.specs.Packed.{Assertion}
+use Rattle.board.specs.declared.Reached.{Reached}
+use Rattle.board.specs.declared.Reached.TheVariants.{Nobody, Somebody, Principal}
 use Rattle.search_steps.specs.Steps.{◌∈◌, unreached}
 
 -- the number of no assertion
@@ -102,10 +104,10 @@ pub record Ready (n : ℕ) (ys : List Assertion) (b : List ℕ) : Type 0 where
 
 -- ---- what a round's steps say
 
--- anyone's step at the head of round d: r is 1 where anyone has d, and then p gets d + 1
-pub record Spread (d p : ℕ) (old last : List ℕ) (r : ℕ) : Type 0 where
-  pub opens : r ≡ 1 → (get_or old 1 0 ≡ d) × (last ≡ set old p (d + 1))
-  pub shuts : (r ≡ 1 → ⊥) → (get_or old 1 0 ≡ d → ⊥) × (last ≡ old)
+-- anyone's step at the head of round d: r is true where anyone has d, and then p gets d + 1
+pub record Spread (d p : ℕ) (old last : List ℕ) (r : Bool) : Type 0 where
+  pub opens : r ≡ true → (get_or old 1 0 ≡ d) × (last ≡ set old p (d + 1))
+  pub shuts : (r ≡ true → ⊥) → (get_or old 1 0 ≡ d → ⊥) × (last ≡ old)
 
 -- the step from q to t in round d reaches t
 pub record Reaches (n d q t : ℕ) (b : List ℕ) : Type 0 where
@@ -114,10 +116,9 @@ pub record Reaches (n d q t : ℕ) (b : List ℕ) : Type 0 where
   pub t_in : t < n
   pub t_has : get_or b t 0 ≡ unreached
 
--- an assertion's step from q to t in round d, for p: r is 0 where it reaches nobody, 2 where it reaches p, and else 1: then the
--- assertions from t are put before those of the round to come
-pub record Stepped (n d q t p : ℕ) (old last : List ℕ) (r : ℕ) : Type 0 where
-  pub few : r ≤ 2
-  pub none : r ≡ 0 → (last ≡ old) × (Reaches n d q t old → ⊥)
-  pub other : r ≡ 1 → Reaches n d q t old × (t ≡ p → ⊥) × (last ≡ pushed n t (set old t (d + 1)))
-  pub hit : r ≡ 2 → Reaches n d q t old × (t ≡ p) × (last ≡ set old t (d + 1))
+-- an assertion's step from q to t in round d, for p: it reaches nobody; or somebody else than p, and then the assertions from t are put
+-- before those of the round to come; or p
+abbrev pub Stepped : ℕ → ℕ → ℕ → ℕ → ℕ → List ℕ → List ℕ → Reached → Type 0
+Stepped n d q t p old last Nobody = (last ≡ old) × (Reaches n d q t old → ⊥)
+Stepped n d q t p old last Somebody = Reaches n d q t old × (t ≡ p → ⊥) × (last ≡ pushed n t (set old t (d + 1)))
+Stepped n d q t p old last Principal = Reaches n d q t old × (t ≡ p) × (last ≡ set old t (d + 1))

@@ -2,7 +2,7 @@
 // they are entered on it, once for a search.
 #![tactic(auto)]
 
-ghost use Rattle.std.specs.Prelude.{◌≡◌, ◌≤◌, ◌<◌, length, replicate, take};
+ghost use Rattle.std.specs.Prelude.{◌≡◌, ◌≤◌, ◌<◌, length, replicate};
 ghost use Rattle.board.specs.Board.{board_size, entered, Filed};
 ghost use Rattle.search_steps.specs.Steps.{unreached};
 
@@ -10,6 +10,14 @@ use assertion::Assertion;
 
 // The number of no assertion.
 pub const NOTHING: u16 = 65535;
+
+// Whom an assertion's step reaches: nobody, somebody, or the principal that the search is for (specs/Board.antt, `Stepped`).
+#[derive(Clone, Copy)]
+pub enum Reached {
+    Nobody,
+    Somebody,
+    Principal,
+}
 
 // Assertion k is from q, and comes first of those from q. One from a number that no principal has leads nowhere.
 fn enter(q: usize, k: usize, count: usize, board: &mut [u16])
@@ -29,15 +37,12 @@ fn enter(q: usize, k: usize, count: usize, board: &mut [u16])
 }
 
 // All assertions of a list are entered on a board that has nothing yet.
-pub fn file(list: [Assertion; 2048], n: usize, count: usize, board: &mut [u16])
-    requires { (n ≤ 2048) × (count ≤ 4096) × (board.old ≡ replicate (board_size count n) unreached) }
-    ensures { Filed count (take n list) n board.new }
+pub fn file(list: &[Assertion], count: usize, board: &mut [u16])
+    requires { (length list.now ≤ 2048) × (count ≤ 4096) × (board.old ≡ replicate (board_size count (length list.now)) unreached) }
+    ensures { Filed count list.now (length list.now) board.new }
 {
-    let mut k: usize = 0;
-    while k < n {
-        let a = list[k];
-        let q = a.from as usize;
+    for k in 0..list.len() {
+        let q = list[k].from as usize;
         enter(q, k, count, board);
-        k += 1;
     }
 }

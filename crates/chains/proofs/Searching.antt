@@ -11,7 +11,7 @@ use lib.Seq.{get_or-set_same, get_or-set_other}
 use borrow.Author.Tests.{eq-eqb, ne_eqb}
 use Rattle.chains.specs.Chain.{Asked, Step, Step.assertion, Step.anyone, Chain, Chain.admin, Chain.link, Shortest}
 use Rattle.search_steps.specs.Steps.{Delegation, unreached, left}
-use Rattle.chains.specs.declared.Answer.TheVariants.{Yes, No}
+use Rattle.std.specs.Prelude.{Some, None}
 use Rattle.chains.specs.Rounds.{found, relevant, one_round, start, Whoever}
 use Rattle.search_steps.proofs.Marking.{left_set, left_le}
 use Rattle.chains.proofs.Rounding.{Ext, Covers, ext_keeps, ext_round, round_covers}
@@ -213,10 +213,10 @@ module _ (s : List Delegation) (n d : ℕ) (D : List ℕ) (small : d < 4096) (si
   round_reaches a e c = subst (λ (r : List Delegation). Covers a d D (one_round d r D)) e (round_covers a d D small (sized ∙ sym c))
 
 -- what a mark says
-pub found_yes : (r m : ℕ) → (m ≡ unreached → ⊥) → found r m ≡ Yes r
+pub found_yes : (r m : ℕ) → (m ≡ unreached → ⊥) → found r m ≡ Some r
 found_yes r m h = simp (ne_eqb m unreached h)
 
-pub found_no : (r m : ℕ) → m ≡ unreached → found r m ≡ No
+pub found_no : (r m : ℕ) → m ≡ unreached → found r m ≡ None
 found_no r m h = simp (eq-eqb m unreached h)
 
 -- admin has the chain of length 0

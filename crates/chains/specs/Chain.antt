@@ -1,9 +1,7 @@
 -- Chains of delegation: what a right is, as a relation over numbers. Admin is principal 0 and anyone is principal 1.
-use Rattle.std.specs.Prelude.{◌≡◌, List, ℕ, suc, ◌≤◌, ◌<◌}
+use Rattle.std.specs.Prelude.{Option, Some, None, ◌≡◌, List, ℕ, suc, ◌≤◌, ◌<◌}
 use Rattle.assertion.specs.Packed.{Assertion}
 use Rattle.search_steps.specs.Steps.{◌∈◌}
-use Rattle.chains.specs.declared.Answer.{Answer}
-use Rattle.chains.specs.declared.Answer.TheVariants.{Yes, No}
 
 -- the assertions that stand, how many principals there are (they are the numbers below `count`), and the variable and right asked for
 pub record Asked : Type 0 where
@@ -28,10 +26,10 @@ pub record Shortest (a : Asked) (p n : ℕ) : Type 0 where
   pub least : (m : ℕ) → Chain a m p → n ≤ m
   pub short : n < a.count
 
--- the answer is right: Yes n where the shortest chain has n steps, No where there is none of any length
-abbrev pub Answered : Asked → ℕ → Answer → Type 0
-Answered a p (Yes n) = Shortest a p n
-Answered a p No = (m : ℕ) → Chain a m p → ⊥
+-- the answer is right: Some n where the shortest chain has n steps, None where there is none of any length
+abbrev pub Answered : Asked → ℕ → Option ℕ → Type 0
+Answered a p (Some n) = Shortest a p n
+Answered a p None = (m : ℕ) → Chain a m p → ⊥
 
 -- somebody's shortest chain has k steps, and nobody's has more
 pub record Longest (a : Asked) (k : ℕ) : Type 0 where
@@ -40,12 +38,12 @@ pub record Longest (a : Asked) (k : ℕ) : Type 0 where
   pub most : (p n : ℕ) → Shortest a p n → n ≤ k
 
 -- the rounds that a search begins (document 02, M-103): on a yes as many as the chain has steps, on a no one more than the longest of the shortest chains
-abbrev pub Begun : Asked → Answer → ℕ → Type 0
-Begun a (Yes n) r = r ≡ n
-Begun a No r = (k : ℕ) × Longest a k × (r ≡ suc k)
+abbrev pub Begun : Asked → Option ℕ → ℕ → Type 0
+Begun a (Some n) r = r ≡ n
+Begun a None r = (k : ℕ) × Longest a k × (r ≡ suc k)
 
 -- a search for p says o and began r rounds: none for a number that no principal has
-pub record Searched (a : Asked) (p : ℕ) (o : Answer) (r : ℕ) : Type 0 where
+pub record Searched (a : Asked) (p : ℕ) (o : Option ℕ) (r : ℕ) : Type 0 where
   pub answer : Answered a p o
   pub begun : p < a.count → Begun a o r
   pub outside : a.count ≤ p → r ≡ 0

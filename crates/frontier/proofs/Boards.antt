@@ -2,8 +2,10 @@
 use mathlib.Core.Path.{◌≡◌, refl, sym, ap, subst, ◌∙◌}
 use mathlib.Core.List.{List, ◌++◌}
 use mathlib.Core.Logic.{◌⊎◌, inl, inr, ⊎_elim}
-use Prim.Native.Nat.{ℕ, ◌+◌, ◌*◌, ◌-◌, ◌≤◌, ◌<◌}
-use native.Mathlib.Nat.{sub-zero}
+use Prim.Native.Nat.{ℕ, ◌+◌, ◌*◌, ◌≤◌, ◌<◌}
+use mathlib.Core.Bool.{Bool, true, false}
+use Rattle.std.specs.Int.{from_bool}
+use Rattle.board.specs.declared.Reached.TheVariants.{Nobody, Somebody, Principal}
 use native.Mathlib.Omega.{arith}
 use lib.ListN.{length, get_or, set, take, drop, take-append-drop, length-set}
 use lib.Seq.{length-take-le, get_or-take, set-append_left, get_or-set_other}
@@ -14,10 +16,10 @@ use Rattle.board.specs.Board.{board_size, first_from, last_from, next_round, not
 
 -- ---- anyone's step
 
-pub spread_shut : (d p : ℕ) (b : List ℕ) → (get_or b 1 0 ≡ d → ⊥) → Spread d p b b 0
-spread_shut d p b ne = record { opens = λ e. absurd (omega arith); shuts = λ _. (ne, refl) }
+pub spread_shut : (d p : ℕ) (b : List ℕ) → (get_or b 1 0 ≡ d → ⊥) → Spread d p b b false
+spread_shut d p b ne = record { opens = λ e. absurd cc; shuts = λ _. (ne, refl) }
 
-pub spread_opens : (d p : ℕ) (b : List ℕ) → get_or b 1 0 ≡ d → Spread d p b (set b p (d + 1)) 1
+pub spread_opens : (d p : ℕ) (b : List ℕ) → get_or b 1 0 ≡ d → Spread d p b (set b p (d + 1)) true
 spread_opens d p b e = record { opens = λ _. (e, refl); shuts = λ ne. absurd (ne refl) }
 
 -- ---- a push
@@ -54,24 +56,21 @@ reaches_marks n d q t b le small h =
     let sized = length-take-le n b le in
     reaches d q t (take n b) small (omega (arith, h.q_in)) (get_or-take n b q 0 h.q_in ∙ h.q_has) (omega (arith, h.t_in)) (get_or-take n b t 0 h.t_in ∙ h.t_has)
 
--- the step from q to t among the first n of the board b, whose marks were lent and came back as `part`; r were reached
-module _ (n d q t p r : ℕ) (b part : List ℕ) (le : n ≤ length b) (small : d < 4096) (gave : Marks (take (n - 0) b) (marked d q t (take (n - 0) b)) part r) where
-  did : Marks (take n b) (marked d q t (take n b)) part r
-  did = subst (λ (k : ℕ). Marks (take k b) (marked d q t (take k b)) part r) (sub-zero n) gave
-
-  nobody : r ≡ 0 → part ≡ take n b
+-- the step from q to t among the first n of the board b, whose marks were lent and came back as `part`; r says whether somebody was reached
+module _ (n d q t p : ℕ) (r : Bool) (b part : List ℕ) (le : n ≤ length b) (small : d < 4096) (did : Marks (take n b) (marked d q t (take n b)) part (from_bool r)) where
+  nobody : r ≡ false → part ≡ take n b
   nobody none = ⊎_elim (λ e. did.marks ∙ e)
       (λ h.
       let e : part ≡ set (take n b) t (d + 1) = did.marks ∙ h.gives in
       let less = left_set (take n b) t (d + 1) h.p_in h.p_has (omega arith) in
-      absurd (omega (arith, did.counts, ap left e)))
+      absurd (omega (arith, did.counts, ap from_bool none, ap left e)))
       (marked_cases d q t (take n b))
 
-  somebody : (r ≡ 0 → ⊥) → Hit d q t (take n b)
+  somebody : r ≡ true → Hit d q t (take n b)
   somebody some =
-      ⊎_elim (λ e. absurd (some (omega (arith, did.counts, ap left (did.marks ∙ e))))) (λ h. h) (marked_cases d q t (take n b))
+      ⊎_elim (λ e. absurd (omega (arith, did.counts, ap from_bool some, ap left (did.marks ∙ e)))) (λ h. h) (marked_cases d q t (take n b))
 
-  pub step_reaches : (r ≡ 0 → ⊥) → Reaches n d q t b
+  pub step_reaches : r ≡ true → Reaches n d q t b
   step_reaches some =
       let h = somebody some in
       let sized = length-take-le n b le in
@@ -79,43 +78,26 @@ module _ (n d q t p r : ℕ) (b part : List ℕ) (le : n ≤ length b) (small : 
       let t_in : t < n = omega (arith, h.p_in) in
       record { q_in = q_in; q_has = sym (get_or-take n b q 0 q_in) ∙ h.q_has; t_in = t_in; t_has = sym (get_or-take n b t 0 t_in) ∙ h.p_has }
 
-  pub step_marks : (r ≡ 0 → ⊥) → part ++ drop (n - 0) b ≡ set b t (d + 1)
-  step_marks some =
-      ap (λ (k : ℕ). part ++ drop k b) (sub-zero n)
-      ∙ whole_set n t (d + 1) b part le (step_reaches some).t_in (did.marks ∙ (somebody some).gives)
+  pub step_marks : r ≡ true → part ++ drop n b ≡ set b t (d + 1)
+  step_marks some = whole_set n t (d + 1) b part le (step_reaches some).t_in (did.marks ∙ (somebody some).gives)
 
-  pub step_none : r ≡ 0 → Stepped n d q t p b (part ++ drop (n - 0) b) 0
-  step_none none = record {
-    few = omega arith;
-    none = λ _. (
-      ap (λ (k : ℕ). part ++ drop k b) (sub-zero n) ∙ whole_same n b part (nobody none),
-      λ h.
-          let m = reaches_marks n d q t b le small h in
-          omega (arith, did.counts, m.counts, ap left did.marks, ap left m.marks),
-    );
-    other = λ e. absurd (omega arith);
-    hit = λ e. absurd (omega arith);
-  }
+  pub step_none : r ≡ false → Stepped n d q t p b (part ++ drop n b) Nobody
+  step_none none = (
+    whole_same n b part (nobody none),
+    λ h.
+        let m = reaches_marks n d q t b le small h in
+        omega (arith, did.counts, m.counts, ap from_bool none, ap left did.marks, ap left m.marks),
+  )
 
-  pub step_hits : (r ≡ 0 → ⊥) → t ≡ p → Stepped n d q t p b (part ++ drop (n - 0) b) 2
-  step_hits some same = record {
-    few = omega arith;
-    none = λ e. absurd (omega arith);
-    other = λ e. absurd (omega arith);
-    hit = λ _. (step_reaches some, same, step_marks some);
-  }
+  pub step_hits : r ≡ true → t ≡ p → Stepped n d q t p b (part ++ drop n b) Principal
+  step_hits some same = (step_reaches some, same, step_marks some)
 
-  pub step_other : (last : List ℕ) → (r ≡ 0 → ⊥) → (t ≡ p → ⊥) → last ≡ pushed n t (part ++ drop (n - 0) b) → Stepped n d q t p b last 1
-  step_other last some other e = record {
-    few = omega arith;
-    none = λ z. absurd (omega arith);
-    other = λ _. (step_reaches some, other, e ∙ ap (pushed n t) (step_marks some));
-    hit = λ z. absurd (omega arith);
-  }
+  pub step_other : (last : List ℕ) → r ≡ true → (t ≡ p → ⊥) → last ≡ pushed n t (part ++ drop n b) → Stepped n d q t p b last Somebody
+  step_other last some other e = (step_reaches some, other, e ∙ ap (pushed n t) (step_marks some))
 
   -- what a push takes is there after the step as it was before
-  pub step_pushes : (r ≡ 0 → ⊥) → n ≤ 4096 → 3 * n < length b → (t < n → get_or b t 0 ≡ unreached → (first_from n b t ≡ nothing) ⊎ (board_size n (last_from n b t) < length b))
-      → (n ≤ 4096) × (t < n) × (3 * n < length (part ++ drop (n - 0) b)) × ((first_from n (part ++ drop (n - 0) b) t ≡ nothing) ⊎ (board_size n (last_from n (part ++ drop (n - 0) b) t) < length (part ++ drop (n - 0) b)))
+  pub step_pushes : r ≡ true → n ≤ 4096 → 3 * n < length b → (t < n → get_or b t 0 ≡ unreached → (first_from n b t ≡ nothing) ⊎ (board_size n (last_from n b t) < length b))
+      → (n ≤ 4096) × (t < n) × (3 * n < length (part ++ drop n b)) × ((first_from n (part ++ drop n b) t ≡ nothing) ⊎ (board_size n (last_from n (part ++ drop n b) t) < length (part ++ drop n b)))
   step_pushes some few long asked =
       let t_in = (step_reaches some).t_in in
       let size : length (set b t (d + 1)) ≡ length b = length-set b t (d + 1) in

@@ -2,12 +2,12 @@
 // reached in the round before.
 #![tactic(auto)]
 
-ghost use Rattle.std.specs.Prelude.{◌≡◌, ◌⊎◌, ◌+◌, ◌*◌, ◌≤◌, ◌<◌, get_or, length, replicate, set, take};
+ghost use Rattle.std.specs.Prelude.{◌≡◌, ◌⊎◌, ◌+◌, ◌*◌, ◌≤◌, ◌<◌, get_or, length, replicate, set};
 ghost use Rattle.board.specs.Board.{board_size, first_from, following, last_from, next_round, nothing, pushed, Ready, Spread, Stepped};
 ghost use Rattle.search_steps.specs.Steps.{unreached};
 
 use assertion::Assertion;
-use board::{NOTHING, file};
+use board::{NOTHING, Reached, file};
 use search_steps::mark;
 
 // The assertions from t are put before those of the round to come.
@@ -24,26 +24,26 @@ fn push(t: usize, count: usize, board: &mut [u16])
     board[3 * count] = first;
 }
 
-// The board of a search over the first n of a list: admin alone is reached, and the first round goes over the assertions from admin.
-pub fn prepare(list: [Assertion; 2048], n: usize, count: usize, board: &mut [u16])
-    requires { (n ≤ 2048) × (0 < count) × (count ≤ 4096) × (board.old ≡ replicate (board_size count n) unreached) }
-    ensures { Ready count (take n list) board.new }
+// The board of a search over a list: admin alone is reached, and the first round goes over the assertions from admin.
+pub fn prepare(list: &[Assertion], count: usize, board: &mut [u16])
+    requires { (length list.now ≤ 2048) × (0 < count) × (count ≤ 4096) × (board.old ≡ replicate (board_size count (length list.now)) unreached) }
+    ensures { Ready count list.now board.new }
 {
-    file(list, n, count, board);
+    file(list, count, board);
     board[0] = 0;
     push(0, count, board);
 }
 
-// Anyone's step, first in round d: 1 where anyone was reached in the round before, so that everybody is now, the principal among them.
-pub fn spread(d: u16, principal: usize, board: &mut [u16]) -> usize
+// Anyone's step, first in round d: whether anyone was reached in the round before, so that everybody is now, the principal among them.
+pub fn spread(d: u16, principal: usize, board: &mut [u16]) -> bool
     requires { (d < 4096) × (principal < length board.old) × (1 < length board.old) }
     ensures { Spread d principal board.old board.new result }
 {
     if board[1] != d {
-        return 0;
+        return false;
     }
     board[principal] = d + 1;
-    1
+    true
 }
 
 // The first assertion of the round that begins. The round after it has none yet.
@@ -64,21 +64,20 @@ pub fn next(i: usize, count: usize, board: &[u16]) -> usize
     board[3 * count + 1 + i] as usize
 }
 
-// One assertion's step in round d: 0 where it reaches nobody, 1 where it reaches somebody, 2 where that is the principal. Whoever is
-// reached leads on in the next round.
-pub fn step(a: Assertion, d: u16, principal: usize, count: usize, board: &mut [u16]) -> usize
+// One assertion's step in round d: whom it reaches. Whoever is reached leads on in the next round.
+pub fn step(a: Assertion, d: u16, principal: usize, count: usize, board: &mut [u16]) -> Reached
     requires { (d < 4096) × (count ≤ 4096) × (3 * count < length board.old)
         × (a.to < count → get_or board.old a.to 0 ≡ unreached → (first_from count board.old a.to ≡ nothing) ⊎ (board_size count (last_from count board.old a.to) < length board.old)) }
     ensures { Stepped count d a.from a.to principal board.old board.new result }
 {
-    let reached = mark(a, d, &mut board[0..count]);
-    if reached == 0 {
-        return 0;
+    let reached = mark(a, d, &mut board[..count]);
+    if !reached {
+        return Reached::Nobody;
     }
     let t = a.to as usize;
     if t == principal {
-        return 2;
+        return Reached::Principal;
     }
     push(t, count, board);
-    1
+    Reached::Somebody
 }

@@ -9,7 +9,7 @@ use native.Mathlib.Omega.{arith}
 use lib.ListN.{length, get_or, length-map, get_or-map}
 use borrow.Author.Tests.{eq-eqb, ne_eqb}
 use Rattle.chains.specs.Chain.{Asked, Chain, Shortest, Answered}
-use Rattle.chains.specs.declared.Answer.TheVariants.{Yes}
+use Rattle.std.specs.Prelude.{Some}
 use Rattle.search_steps.specs.Steps.{Delegation, unreached, left, mark_or, rest_reached, Marks}
 use Rattle.chains.specs.Rounds.{one_round, start, Whoever, answer_of, Everyone}
 use Rattle.search_steps.proofs.Marking.{left_some}
@@ -28,7 +28,7 @@ told_none : (a : Asked) (p m : ℕ) → m ≡ unreached → ((k : ℕ) → Chain
 told_none a p m e h = subst (Answered a p) (sym (found_no m m e)) h
 
 told_some : (a : Asked) (p m k : ℕ) → m ≡ k → k < unreached → Shortest a p k → Answered a p (answer_of m)
-told_some a p m k e small h = subst (Answered a p) (sym (found_yes m m (λ f. omega arith) ∙ ap Yes e)) h
+told_some a p m k e small h = subst (Answered a p) (sym (found_yes m m (λ f. omega arith) ∙ ap Some e)) h
 
 -- who is reached after d rounds
 told_reached : (a : Asked) (d : ℕ) (l : List ℕ) → d < 4096 → d < a.count → Good a d l → (p : ℕ) → p < a.count → (get_or l p 0 ≡ unreached → ⊥) → Answered a p (answer_of (get_or l p 0))

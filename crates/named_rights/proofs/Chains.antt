@@ -26,8 +26,8 @@ use Rattle.language.proofs.Histories.Offences.{sound}
 use Rattle.chains.specs.Chain as N
 use Rattle.chains.specs.Chain.{Asked, asked, Answered}
 use Rattle.assertion.specs.Packed.{fields}
-use Rattle.chains.specs.declared.Answer.{Answer}
-use Rattle.chains.specs.declared.Answer.TheVariants.{Yes, No}
+use Rattle.std.specs.Prelude as Code
+use Rattle.std.specs.Prelude.{Some, None}
 use Rattle.assertion.proofs.Packing.{fields_pack}
 use Rattle.named_rights.specs.Numbers.{code, four, numbered, principals_of, variables, Standing, Asks, length_of}
 use Rattle.named_rights.proofs.Places.{position_lt, same_place, code_lt, same_code}
@@ -149,22 +149,22 @@ module _ (s : Store) (v : T (valid_store s)) where
     by_name (N.link c (N.anyone q l)) p m e = C.to_all (by_name c anyone anyone_known (anyone_one ∙ sym q)) (is_named p s.principals m)
 
     -- the answer by numbers is the length by names
-    pub answers : (p : Name) → T (member p (principals_of s)) → (o : Answer) → Answered question (position (principals_of s) p) o → length_of o ≡ chain_length s r x p
+    pub answers : (p : Name) → T (member p (principals_of s)) → (o : Code.Option ℕ) → Answered question (position (principals_of s) p) o → length_of o ≡ chain_length s r x p
     answers p m o h = go o (chain_length s r x p) refl h
       where
         g : Sound s
         g = sound s (store_shape s v)
 
-        go : (o : Answer) (k : Option ℕ) → chain_length s r x p ≡ k → Answered question (position (principals_of s) p) o → length_of o ≡ k
-        go (Yes n) none e h = absurd (none_there s r x g.has_admin (g.has_target r x) p e n (by_name h.chain p m refl))
-        go (Yes n) (some k) e h =
+        go : (o : Code.Option ℕ) (k : Option ℕ) → chain_length s r x p ≡ k → Answered question (position (principals_of s) p) o → length_of o ≡ k
+        go (Some n) none e h = absurd (none_there s r x g.has_admin (g.has_target r x) p e n (by_name h.chain p m refl))
+        go (Some n) (some k) e h =
             let f = one_there s r x g.has_admin (g.has_target r x) p k e in
             ap some (le_antisymm (h.least k (by_number f.chain)) (f.least n (by_name h.chain p m refl)))
-        go No none e h = refl
-        go No (some k) e h = absurd (h k (by_number (one_there s r x g.has_admin (g.has_target r x) p k e).chain))
+        go None none e h = refl
+        go None (some k) e h = absurd (h k (by_number (one_there s r x g.has_admin (g.has_target r x) p k e).chain))
 
 -- the same of the numbers that a caller holds
-pub says : (s : Store) (r : Right) (x p : Name) (n count variable right principal : ℕ) (assertions : List ℕ) (o : Answer) → T (valid_store s) → Standing s n assertions
+pub says : (s : Store) (r : Right) (x p : Name) (n count variable right principal : ℕ) (assertions : List ℕ) (o : Code.Option ℕ) → T (valid_store s) → Standing s n assertions
     → Asks s r x p count variable right principal → Answered (asked (map fields (take n assertions)) count variable right) principal o → length_of o ≡ chain_length s r x p
 says s r x p n count variable right principal assertions o v t k h =
     let e = ap (map fields) t.are ∙ all_unpacked s v in

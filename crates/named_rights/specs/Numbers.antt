@@ -1,5 +1,6 @@
 -- Numbers for names and rights: principals and variables by their places in order of creation.
-use Rattle.std.specs.Prelude.{◌≡◌, ℕ, ◌≤◌, List, map, T, length, take}
+use Rattle.std.specs.Prelude as Code
+use Rattle.std.specs.Prelude.{Some, None, ◌≡◌, ℕ, ◌≤◌, List, map, T, length, take}
 use Rattle.std.proofs.Math.Option.{Option, none, some}
 use Rattle.language.specs.Text.{member}
 use Rattle.language.specs.Syntax.{Name, Right, read, write, append, delegate}
@@ -8,8 +9,6 @@ use Rattle.store.specs.Rows.{position}
 use Rattle.assertion.specs.Packed as N
 use Rattle.assertion.specs.Packed.{pack}
 use Rattle.chains.specs.Rounds.{answer_of}
-use Rattle.chains.specs.declared.Answer.{Answer}
-use Rattle.chains.specs.declared.Answer.TheVariants.{Yes, No}
 
 abbrev pub code : Right → ℕ
 code read = 0
@@ -54,9 +53,9 @@ pub record AsksAll (s : Store) (r : Right) (x : Name) (count variable right : �
   pub right_is : right ≡ code r
 
 -- what an answer of the search says
-abbrev pub length_of : Answer → Option ℕ
-length_of (Yes n) = some n
-length_of No = none
+abbrev pub length_of : Code.Option ℕ → Option ℕ
+length_of (Some n) = some n
+length_of None = none
 
 -- what a mark says
 abbrev pub length_marked : ℕ → Option ℕ

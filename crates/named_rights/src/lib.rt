@@ -8,8 +8,6 @@ ghost use Rattle.language.specs.Valid.{valid_store};
 ghost use Rattle.language.specs.Chains.{chain_length, has};
 ghost use Rattle.named_rights.specs.Numbers.{Standing, Asks, AsksAll, length_marked, length_of, principals_of};
 
-use chains::Answer;
-
 // The shortest chain for a right on a variable to a principal, by the first n assertions, among `count` principals.
 pub fn chain(
     assertions: &[u64],
@@ -18,13 +16,12 @@ pub fn chain(
     variable: usize,
     right: u16,
     principal: usize,
-) -> Answer
+) -> Option<usize>
     requires { (n ≤ length assertions.now) × (n ≤ 2048) × (count ≤ 1024) × (variable < 65536) }
     ensures { (s : Store) (r : Right) (x p : Name) → T (valid_store s) → Standing s n assertions.now
         → Asks s r x p count variable right principal → length_of result ≡ chain_length s r x p }
 {
-    let outcome = rights::shortest(&assertions[0..n], count, variable as u16, right, principal);
-    outcome.answer
+    rights::shortest(&assertions[..n], count, variable as u16, right, principal).answer
 }
 
 // Whether there is one.
@@ -41,10 +38,7 @@ pub fn may(
         → Asks s r x p count variable right principal → result ≡ has s r x p }
 {
     let a = chain(assertions, n, count, variable, right, principal);
-    match a {
-        Answer::Yes(_) => true,
-        Answer::No => false,
-    }
+    a.is_some()
 }
 
 // The shortest chains for a right on a variable to everyone, in order of creation, by the first n assertions: a mark for each, its length.
@@ -54,5 +48,5 @@ pub fn lengths(assertions: &[u64], n: usize, variable: usize, right: u16, marks:
         → AsksAll s r x (length marks.old) variable right
         → map length_marked marks.new ≡ map (chain_length s r x) (principals_of s) }
 {
-    marking::lengths(&assertions[0..n], variable as u16, right, marks);
+    marking::lengths(&assertions[..n], variable as u16, right, marks);
 }

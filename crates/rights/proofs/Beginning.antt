@@ -13,7 +13,7 @@ use Rattle.assertion.specs.Packed.{Assertion}
 use Rattle.board.specs.Board.{at, board_size, Front, Kept, next_round, nothing, Ready, Walk, Whole}
 use Rattle.board.proofs.Linking.{bucket_same, walk_same}
 use Rattle.chains.specs.Chain.{Asked, Chain, Shortest, Longest, Searched}
-use Rattle.chains.specs.declared.Answer.{Answer}
+use Rattle.std.specs.Prelude.{Option}
 use Rattle.chains.specs.Rounds.{found, start, Whoever}
 use Rattle.search_steps.specs.Steps.{◌∈◌, Delegation, handed, unreached, left}
 use Rattle.search_steps.proofs.Marking.{left_some}
@@ -64,17 +64,17 @@ pub record Within (ys : List Assertion) (n p d : ℕ) (B : List ℕ) (u i m : �
 module _ (s : List Delegation) (n p : ℕ) where
   pub searched_yes : (r v : ℕ) → p < n → (v ≡ unreached → ⊥) → Whoever s n (λ a. Shortest a p r) → Whoever s n (λ a. Searched a p (found r v) r)
   searched_yes r v lt h f =
-      subst (λ (o : Answer). Whoever s n (λ a. Searched a p o r)) (sym (found_yes r v h))
+      subst (λ (o : Option ℕ). Whoever s n (λ a. Searched a p o r)) (sym (found_yes r v h))
       (λ a e c. record { answer = f a e c; begun = λ x. refl; outside = λ x. absurd (omega arith) })
 
   pub searched_no : (d v : ℕ) → p < n → v ≡ unreached → Whoever s n (λ a. (m : ℕ) → Chain a m p → ⊥) → Whoever s n (λ a. Longest a d) → Whoever s n (λ a. Searched a p (found (d + 1) v) (d + 1))
   searched_no d v lt h f g =
-      subst (λ (o : Answer). Whoever s n (λ a. Searched a p o (d + 1))) (sym (found_no (d + 1) v h))
+      subst (λ (o : Option ℕ). Whoever s n (λ a. Searched a p o (d + 1))) (sym (found_no (d + 1) v h))
       (λ a e c. record { answer = f a e c; begun = λ x. (d, g a e c, add-one d); outside = λ x. absurd (omega arith) })
 
 -- what is reported of a search, by the mark m of the principal, is right
-pub reported : (a : Asked) (p r m : ℕ) (o : Answer) (k : ℕ) → Searched a p (found r m) r → (o ≡ found r m) × (k ≡ r) → Searched a p o k
-reported a p r m o k s e = subst (λ (j : ℕ). Searched a p o j) (sym e.1) (subst (λ (x : Answer). Searched a p x r) (sym e.0) s)
+pub reported : (a : Asked) (p r m : ℕ) (o : Option ℕ) (k : ℕ) → Searched a p (found r m) r → (o ≡ found r m) × (k ≡ r) → Searched a p o k
+reported a p r m o k s e = subst (λ (j : ℕ). Searched a p o j) (sym e.1) (subst (λ (x : Option ℕ). Searched a p x r) (sym e.0) s)
 
 -- ---- the start
 

@@ -11,6 +11,7 @@ use lib.ListN.{length, get_or, set, take}
 use lib.Seq.{get_or-set_same, get_or-take}
 use Rattle.assertion.specs.Packed.{Assertion}
 use Rattle.board.specs.Board.{at, board_size, first_from, following, Kept, last_from, next_round, nothing, pushed, Reaches, Stepped, Walk, Whole}
+use Rattle.board.specs.declared.Reached.TheVariants.{Nobody, Somebody, Principal}
 use Rattle.frontier.proofs.Boards.{reaches_marks}
 use Rattle.board.proofs.Linking.{bucket_last}
 use Rattle.frontier.proofs.Pushing.{Effect, effect, own, walk_stays, walk_grows, whole_grows, kept_stays}
@@ -22,6 +23,18 @@ use Rattle.chains.proofs.Passing.{delegates, relevant_step}
 use Rattle.chains.proofs.Rounding.{Ext, Has, Covers, ext_relevant, had}
 use Rattle.chains.proofs.Searching.{Good, chain_in, good_next, all_marked, shortest_marked, in_time, some_more}
 use Rattle.rights.proofs.Beginning.{Top, Low, Going, Within, small, cut, none_marked, room}
+
+-- an assertion's step from q to t that does not reach p: it reaches r, one or nobody
+pub record Went (n d q t p : ℕ) (old last : List ℕ) (r : ℕ) : Type 0 where
+  pub few : r ≤ 1
+  pub none : r ≡ 0 → Stepped n d q t p old last Nobody
+  pub other : r ≡ 1 → Stepped n d q t p old last Somebody
+
+pub went_none : (n d q t p : ℕ) (old last : List ℕ) → Stepped n d q t p old last Nobody → Went n d q t p old last 0
+went_none n d q t p old last h = record { few = omega arith; none = λ e. h; other = λ e. absurd (omega arith) }
+
+pub went_other : (n d q t p : ℕ) (old last : List ℕ) → Stepped n d q t p old last Somebody → Went n d q t p old last 1
+went_other n d q t p old last h = record { few = omega arith; none = λ e. absurd (omega arith); other = λ e. h }
 
 -- a list that is not empty
 record Popped (l : List ℕ) (u : ℕ) : Type 0 where
@@ -81,7 +94,7 @@ module _ (ys : List Assertion) (n p : ℕ) (few : n ≤ 4096) (lines : length ys
     pub within_needs : Within ys n p d B (suc u) i m e → (at ys i).to < n → get_or e (at ys i).to 0 ≡ unreached → (first_from n e (at ys i).to ≡ nothing) ⊎ (board_size n (last_from n e (at ys i).to) < length e)
     within_needs w t_in none = bucket_last n ys e (at ys i).to w.sized (w.kept (at ys i).to t_in none)
 
-    module _ (w : Within ys n p d B (suc u) i m e) (e' : List ℕ) (r : ℕ) (told : Stepped n d (at ys i).from (at ys i).to p e e' r) where
+    module _ (w : Within ys n p d B (suc u) i m e) (e' : List ℕ) (r : ℕ) where
       abbrev q : ℕ
       q = (at ys i).from
 
@@ -128,18 +141,16 @@ module _ (ys : List Assertion) (n p : ℕ) (few : n ≤ 4096) (lines : length ys
             subst (λ (k : ℕ). Chain a k t) (sym (add-one d)) (link (subst (λ (k : ℕ). Chain a k q) q-had b) (relevant_step a (handed (at ys i)) (is_asked a f) (omega (arith, h.t_in))))
 
       -- the step reaches p: by a chain of d + 1 steps, and none is shorter
-      pub within_hit : r ≡ 2 → Whoever s n (λ a. Shortest a p (d + 1))
-      within_hit two a f c =
-          let h = told.hit two in
+      pub within_hit : Stepped n d q t p e e' Principal → Whoever s n (λ a. Shortest a p (d + 1))
+      within_hit h a f c =
           let good : Good a d D = g.good a f c in record {
             chain = subst (Chain a (d + 1)) h.1 (reached_by h.0 a f c);
             least = λ k ch. elim (dec_le (d + 1) k) [ yes l ↦ l | no l ↦ absurd (omega (arith, good.complete ch (omega arith), none_marked ys n p few lt d B g)) ];
             short = omega (arith, room ys n p few lt d B g);
           }
 
-      pub within_marked : r ≡ 2 → get_or e' p 0 ≡ unreached → ⊥
-      within_marked two none =
-          let h = told.hit two in
+      pub within_marked : Stepped n d q t p e e' Principal → get_or e' p 0 ≡ unreached → ⊥
+      within_marked h none =
           let has : get_or e' p 0 ≡ d + 1 = ap (λ (k : ℕ). get_or e' k 0) (sym h.1) ∙ ap (λ (l : List ℕ). get_or l t 0) h.2 ∙ get_or-set_same e t (d + 1) 0 (omega (arith, w.sized, h.0.t_in)) in
           omega (arith, low_d)
 
@@ -214,8 +225,8 @@ module _ (ys : List Assertion) (n p : ℕ) (few : n ≤ 4096) (lines : length ys
           at_t : (k : ℕ) → k ≡ t → get_or (pushed n t (set e t (d + 1))) k 0 ≡ d + 1
           at_t k f = ap (λ (j : ℕ). get_or (pushed n t (set e t (d + 1))) j 0) f ∙ x.new
 
-      moved : (r ≡ 2 → ⊥) → Moved e'
-      moved other =
+      moved : Went n d q t p e e' r → Moved e'
+      moved told =
           elim (ℕ_discrete r 0) [
             | yes z ↦ let o = told.none z in subst Moved (sym o.0) (moved_none z o.1)
             | no ne ↦
@@ -224,12 +235,12 @@ module _ (ys : List Assertion) (n p : ℕ) (few : n ≤ 4096) (lines : length ys
                 subst Moved (sym o.2) (moved_other one o.0 o.1)
           ]
 
-      pub within_fits : (r ≡ 2 → ⊥) → m + r < 2 ^ 64
-      within_fits other = omega (arith, (moved other).counts, w.counts, left_le D, cut ys n p few lt d B g)
+      pub within_fits : Went n d q t p e e' r → m + r < 2 ^ 64
+      within_fits told = omega (arith, (moved told).counts, w.counts, left_le D, cut ys n p few lt d B g)
 
       -- the round goes on
-      pub within_next : (r ≡ 2 → ⊥) → (i' : ℕ) → i' ≡ following n e' i → Within ys n p d B u i' (m + r) e'
-      within_next other i' f = record {
+      pub within_next : Went n d q t p e e' r → (i' : ℕ) → i' ≡ following n e' i → Within ys n p d B u i' (m + r) e'
+      within_next told i' f = record {
         going = g;
         not_anyone = w.not_anyone;
         sized = x.sized;
@@ -261,7 +272,7 @@ module _ (ys : List Assertion) (n p : ℕ) (few : n ≤ 4096) (lines : length ys
       }
         where
           x : Moved e'
-          x = moved other
+          x = moved told
 
           stays : (r ≡ 0) × (take n e' ≡ take n e) → Top n (d + 1) e → Top n (d + 1) e'
           stays c o = record {

@@ -19,8 +19,9 @@ use Rattle.search_steps.specs.Steps.{◌∈◌, handed, unreached, left}
 use Rattle.chains.specs.Chain.{Searched}
 use Rattle.chains.specs.Rounds.{found, Whoever}
 use Rattle.board.specs.Board.{at, board_size, first_from, following, last_from, Linked, next_round, nothing, Stepped, Walk}
+use Rattle.board.specs.declared.Reached.TheVariants.{Principal}
 use Rattle.rights.proofs.Beginning.{Going, Within, within_first, searched_yes, searched_no}
-use Rattle.rights.proofs.Leaving.{within_in, within_out, within_needs, within_fits, within_next, within_hit, within_marked, within_never, within_longest, within_less, within_over}
+use Rattle.rights.proofs.Leaving.{Went, within_in, within_out, within_needs, within_fits, within_next, within_hit, within_marked, within_never, within_longest, within_less, within_over}
 
 -- how many are gone over from place c on by the step f, but k at most
 unfoldable pub links : ℕ → (ℕ → ℕ) → ℕ → ℕ
@@ -141,25 +142,25 @@ module _ (ys : List Assertion) (n p : ℕ) (few : n ≤ 4096) (lines : length ys
       pub turning_needs : (at ys i).to < n → get_or e (at ys i).to 0 ≡ unreached → (first_from n e (at ys i).to ≡ nothing) ⊎ (board_size n (last_from n e (at ys i).to) < length e)
       turning_needs = within_needs ys n p few lines lt d t.head turn.0 i m e turn.2
 
-      module _ (e' : List ℕ) (r : ℕ) (told : Stepped n d (at ys i).from (at ys i).to p e e' r) where
-        pub turning_hit : r ≡ 2 → Told ys n p d e'
-        turning_hit two =
-            searched_yes (map handed ys) n p (d + 1) (get_or e' p 0) lt
-            (within_marked ys n p few lines lt d t.head turn.0 i m e turn.2 e' r told two) (within_hit ys n p few lines lt d t.head turn.0 i m e turn.2 e' r told two)
+      -- it reaches p
+      pub turning_hit : (e' : List ℕ) → Stepped n d (at ys i).from (at ys i).to p e e' Principal → Told ys n p d e'
+      turning_hit e' h =
+          searched_yes (map handed ys) n p (d + 1) (get_or e' p 0) lt
+          (within_marked ys n p few lines lt d t.head turn.0 i m e turn.2 e' 0 h) (within_hit ys n p few lines lt d t.head turn.0 i m e turn.2 e' 0 h)
 
-        module _ (other : r ≡ 2 → ⊥) where
-          pub turning_fits : m + r < 2 ^ 64
-          turning_fits = within_fits ys n p few lines lt d t.head turn.0 i m e turn.2 e' r told other
+      module _ (e' : List ℕ) (r : ℕ) (told : Went n d (at ys i).from (at ys i).to p e e' r) where
+        pub turning_fits : m + r < 2 ^ 64
+        turning_fits = within_fits ys n p few lines lt d t.head turn.0 i m e turn.2 e' r told
 
-          module _ (i' : ℕ) (on : i' ≡ following n e' i) where
-            abbrev pub turning_next : Turning ys n p d b i' (m + r) e'
-            turning_next = record {
-              head = t.head;
-              marks = t.marks;
-              turns = turn.0;
-              bounded = omega (arith, turn.1, t.bounded);
-              within = within_next ys n p few lines lt d t.head turn.0 i m e turn.2 e' r told other i' on;
-            }
+        module _ (i' : ℕ) (on : i' ≡ following n e' i) where
+          abbrev pub turning_next : Turning ys n p d b i' (m + r) e'
+          turning_next = record {
+            head = t.head;
+            marks = t.marks;
+            turns = turn.0;
+            bounded = omega (arith, turn.1, t.bounded);
+            within = within_next ys n p few lines lt d t.head turn.0 i m e turn.2 e' r told i' on;
+          }
 
     -- there is none: the round is over
     module _ (none : length ys ≤ i) where
@@ -184,8 +185,8 @@ module _ (ys : List Assertion) (n p : ℕ) (few : n ≤ 4096) (lines : length ys
 
 -- each turn leaves fewer
 pub turning_fewer : (ys : List Assertion) (n p : ℕ) (few : n ≤ 4096) (lines : length ys ≤ 2048) (lt : p < n) (d : ℕ) (b : List ℕ) (i m : ℕ) (e : List ℕ) (t : Turning ys n p d b i m e) (more : i < length ys)
-    (e' : List ℕ) (r : ℕ) (told : Stepped n d (at ys i).from (at ys i).to p e e' r) (other : r ≡ 2 → ⊥) (i' : ℕ) (on : i' ≡ following n e' i)
+    (e' : List ℕ) (r : ℕ) (told : Went n d (at ys i).from (at ys i).to p e e' r) (i' : ℕ) (on : i' ≡ following n e' i)
     → links (length ys) (following n e') i' < links (length ys) (following n e) i
-turning_fewer ys n p few lines lt d b i m e t more e' r told other i' on =
-    let next = turning_next ys n p few lines lt d b i m e t more e' r told other i' on in
+turning_fewer ys n p few lines lt d b i m e t more e' r told i' on =
+    let next = turning_next ys n p few lines lt d b i m e t more e' r told i' on in
     omega (arith, turns_left ys n p few lines lt d b i m e t, turns_left ys n p few lines lt d b i' (m + r) e' next, (turn ys n p few lines lt d b i m e t more).1)

@@ -4,8 +4,6 @@
 
 ghost use Rattle.rights_c.specs.Reported.{Reported};
 
-use chains::Answer;
-
 const NO: u64 = 4096;
 
 const REFUSED: u64 = 4097;
@@ -30,11 +28,9 @@ pub extern "C" fn rights_shortest(
         return REFUSED;
     }
     let outcome = rights::shortest(assertions, count, variable, right, principal);
-    let begun = outcome.rounds;
-    *rounds = begun as u64;
-    let answer = outcome.answer;
-    match answer {
-        Answer::Yes(n) => n as u64,
-        Answer::No => NO,
+    *rounds = outcome.rounds as u64;
+    match outcome.answer {
+        Some(n) => n as u64,
+        None => NO,
     }
 }

@@ -25,7 +25,7 @@ fn put_packed(
     ensures { (s : Store) (a : Assertion) → Named s l principals.now principal_slots.now vars.now variable_slots.now
         → Assertions s a number → Written out.old at (assertion_text a) result out.new }
 {
-    let a = assertion::unpack(number);
+    let a = assertion::Assertion::from(number);
     let x = name_of(vars, variable_slots, l.vars, a.variable as usize);
     let q = name_of(principals, principal_slots, l.principals, a.from as usize);
     let p = name_of(principals, principal_slots, l.principals, a.to as usize);

@@ -41,14 +41,13 @@ module _ (v w n : ℕ) (w_Fits : w < 2 ^ 16) where
         | no other ↦ simp (ne_eqb (n / 2 ^ 48) v other)
       ]
 
-  -- it is kept at place k, in whatever form x it is kept, or passed over
-  pub kept : {A : Type 0} (f : A → Delegation) (x : A) → f x ≡ handed (fields n) → (k : ℕ) (l : List A) → k < length l → upper n ≡ key v w → map f (take (k + 1) (set l k x)) ≡ map f (take k l) ++ delegations v w (fields n ∷ [])
-  kept f x is k l room e =
-      ap (λ (j : ℕ). map f (take j (set l k x))) (add-one k)
-      ∙ ap (map f) (take-suc-set l k x room)
-      ∙ map-append f (take k l) (x ∷ [])
-      ∙ ap (λ (d : Delegation). map f (take k l) ++ (d ∷ [])) is
-      ∙ ap (λ (t : List Delegation). map f (take k l) ++ t) (sym (one_kept e))
+  -- it is kept at place k, or passed over
+  pub kept : (k : ℕ) (l : List Assertion) → k < length l → upper n ≡ key v w → map handed (take (k + 1) (set l k (fields n))) ≡ map handed (take k l) ++ delegations v w (fields n ∷ [])
+  kept k l room e =
+      ap (λ (j : ℕ). map handed (take j (set l k (fields n)))) (add-one k)
+      ∙ ap (map handed) (take-suc-set l k (fields n) room)
+      ∙ map-append handed (take k l) (fields n ∷ [])
+      ∙ ap (λ (t : List Delegation). map handed (take k l) ++ t) (sym (one_kept e))
 
   pub passed_over : (t : List Delegation) → (upper n ≡ key v w → ⊥) → t ≡ t ++ delegations v w (fields n ∷ [])
   passed_over t ne = sym (ap (λ (r : List Delegation). t ++ r) (none_kept ne) ∙ append-nil t)

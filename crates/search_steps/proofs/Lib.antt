@@ -1,3 +1,2 @@
 pub mod Gathering
 pub mod Marking
-pub mod Filling

@@ -2,7 +2,7 @@
 -- `unreached`.
 use Rattle.std.specs.Prelude.{◌≡◌, Bool, true, false, cond, ℕ, ◌+◌, length, get_or, set, ltb, eqb}
 use mathlib.Core.List.{List, [], ◌∷◌, map, Memᴰ}
-use Rattle.assertion.specs.Packed.{Assertion, fields}
+use Rattle.assertion.specs.Packed.{Assertion}
 
 infix 50 ◌∈◌
 abbrev pub ◌∈◌ : {A : Type 0} → A → List A → Type 0
@@ -15,10 +15,6 @@ pub record Delegation : Type 0 where
 
 abbrev pub handed : Assertion → Delegation
 handed a = record { from = a.from; to = a.to }
-
--- the same of an assertion in the one number in which it is kept
-abbrev pub handed_by : ℕ → Delegation
-handed_by k = handed (fields k)
 
 -- the delegations for variable v and right w, in order of entry
 unfoldable pub delegations : ℕ → ℕ → List Assertion → List Delegation

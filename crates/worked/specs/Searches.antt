@@ -8,20 +8,19 @@ use Rattle.assertion.specs.Packed.{Assertion, pack, fields}
 use Rattle.search_steps.specs.Steps.{delegations, marked, left}
 use Rattle.chains.specs.Chain.{Asked, Shortest, Searched, asked}
 use Rattle.chains.specs.Rounds.{begun_of, longest_of, shortest_of, searched, start, one_round}
-use Rattle.chains.specs.declared.Answer.{Answer}
-use Rattle.chains.specs.declared.Answer.TheVariants.{Yes, No}
+use Rattle.std.specs.Prelude.{Option, Some, None}
 use Rattle.chains.proofs.Answers.{computed_right, computed_searched}
 
 -- what a search says, and the rounds that it begins
 pub record Told : Type 0 where
-  pub says : Answer
+  pub says : Option ℕ
   pub begins : ℕ
 
 abbrev pub yes : ℕ → Told
-yes n = record { says = Yes n; begins = n }
+yes n = record { says = Some n; begins = n }
 
 abbrev pub no_after : ℕ → Told
-no_after n = record { says = No; begins = n }
+no_after n = record { says = None; begins = n }
 
 -- the numbers below n
 abbrev pub below : ℕ → List ℕ
@@ -183,6 +182,6 @@ unfolding shortest_of searched delegations start one_round marked left
 three_steps = computed_right line 4 (omega arith)
 
 -- a search for e that keeps its promise says no after four rounds, and nothing else
-pub four_rounds : (o : Answer) (r : ℕ) → Searched line 5 o r → (o ≡ No) × (r ≡ 4)
+pub four_rounds : (o : Option ℕ) (r : ℕ) → Searched line 5 o r → (o ≡ None) × (r ≡ 4)
 unfolding begun_of longest_of shortest_of searched delegations start one_round marked left
 four_rounds o r f = computed_searched line 5 o r (omega arith) f

@@ -6,7 +6,8 @@ use Rattle.language.specs.Calls as C
 use Rattle.language.specs.Calls.{right_byte, length_answer}
 use Rattle.store.specs.Rows.{principal_row, variable_row, place}
 use Rattle.store.specs.declared.index.Found.TheVariants.{At}
-use Rattle.chains.specs.declared.Answer.{Answer}
+use Rattle.std.specs.Prelude.{Option}
+use Prim.Native.Nat.{ℕ}
 use Rattle.named_rights.specs.Numbers.{code, length_of}
 use Rattle.validate.specs.Checked.{Understood}
 use Rattle.answers.specs.Answers.{right_code}
@@ -47,8 +48,8 @@ chain-chain-requires c =
     let u = c.requires in
     (u.represents.assertions.within, few_asserted u, few_everyone u, number_fits u c.args.variable.now c.in-At-place.shared c.in-At-place.start c.in-At-place.end (place_at u))
 
-pub returns-in-Yes : goal.returns-in-Yes
-returns-in-Yes c u =
+pub returns-in-Some : goal.returns-in-Some
+returns-in-Some c u =
     let Known : Type 0 = Understood c.args.state.now c.args.principals.now c.args.vars.now c.args.assertions.now c.args.parts in
     let principal_at_lem : (u : Known) → At c.in-At.number c.in-At.start c.in-At.end ≡ place (map principal_row (store u).principals) c.args.name.now = λ u. sym c.in-At.is ∙ c.find-principal.ensures (map principal_row (store u).principals) (are_principals u) in
     let place_at : (u : Known) → At c.in-At-place.shared c.in-At-place.start c.in-At-place.end ≡ place (map variable_row (store u).variables) c.args.variable.now = λ u. sym c.in-At-place.is ∙ c.find-place.ensures (map variable_row (store u).variables) (are_vars u) in
@@ -61,10 +62,10 @@ returns-in-Yes c u =
     let is_code : c.right_code-code.result ≡ code R.right = c.right_code-code.ensures ∙ ap right_code R.is_right in
     ap length_answer (c.chain-chain.ensures (store u) R.right x p (store_valid u) u.represents.assertions (asks u p x c.in-At.number c.in-At.start c.in-At.end q c.in-At-place.shared c.in-At-place.start c.in-At-place.end w R.right _ is_code))
     ∙ answered u p x c.in-At.number c.in-At.start c.in-At.end q c.in-At-place.shared c.in-At-place.start c.in-At-place.end w (right_byte c.args.right) R.right R.is_right in
-    ap (λ (o : Answer). length_answer (length_of o)) (sym c.in-Yes.is) ∙ by_chain u
+    ap (λ (o : Option ℕ). length_answer (length_of o)) (sym c.in-Some.is) ∙ by_chain u
 
-pub returns-in-No : goal.returns-in-No
-returns-in-No c u =
+pub returns-in-None : goal.returns-in-None
+returns-in-None c u =
     let Known : Type 0 = Understood c.args.state.now c.args.principals.now c.args.vars.now c.args.assertions.now c.args.parts in
     let principal_at_lem : (u : Known) → At c.in-At.number c.in-At.start c.in-At.end ≡ place (map principal_row (store u).principals) c.args.name.now = λ u. sym c.in-At.is ∙ c.find-principal.ensures (map principal_row (store u).principals) (are_principals u) in
     let place_at : (u : Known) → At c.in-At-place.shared c.in-At-place.start c.in-At-place.end ≡ place (map variable_row (store u).variables) c.args.variable.now = λ u. sym c.in-At-place.is ∙ c.find-place.ensures (map variable_row (store u).variables) (are_vars u) in
@@ -77,4 +78,4 @@ returns-in-No c u =
     let is_code : c.right_code-code.result ≡ code R.right = c.right_code-code.ensures ∙ ap right_code R.is_right in
     ap length_answer (c.chain-chain.ensures (store u) R.right x p (store_valid u) u.represents.assertions (asks u p x c.in-At.number c.in-At.start c.in-At.end q c.in-At-place.shared c.in-At-place.start c.in-At-place.end w R.right _ is_code))
     ∙ answered u p x c.in-At.number c.in-At.start c.in-At.end q c.in-At-place.shared c.in-At-place.start c.in-At-place.end w (right_byte c.args.right) R.right R.is_right in
-    ap (λ (o : Answer). length_answer (length_of o)) (sym c.in-No.is) ∙ by_chain u
+    ap (λ (o : Option ℕ). length_answer (length_of o)) (sym c.in-None.is) ∙ by_chain u
