@@ -2,5 +2,3 @@
 pub mod Fitting
 -- A cut quotient and the rounded one
 pub mod Quotients
--- The range of amounts, by its two ends
-pub mod Ranges

@@ -14,10 +14,10 @@ fn put_digits(out: &mut [u8], at: usize, n: u32) -> usize
     ensures { (more : ℕ) → Digits more n → Written out.old at (digits more n) result out.new }
 {
     if n < 10 {
-        return put_byte(out, at, 48 + n as u8);
+        return put_byte(out, at, b'0' + n as u8);
     }
     let p = put_digits(out, at, n / 10);
-    put_byte(out, p, 48 + (n % 10) as u8)
+    put_byte(out, p, b'0' + (n % 10) as u8)
 }
 
 pub fn put_decimal(out: &mut [u8], at: usize, n: u32) -> usize

@@ -1,8 +1,7 @@
 // The functions on strings, requests M-100 and M-104: each writes the text of its result.
 #![tactic(auto)]
 
-ghost use Rattle.std.specs.Prelude.{◌≡◌, ◌++◌, map, ◌+◌, ◌≤◌, length, take, drop, nat_abs};
-ghost use Rattle.language.specs.Text.{Text};
+ghost use Rattle.std.specs.Prelude.{◌≡◌, ◌++◌, map, ◌+◌, ◌≤◌, length, nat_abs};
 ghost use Rattle.language.specs.State.{string};
 ghost use Rattle.language.specs.Encode.{element_text, value_text};
 ghost use Rattle.language.specs.Prices.{greatest, price_text};
@@ -12,13 +11,7 @@ ghost use Rattle.value_text.specs.Writing.{Written};
 fn lower_byte(b: u8) -> u8
     ensures { result ≡ lower_byte b }
 {
-    if b < b'A' {
-        return b;
-    }
-    if b'Z' < b {
-        return b;
-    }
-    b + 32
+    b.to_ascii_lowercase()
 }
 
 // Copies src to out, from `at` on, in small letters. Where it ends.
@@ -26,12 +19,10 @@ fn copy_lower(out: &mut [u8], at: usize, src: &[u8]) -> usize
     requires { at + length src.now ≤ length out.old }
     ensures { Written out.old at (map lower_byte src.now) result out.new }
 {
-    let mut i: usize = 0;
-    while i < src.len() {
-        out[at + i] = lower_byte(src[i]);
-        i += 1;
+    for (i, b) in src.iter().enumerate() {
+        out[at + i] = lower_byte(*b);
     }
-    at + i
+    at + src.len()
 }
 
 // tolower
@@ -55,17 +46,6 @@ pub fn put_joined(out: &mut [u8], first: &[u8], second: &[u8]) -> usize
     value_text::put_byte(out, c, b'\n')
 }
 
-// Where a text of that length is cut: at n, or at its end.
-fn cut_at(n: usize, len: usize) -> usize
-    ensures within { result ≤ len }
-    ensures same { (t : Text) → length t ≡ len → (take result t ≡ take n t) × (drop result t ≡ drop n t) }
-{
-    if len < n {
-        return len;
-    }
-    n
-}
-
 // add, sub, times and per, where the amount is the result
 pub fn put_amount(out: &mut [u8], amount: i64) -> usize
     requires { (nat_abs amount ≤ greatest) × (14 ≤ length out.old) }
@@ -81,9 +61,8 @@ pub fn put_cut(out: &mut [u8], text: &[u8], n: usize) -> usize
     requires { length text.now + 16 ≤ length out.old }
     ensures { Written out.old 0 (value_text (cut text.now n)) result out.new }
 {
-    let end = text.len();
-    let k = cut_at(n, end);
+    let (first, second) = text.split_at(n.min(text.len()));
     let a = value_text::put_record(out, 0);
-    let b = value_text::put_field(out, a, b"fst", &text[0..k]);
-    value_text::put_field(out, b, b"snd", &text[k..end])
+    let b = value_text::put_field(out, a, b"fst", first);
+    value_text::put_field(out, b, b"snd", second)
 }

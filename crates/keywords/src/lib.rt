@@ -9,39 +9,29 @@ ghost use Rattle.language.specs.Identifiers.{base_keywords, price_keywords, keyw
 fn among(words: &[u8], w: &[u8]) -> bool
     ensures { result ≡ member w.now (parts 32 words.now) }
 {
-    let mut p = 0;
-    while p <= words.len() {
-        let e = text::until(words, p, b' ');
-        if text::same_bytes(w, &words[p..e]) {
-            return true;
-        }
-        p = e + 1;
-    }
-    false
+    words
+        .split(|b| *b == b' ')
+        .any(|word| text::same_bytes(w, word))
 }
 
 // The keywords of document 01, by their first letter. No state text holds one as a name.
 pub fn is_base_keyword(w: &[u8]) -> bool
     ensures { result ≡ member w.now base_keywords }
 {
-    if w.len() == 0 {
-        return false;
-    }
-    let first = w[0];
-    match first {
-        b'a' => among(b"all append as", w),
-        b'c' => among(b"change create concat", w),
-        b'd' => among(b"default delegate delegation delegator delete do", w),
-        b'e' => among(b"exit equal", w),
-        b'f' => among(b"foreach filtereach", w),
-        b'i' => among(b"in", w),
-        b'l' => among(b"local let", w),
-        b'n' => among(b"notequal", w),
-        b'p' => among(b"password principal", w),
-        b'r' => among(b"read replacewith return", w),
-        b's' => among(b"set split", w),
-        b't' => among(b"to tolower", w),
-        b'w' => among(b"write with", w),
+    match w {
+        [b'a', ..] => among(b"all append as", w),
+        [b'c', ..] => among(b"change create concat", w),
+        [b'd', ..] => among(b"default delegate delegation delegator delete do", w),
+        [b'e', ..] => among(b"exit equal", w),
+        [b'f', ..] => among(b"foreach filtereach", w),
+        [b'i', ..] => among(b"in", w),
+        [b'l', ..] => among(b"local let", w),
+        [b'n', ..] => among(b"notequal", w),
+        [b'p', ..] => among(b"password principal", w),
+        [b'r', ..] => among(b"read replacewith return", w),
+        [b's', ..] => among(b"set split", w),
+        [b't', ..] => among(b"to tolower", w),
+        [b'w', ..] => among(b"write with", w),
         _ => false,
     }
 }
@@ -50,15 +40,11 @@ pub fn is_base_keyword(w: &[u8]) -> bool
 fn is_price_keyword(w: &[u8]) -> bool
     ensures { result ≡ member w.now price_keywords }
 {
-    if w.len() == 0 {
-        return false;
-    }
-    let first = w[0];
-    match first {
-        b'a' => among(b"add", w),
-        b'p' => among(b"per", w),
-        b's' => among(b"sub", w),
-        b't' => among(b"times", w),
+    match w {
+        [b'a', ..] => among(b"add", w),
+        [b'p', ..] => among(b"per", w),
+        [b's', ..] => among(b"sub", w),
+        [b't', ..] => among(b"times", w),
         _ => false,
     }
 }
@@ -67,8 +53,5 @@ fn is_price_keyword(w: &[u8]) -> bool
 pub fn is_keyword(w: &[u8]) -> bool
     ensures { result ≡ member w.now keywords }
 {
-    if is_base_keyword(w) {
-        return true;
-    }
-    is_price_keyword(w)
+    is_base_keyword(w) || is_price_keyword(w)
 }

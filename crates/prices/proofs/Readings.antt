@@ -3,26 +3,25 @@
 use mathlib.Core.Path.{◌≡◌, refl, sym, ap, subst, ◌∙◌}
 use mathlib.Core.Bool.{Bool, true, false, ◌&&◌, not}
 use mathlib.Core.Option.{none, some}
-use mathlib.Core.List.{[], ◌∷◌, ◌++◌}
+use mathlib.Core.List.{◌∷◌, ◌++◌}
 use Prim.Native.Nat.{ℕ, zero, suc, ◌+◌, ◌*◌, ◌-◌, ◌/◌, ◌≤◌, ◌<◌}
 use native.Mathlib.Omega.{arith}
 use native.Mathlib.Numerals.{add-one}
-use native.Mathlib.Nat.{sub-zero}
-use borrow.Author.Tests.{lt-leb, le-leb}
+use borrow.Author.Tests.{le-leb}
 use lib.IntN.{ℤ, pos, negsuc, nat_abs}
 use lib.Signed.{non_neg}
-use lib.Dec.{T, leb, leb→le, eqb}
-use lib.ListN.{length, get_or, take, drop}
+use lib.Dec.{T, leb, leb→le}
+use lib.ListN.{length, get_or, drop}
 use lib.Seq.{drop-cons}
 use Rattle.language.specs.Text.{Text, bytes, when◌then◌else◌, ◌≟◌, keep}
 use Rattle.language.specs.Bytes.{between}
 use Rattle.language.specs.Decode.{number}
 use Rattle.language.specs.Prices.{greatest, in_range, amount_text, price_text, digits_of, starts_minus, signed, reading, price}
-use Rattle.language.proofs.Logic.Tests.{both, and_false}
+use Rattle.language.proofs.Logic.Tests.{both}
 use Rattle.language.proofs.Meaning.Rounding.{abs_signed}
 use Rattle.language.proofs.StateText.Digits.{Within}
-use Rattle.value_text.specs.Writing.{Written}
-use Rattle.value_text.proofs.Pieces.{written_take}
+use Rattle.std.specs.Bool.{then_some}
+use Rattle.amounts.specs.Amounts.{amount_meant}
 
 -- ---- a text from its sign and its amount
 
@@ -34,24 +33,10 @@ pub above_text : (a : ℤ) → not (non_neg a) ≡ false → amount_text (nat_ab
 above_text (pos n) e = refl
 above_text (negsuc n) e = absurd (let z : ◌≡◌ {A = ℕ} 0 1 = cc in omega arith)
 
--- what was written from the front on, as a part
-pub written_part : {a b : Text} {r : ℕ} {p : Text} → Written a 0 p r b → take (r - 0) (drop 0 b) ≡ p
-written_part {a} {b} {r} {p} w = ap (λ (k : ℕ). take k b) (sub-zero r) ∙ written_take w
-
 -- ---- a digit more
 
 abbrev with_digit : ℕ → ℕ → ℕ
 with_digit n b = when between "0" "9" b then n * 10 + (b - 48) else n
-
-module _ (n b : ℕ) where
-  pub below_digits : b < 48 → n ≡ with_digit n b
-  below_digits h = sym (ap (λ (c : Bool). when c && leb b 57 then n * 10 + (b - 48) else n) (lt-leb 48 b h))
-
-  pub past_digits : 57 < b → n ≡ with_digit n b
-  past_digits h = sym (ap (λ (c : Bool). when c then n * 10 + (b - 48) else n) (ap (λ (c : Bool). leb 48 b && c) (lt-leb b 57 h) ∙ and_false (leb 48 b)))
-
-  pub a_digit : 48 ≤ b → b ≤ 57 → n * 10 + (b - 48) ≡ with_digit n b
-  a_digit h k = sym (λ i. when◌then◌else◌ {A = ℕ} (le-leb 48 b h i && le-leb b 57 k i) (n * 10 + (b - 48)) n)
 
 -- one byte of a text after the other
 pub digits_step : (n : ℕ) (t : Text) (i : ℕ) → i < length t
@@ -80,34 +65,22 @@ within_step j n b h = rw add-one (go (between "0" "9" b) (λ t. (both (leb 48 b)
 pub within_bound : (i n : ℕ) → i ≤ 10 → Within i n → n ≤ 99999999999
 within_bound i n l h = let w : Within 10 n = within_more i 10 n l h in omega arith
 
--- ---- the sign
-
-pub no_sign : (t : Text) → length t ≡ 0 → false ≡ starts_minus t
-no_sign [] e = refl
-no_sign (b ∷ t) e = absurd (omega arith)
-
-pub sign_first : (t : Text) → eqb (get_or t 0 0) 45 ≡ starts_minus t
-sign_first [] = refl
-sign_first (b ∷ t) = refl
-
 -- ---- what was read, held against the range and the text
 
-pub signed_small : (m : Bool) (n : ℕ) → n ≤ greatest → nat_abs (signed m n) ≤ greatest
-signed_small m n h = omega (arith, abs_signed m n)
-
-pub wide_none : (t : Text) → greatest < digits_of t → none ≡ price t
-wide_none t h =
-    let l : leb (nat_abs (reading t)) greatest ≡ false = lt-leb (nat_abs (reading t)) greatest (omega (arith, abs_signed (starts_minus t) (digits_of t))) in
-    sym (ap (λ (b : Bool). when b && (price_text (reading t) ≟ t) then some (reading t) else none) l)
+-- the amount or none, in the terms of the language
+told : (c : Bool) (a : ℤ) → amount_meant (then_some c a) ≡ (when c then some a else none)
+told true a = refl
+told false a = refl
 
 module _ (t : Text) (m : Bool) (n : ℕ) (a : ℤ) (minus : m ≡ starts_minus t) (digits : n ≡ digits_of t) (is : a ≡ signed m n) (low : n ≤ greatest) where
   as_read : a ≡ reading t
   as_read = is ∙ ap (λ (b : Bool). signed b n) minus ∙ ap (signed (starts_minus t)) digits
 
   -- the amount counts where it has this text
-  pub price_tested : (c : Bool) → c ≡ (price_text a ≟ t) → (when c then some a else none) ≡ price t
+  pub price_tested : (c : Bool) → c ≡ (price_text a ≟ t) → amount_meant (then_some c a) ≡ price t
   price_tested c e =
       let l : in_range a ≡ true = le-leb (nat_abs a) greatest (omega (arith, ap nat_abs is, abs_signed m n)) in
-      ap (λ (b : Bool). when b then some a else none) e
+      told c a
+      ∙ ap (λ (b : Bool). when b then some a else none) e
       ∙ sym (ap (λ (b : Bool). when b && (price_text a ≟ t) then some a else none) l)
       ∙ ap (λ (r : ℤ). when in_range r && (price_text r ≟ t) then some r else none) as_read

@@ -8,7 +8,7 @@ ghost use Rattle.language.specs.Prices.{greatest, amount_text, price_text, digit
 ghost use Rattle.amounts.specs.Amounts.{amount_meant};
 ghost use Rattle.value_text.specs.Writing.{Written};
 
-use amounts::{Amount, signed};
+use amounts::signed;
 use decimals::put_decimal;
 use value_text::put_byte;
 
@@ -19,8 +19,8 @@ fn put_amount(out: &mut [u8], at: usize, n: u32) -> usize
 {
     let a = put_decimal(out, at, n / 100);
     let b = put_byte(out, a, b'.');
-    let c = put_byte(out, b, 48 + (n / 10 % 10) as u8);
-    put_byte(out, c, 48 + (n % 10) as u8)
+    let c = put_byte(out, b, b'0' + (n / 10 % 10) as u8);
+    put_byte(out, c, b'0' + (n % 10) as u8)
 }
 
 pub fn put_price(out: &mut [u8], at: usize, amount: i64) -> usize
@@ -40,13 +40,11 @@ fn with_digit(n: u64, b: u8) -> u64
     requires { n ≤ 99999999999 }
     ensures { result ≡ (when between "0" "9" b then n * 10 + (b - 48) else n) }
 {
-    if b < b'0' {
-        return n;
+    if b.is_ascii_digit() {
+        n * 10 + u64::from(b - b'0')
+    } else {
+        n
     }
-    if b'9' < b {
-        return n;
-    }
-    n * 10 + (b - 48) as u64
 }
 
 // The number that the digits of a text make, whatever else stands in it.
@@ -54,11 +52,9 @@ fn digits_of(text: &[u8]) -> u64
     requires { length text.now ≤ 11 }
     ensures { result ≡ digits_of text.now }
 {
-    let mut n: u64 = 0;
-    let mut i = 0;
-    while i < text.len() {
-        n = with_digit(n, text[i]);
-        i += 1;
+    let mut n = 0;
+    for b in text {
+        n = with_digit(n, *b);
     }
     n
 }
@@ -66,10 +62,7 @@ fn digits_of(text: &[u8]) -> u64
 fn starts_minus(text: &[u8]) -> bool
     ensures { result ≡ starts_minus text.now }
 {
-    if text.len() == 0 {
-        return false;
-    }
-    text[0] == b'-'
+    text.starts_with(b"-")
 }
 
 // Whether a text is that of the amount.
@@ -79,23 +72,20 @@ fn is_text(text: &[u8], amount: i64) -> bool
 {
     let mut again = [0u8; 11];
     let end = put_price(&mut again, 0, amount);
-    text::same_bytes(&again[0..end], text)
+    text::same_bytes(&again[..end], text)
 }
 
 // The amount of a text. What was read without care counts only where it has this text: so minus zero and needless zeros are no prices.
-pub fn price_in(text: &[u8]) -> Amount
+pub fn price_in(text: &[u8]) -> Option<i64>
     ensures { amount_meant result ≡ price text.now }
 {
     if 11 < text.len() {
-        return Amount::No;
+        return None;
     }
     let n = digits_of(text);
     if 999999999 < n {
-        return Amount::No;
+        return None;
     }
     let amount = signed::signed(starts_minus(text), n as u32);
-    if is_text(text, amount) {
-        return Amount::Of(amount);
-    }
-    Amount::No
+    is_text(text, amount).then_some(amount)
 }

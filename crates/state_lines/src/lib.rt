@@ -12,10 +12,7 @@ use value_text::{copy_in, put_byte};
 fn open_letter(is_open: bool) -> u8
     ensures { result ∷ [] ≡ (when is_open then bytes "O" else bytes "C") }
 {
-    if is_open {
-        return b'O';
-    }
-    b'C'
+    if is_open { b'O' } else { b'C' }
 }
 
 // The first line: open or closed.
@@ -70,9 +67,5 @@ pub fn zero_rest(out: &mut [u8], at: usize)
     requires { at ≤ length out.old }
     ensures { out.new ≡ take at out.old ++ replicate (length out.old - at) 0 }
 {
-    let mut i = at;
-    while i < out.len() {
-        out[i] = 0;
-        i += 1;
-    }
+    out[at..].fill(0);
 }

@@ -7,7 +7,11 @@ use Prim.Native.Nat.{ℕ, suc, ◌+◌, ◌-◌, ◌≤◌, ◌<◌}
 use native.Mathlib.Omega.{arith}
 use native.Mathlib.Numerals.{add-one}
 use lib.ListN.{length, get_or, take, drop, drop_of_length-le}
-use lib.Seq.{drop-cons, drop-drop}
+use lib.Seq.{drop-cons, drop-drop, take-length}
+use Rattle.std.proofs.Common.{Option, Some, None, not, cond, ltb, length-drop}
+use Rattle.std.specs.List.{position, position_or_len}
+use Rattle.std.proofs.lemmas.List.Recursion.{is_position_or_len}
+use borrow.Author.Tests.{ltb-false}
 use Rattle.language.specs.Text.{when◌then◌else◌, front, past}
 
 module _ (p : ℕ → Bool) (xs : List ℕ) (i : ℕ) where
@@ -54,3 +58,30 @@ module _ (p : ℕ → Bool) (xs : List ℕ) (i e : ℕ) (at_end : e ≡ i + leng
 
   pub past_run : past p (drop i xs) ≡ drop e xs
   past_run = sym (drop_run p (drop i xs)) ∙ drop-drop (length (front p (drop i xs))) i xs ∙ ap (λ (n : ℕ). drop n xs) (sym at_end)
+
+-- a run ends at the first byte that does not pass, or at the end of its list
+stop_at : (p : ℕ → Bool) (xs : List ℕ) → length (front p xs) ≡ position_or_len (λ b. not (p b)) xs
+stop_at p xs = is_position_or_len (λ l. length (front p l)) (λ b. not (p b)) refl (λ x l. go x l (p x)) xs
+  where
+    go : (x : ℕ) (l : List ℕ) (t : Bool) → length (when t then x ∷ front p l else []) ≡ cond (not t) 0 (1 + length (front p l))
+    go x l true = omega arith
+    go x l false = refl
+
+-- what `position` answers from a place on
+module _ (p : ℕ → Bool) (t : List ℕ) (at : ℕ) (r : Option ℕ) (answer : r ≡ position (λ b. not (p b)) (take (length t - at) (drop at t))) where
+  found : r ≡ position (λ b. not (p b)) (drop at t)
+  found = answer ∙ ap (position (λ b. not (p b))) (ap (λ (n : ℕ). take n (drop at t)) (sym (length-drop at t)) ∙ take-length (drop at t))
+
+  pub run_found : (i : ℕ) → r ≡ Some i → i ≡ length (front p (drop at t))
+  run_found i e = go (ltb (position_or_len (λ b. not (p b)) (drop at t)) (length (drop at t))) (sym found ∙ e)
+    where
+      go : (q : Bool) → cond q (Some (position_or_len (λ b. not (p b)) (drop at t))) None ≡ Some i → i ≡ length (front p (drop at t))
+      go true e = rw stop_at cc
+      go false e = cc
+
+  pub run_whole : at ≤ length t → r ≡ None → length t ≡ at + length (front p (drop at t))
+  run_whole h e = go (ltb (position_or_len (λ b. not (p b)) (drop at t)) (length (drop at t))) refl (sym found ∙ e)
+    where
+      go : (q : Bool) → ltb (position_or_len (λ b. not (p b)) (drop at t)) (length (drop at t)) ≡ q → cond q (Some (position_or_len (λ b. not (p b)) (drop at t))) None ≡ None → length t ≡ at + length (front p (drop at t))
+      go true k e = cc
+      go false k e = omega (arith, ltb-false _ _ k, stop_at p (drop at t), run_le p (drop at t), length-drop at t)

@@ -3,32 +3,18 @@
 use mathlib.Core.Path.{◌≡◌, refl, sym, ap, ◌∙◌}
 use mathlib.Core.List.{List, [], ◌∷◌}
 use mathlib.Core.Bool.{Bool, true, false, not, ◌&&◌}
-use Prim.Native.Nat.{ℕ, suc, ◌+◌, ◌-◌, ◌≤◌, ◌<◌}
+use Prim.Native.Nat.{ℕ, ◌+◌, ◌-◌, ◌≤◌}
 use native.Mathlib.Omega.{arith}
 use native.Mathlib.Numerals.{add-one}
 use lib.Dec.{eqb, leb}
-use lib.ListN.{length, get_or, take, drop, drop_of_length-le}
+use lib.ListN.{length, take, drop, drop_of_length-le}
 use lib.Seq.{drop-cons, drop-drop}
 use borrow.Author.Tests.{eqb-true, leb-true, leb-false, le-leb}
 use Rattle.text.proofs.Runs.{take_run, drop_run}
 use Rattle.language.specs.Text.{when◌then◌else◌, front, past, ◌≟◌, parts, to_first}
 use Rattle.text.specs.Meaning.{is_not}
-use Rattle.language.proofs.Logic.Tests.{and_false}
 
 -- ---- equal texts
-module _ (a b : List ℕ) (i : ℕ) where
-  pub same_step : i < length a → i < length b → (drop i a ≟ drop i b) ≡ (eqb (get_or a i 0) (get_or b i 0) && (drop (i + 1) a ≟ drop (i + 1) b))
-  same_step h k = rw (add-one, drop-cons a i 0 h, drop-cons b i 0 k)
-
-  pub same_none : length a ≤ i → length b ≤ i → (drop i a ≟ drop i b) ≡ true
-  same_none h k = rw (drop_of_length-le a {i = i} h, drop_of_length-le b {i = i} k)
-
-pub same_length : (a b : List ℕ) → (length a ≡ length b → ⊥) → (a ≟ b) ≡ false
-same_length [] [] n = absurd (n refl)
-same_length [] (y ∷ ys) n = refl
-same_length (x ∷ xs) [] n = refl
-same_length (x ∷ xs) (y ∷ ys) n = rw (same_length xs ys (λ e. n (ap suc e))) (and_false (eqb x y))
-
 pub same_true : (a b : List ℕ) → (a ≟ b) ≡ true → a ≡ b
 same_true [] [] e = refl
 same_true [] (y ∷ ys) e = cc

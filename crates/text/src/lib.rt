@@ -67,30 +67,19 @@ pub enum Alphabet {
 fn in_word(b: u8) -> bool
     ensures { result ≡ word_byte b }
 {
-    match b {
-        b'a'..=b'z' | b'A'..=b'Z' | b'0'..=b'9' | b'_' => true,
-        _ => false,
-    }
+    matches!(b, b'a'..=b'z' | b'A'..=b'Z' | b'0'..=b'9' | b'_')
 }
 
 fn in_string(b: u8) -> bool
     ensures { result ≡ string_byte b }
 {
-    match b {
-        b'a'..=b'z' | b'A'..=b'Z' | b'0'..=b'9' => true,
-        b' ' | b'_' | b',' | b';' | b'.' | b'?' | b'!' | b'-' => true,
-        _ => false,
-    }
+    matches!(b, b'a'..=b'z' | b'A'..=b'Z' | b'0'..=b'9' | b' ' | b'_' | b',' | b';' | b'.' | b'?' | b'!' | b'-')
 }
 
 fn in_comment(b: u8) -> bool
     ensures { result ≡ comment_byte b }
 {
-    match b {
-        b'a'..=b'z' | b'A'..=b'Z' | b'0'..=b'9' => true,
-        b' ' | b';' | b':' | b'.' | b'?' | b'-' | b'!' => true,
-        _ => false,
-    }
+    matches!(b, b'a'..=b'z' | b'A'..=b'Z' | b'0'..=b'9' | b' ' | b';' | b':' | b'.' | b'?' | b'-' | b'!')
 }
 
 fn in_alphabet(a: Alphabet, b: u8) -> bool
@@ -109,14 +98,10 @@ pub fn run_end(text: &[u8], at: usize, a: Alphabet) -> usize
     ensures ends { result ≡ at + length (front (in_alphabet a) (drop at text.now)) }
     ensures within { (at ≤ result) × (result ≤ length text.now) }
 {
-    let mut i = at;
-    while i < text.len() {
-        if !in_alphabet(a, text[i]) {
-            return i;
-        }
-        i += 1;
+    match text[at..].iter().position(|b| !in_alphabet(a, *b)) {
+        Some(i) => at + i,
+        None => text.len(),
     }
-    i
 }
 
 // The place of the first byte from `at` on that equals `stop`, or the length where there is none.
@@ -125,29 +110,15 @@ pub fn until(text: &[u8], at: usize, stop: u8) -> usize
     ensures ends { result ≡ at + length (front (is_not stop) (drop at text.now)) }
     ensures within { (at ≤ result) × (result ≤ length text.now) }
 {
-    let mut i = at;
-    while i < text.len() {
-        if text[i] == stop {
-            return i;
-        }
-        i += 1;
+    match text[at..].iter().position(|b| *b == stop) {
+        Some(i) => at + i,
+        None => text.len(),
     }
-    i
 }
 
 // Two texts are the same.
 pub fn same_bytes(a: &[u8], b: &[u8]) -> bool
     ensures { result ≡ (a.now ≟ b.now) }
 {
-    if a.len() != b.len() {
-        return false;
-    }
-    let mut i = 0;
-    while i < a.len() {
-        if a[i] != b[i] {
-            return false;
-        }
-        i += 1;
-    }
-    true
+    a == b
 }

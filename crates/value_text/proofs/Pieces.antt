@@ -1,12 +1,11 @@
 -- Laws of writing: pieces written one after the other are one piece.
 -- Assumes nothing.
-use mathlib.Core.Path.{◌≡◌, refl, sym, ap, subst, ◌∙◌}
-use Prim.Native.Nat.{ℕ, ◌+◌, ◌≤◌, ◌<◌}
+use mathlib.Core.Path.{◌≡◌, sym, ap, subst, ◌∙◌}
+use Prim.Native.Nat.{ℕ, ◌+◌, ◌≤◌}
 use native.Mathlib.Omega.{arith}
-use mathlib.Core.List.{[], ◌∷◌, ◌++◌, append_assoc}
-use native.Mathlib.Numerals.{add-one}
-use lib.ListN.{length, take, drop, set, take-append-drop, length-append, length-drop}
-use lib.Seq.{length-take-le, drop-drop, take_at, drop_at, take-length, set_split, paste}
+use mathlib.Core.List.{[], ◌++◌, append_assoc}
+use lib.ListN.{length, take, drop, take-append-drop, length-append, length-drop}
+use lib.Seq.{length-take-le, drop-drop, take_at, drop_at, take-length, paste}
 use Rattle.language.specs.Text.{Text}
 use Rattle.value_text.specs.Writing.{Written}
 
@@ -55,10 +54,7 @@ written_none a at h = record { ends = omega arith; fits = h; whole = sym (take-a
 pub rewritten : {a b : Text} {at r : ℕ} {p q : Text} → p ≡ q → Written a at p r b → Written a at q r b
 rewritten {a} {b} {at} {r} {p} {q} e w = subst (λ l. Written a at l r b) e w
 
--- ---- what a store and a copy leave
-
-pub byte_written : (a : Text) (at b : ℕ) → at < length a → Written a at (b ∷ []) (at + 1) (set a at b)
-byte_written a at b h = record { ends = refl; fits = omega arith; whole = rw (add-one) (set_split a at b h) }
+-- ---- what a copy leaves
 
 pub copy_written : (a b : Text) (at : ℕ) (s : Text) (n : ℕ) → at + length s ≤ length a → n ≡ length s → b ≡ paste a at s n → Written a at s (at + n) b
 copy_written a b at s n h e q = record {

@@ -12,12 +12,9 @@ pub fn copy_in(out: &mut [u8], at: usize, src: &[u8]) -> usize
     requires { at + length src.now ≤ length out.old }
     ensures { Written out.old at src.now result out.new }
 {
-    let mut i: usize = 0;
-    while i < src.len() {
-        out[at + i] = src[i];
-        i += 1;
-    }
-    at + i
+    let end = at + src.len();
+    out[at..end].copy_from_slice(src);
+    end
 }
 
 pub fn put_byte(out: &mut [u8], at: usize, b: u8) -> usize

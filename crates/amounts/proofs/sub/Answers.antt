@@ -1,18 +1,12 @@
--- `amounts::sub` meets its contract. Assumes nothing.
-use native.Mathlib.Omega.{arith}
-use mathlib.Core.Path.{◌≡◌, ap, ◌∙◌}
-use lib.IntN.{nat_abs, ◌-ℤ◌}
-use mir.Syntax.{w64}
-use mir.Val.{to_z, of_z}
-use mir.Facts.{to_z-of_z}
+-- `amounts::sub` meets its contract: the difference of two amounts is itself, read out of its bits.
+-- Assumes nothing.
+use Rattle.std.proofs.Common.{arith, ap, ◌∙◌, ◌-ℤ◌}
 use Rattle.language.specs.Prices as Prices
-use Rattle.amounts.proofs.Fitting.{again, read_both}
+use Rattle.amounts.proofs.Fitting.{result_is, difference_fits}
 use Rattle.amounts.proofs.sub.Goals as goal
-
-pub difference-requires : goal.difference-requires
-difference-requires c = (omega (arith, ap nat_abs (to_z-of_z c.ranges.a), c.requires.0), omega (arith, ap nat_abs (to_z-of_z c.ranges.b), c.requires.1))
 
 pub returns : goal.returns
 returns c =
-    let held : to_z w64 (of_z w64 c.difference.result) ≡ ◌-ℤ◌ c.args.a c.args.b = again c.difference.type_inv ∙ c.difference.ensures ∙ read_both ◌-ℤ◌ c.args.a c.args.b c.ranges.a c.ranges.b in
-    c.ranged.ensures ∙ ap Prices.ranged held
+    let a = c.args in
+    let difference = result_is ◌-ℤ◌ a.a a.b c.ranges.a c.ranges.b (difference_fits a.a a.b (omega arith) (omega arith)) in
+    c.ranged.ensures ∙ ap Prices.ranged difference

@@ -11,12 +11,6 @@ use mir.Facts.{to_z-of_z}
 use Rattle.language.specs.Prices.{greatest, price_text}
 use Rattle.language.proofs.Meaning.Prices.{price_length}
 use Rattle.value_text.proofs.Pieces.{◌▸◌, rewritten}
-use borrow.Author.Rules.{rules}
-use Rattle.functions.proofs.put_amount.Reads as reads
-use Rattle.functions.proofs.put_amount.Lts as lts
-use Rattle.prices.proofs.put_price.Reads as put-price-reads
-use Rattle.value_text.proofs.copy_in.Reads as copy-in-reads
-use Rattle.value_text.proofs.put_byte.Reads as put-byte-reads
 use Rattle.functions.proofs.put_amount.Goals as goal
 
 pub put_byte-requires : goal.put_byte-requires

@@ -4,11 +4,6 @@ use mathlib.Core.Path.{sym, ap}
 use mathlib.Core.List.{[], ◌∷◌, append_assoc}
 use Rattle.language.specs.Text.{Text}
 use Rattle.value_text.proofs.Pieces.{◌▸◌, rewritten}
-use borrow.Author.Rules.{rules}
-use Rattle.functions.proofs.put_joined.Reads as reads
-use Rattle.functions.proofs.put_joined.Lts as lts
-use Rattle.value_text.proofs.copy_in.Reads as copy-in-reads
-use Rattle.value_text.proofs.put_byte.Reads as put-byte-reads
 use Rattle.functions.proofs.put_joined.Goals as goal
 
 pub returns : goal.returns

@@ -1,38 +1,16 @@
--- `keywords::among` meets its contract. The loop's invariant: `w` is one of all the words where it is one of those from `p` on.
+-- `keywords::among` meets its contract: what `any` answers over the parts that `split` yields.
 -- Assumes nothing.
-use borrow.Author.Tests.{le-leb}
-use borrow.Author.Rules.{rules}
-use mathlib.Core.Path.{◌≡◌, sym, ap, ◌∙◌}
-use mathlib.Core.List.{List}
-use mathlib.Core.Bool.{true, false}
-use Prim.Native.Nat.{ℕ, ◌-◌, ◌≤◌}
-use native.Mathlib.Omega.{arith}
-use borrow.Author.Tests.{lt-leb}
-use lib.ListN.{length, drop, take}
-use Rattle.language.specs.Text.{◌≟◌, member}
-use Rattle.text.proofs.Words.{parts_step}
+use Rattle.std.proofs.Common.{rules, tests, eqb, ◌∙◌}
+use Rattle.std.proofs.lemmas.Iterator.Search.{any_from_yields_List}
+use Rattle.std.proofs.lemmas.Iterator.Splits.{YieldsList-from_slice_split}
+use Rattle.language.specs.Text.{◌≟◌}
+use Rattle.keywords.proofs.Keywords.{member_parts}
 use Rattle.keywords.proofs.among.Goals as goal
 
-pub loop-p-init : goal.loop-p-init
-loop-p-init c = (search rules, rw (le-leb 0 (length c.args.words.now) (search rules)))
-
-pub returns-then-same_bytes : goal.returns-then-same_bytes
-returns-then-same_bytes c =
-    let a = c.args in
-    let p = c.loop-p.p in
-    let h : p ≤ length a.words.now = omega arith in
-    let first : (a.w.now ≟ take (c.until-e.result - p) (drop p a.words.now)) ≡ true = sym c.same_bytes.ensures ∙ c.if-same_bytes.true in
-    let q = c.loop-p.invariant.1 ∙ ap (λ (l : List (List ℕ)). member a.w.now l) (parts_step 32 p c.until-e.result a.words.now h c.until-e.ensures.ends) in
-    sym (q ∙ rw first)
-
-pub loop-p-preserved : goal.loop-p-preserved
-loop-p-preserved c =
-    let a = c.args in
-    let p = c.loop-p.p in
-    let h : p ≤ length a.words.now = omega arith in
-    let first : (a.w.now ≟ take (c.until-e.result - p) (drop p a.words.now)) ≡ false = sym c.same_bytes.ensures ∙ c.if-same_bytes.false in
-    let q = c.loop-p.invariant.1 ∙ ap (λ (l : List (List ℕ)). member a.w.now l) (parts_step 32 p c.until-e.result a.words.now h c.until-e.ensures.ends) in
-    (search rules, q ∙ rw first)
-
 pub returns : goal.returns
-returns c = sym (c.loop-p.invariant.1 ∙ rw (lt-leb _ _ c.loop-p-test.false))
+returns c =
+    let a = c.args in
+    any_from_yields_List (λ u. a.w.now ≟ u) _ _ c.any.result c.any.ensures.ran
+    (YieldsList-from_slice_split _ (λ b. eqb b 32) a.words.now c.split.ensures.rest c.split.ensures.done c.split.ensures.closure (λ x b q k. search (rules, tests)))
+    (λ x b q k. search (rules, tests))
+    ∙ member_parts a.w.now a.words.now 32

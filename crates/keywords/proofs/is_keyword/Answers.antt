@@ -7,14 +7,8 @@ use Rattle.language.specs.Identifiers.{base_keywords, price_keywords}
 use Rattle.language.proofs.Logic.Lists.{any_joined}
 use Rattle.keywords.proofs.is_keyword.Goals as goal
 
-pub returns-then-is_base_keyword : goal.returns-then-is_base_keyword
-returns-then-is_base_keyword c =
-    let w = c.args.w.now in
-    sym (any_joined (λ (u : Text). w ≟ u) base_keywords price_keywords
-    ∙ ap (λ (b : Bool). b || member w price_keywords) (sym c.is_base_keyword.ensures ∙ c.if-is_base_keyword.true))
-
-pub returns : goal.returns
-returns c =
+pub returns-else-is_base_keyword : goal.returns-else-is_base_keyword
+returns-else-is_base_keyword c =
     let w = c.args.w.now in
     c.is_price_keyword.ensures
     ∙ sym (any_joined (λ (u : Text). w ≟ u) base_keywords price_keywords

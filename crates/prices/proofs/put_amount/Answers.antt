@@ -3,7 +3,6 @@
 use native.Mathlib.Omega.{arith}
 use Rattle.language.proofs.Meaning.Prices.{whole_length}
 use Rattle.value_text.proofs.Pieces.{◌▸◌}
-use borrow.Author.Rules.{rules}
 use Rattle.prices.proofs.put_amount.Goals as goal
 
 pub put_decimal-a-requires : goal.put_decimal-a-requires

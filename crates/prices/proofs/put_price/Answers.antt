@@ -9,7 +9,6 @@ use mir.Facts.{to_z-of_z}
 use Rattle.language.specs.Prices.{amount_text}
 use Rattle.value_text.proofs.Pieces.{◌▸◌, rewritten}
 use Rattle.prices.proofs.Readings.{below_text, above_text}
-use borrow.Author.Rules.{rules}
 use Rattle.prices.proofs.put_price.Goals as goal
 
 pub put_amount-requires : goal.put_amount-requires

@@ -1,7 +1,6 @@
 -- `state_lines::put_delegator` meets its contract. Two pieces in a row.
 -- Assumes nothing.
 use Rattle.value_text.proofs.Pieces.{◌▸◌}
-use borrow.Author.Rules.{rules}
 use Rattle.state_lines.proofs.put_delegator.Goals as goal
 
 pub returns : goal.returns

@@ -1,7 +1,6 @@
 -- `state_lines::put_header` meets its contract. A letter and the line's end.
 -- Assumes nothing.
 use Rattle.value_text.proofs.Pieces.{◌▸◌, rewritten}
-use borrow.Author.Rules.{rules}
 use Rattle.state_lines.proofs.put_header.Goals as goal
 
 pub returns : goal.returns

@@ -1,34 +1,16 @@
--- `text::run_end` meets its contract. The loop's invariant: what is passed and the run that is left make up the whole run.
--- Assumes nothing.
-use mathlib.Core.Path.{◌≡◌, sym, ap, ◌∙◌}
-use native.Mathlib.Omega.{arith}
-use borrow.Author.Rules.{rules}
-use borrow.Author.Tests.{not-true, not-false}
-use lib.ListN.{length, get_or}
-use mathlib.Core.Bool.{true, false}
+use Rattle.std.proofs.Common.{rules, tests, not, arith}
+use Rattle.std.proofs.lemmas.Iterator.{YieldsList-from_slice}
+use Rattle.std.proofs.lemmas.Iterator.Search.{position_from_yields_List}
 use Rattle.text.specs.Meaning.{in_alphabet}
-use Rattle.text.proofs.Runs.{run_on, run_stop, run_none}
+use Rattle.text.proofs.Runs.{run_found, run_whole}
 use Rattle.text.proofs.run_end.Goals as goal
 
-pub returns-then-not-in_alphabet : goal.returns-then-not-in_alphabet
-returns-then-not-in_alphabet c =
-    let a = c.args in
-    let i = c.loop-i.i in
-    let e : in_alphabet a.a (get_or a.text.now i 0) ≡ false = sym c.in_alphabet.ensures ∙ not-true _ c.if-not-in_alphabet.true-raw in record {
-      ends = omega (arith, c.loop-i.invariant, ap length (run_stop (in_alphabet a.a) a.text.now i (search rules) e));
-      within = omega arith;
-    }
+pub returns-in-Some-clause-ends : goal.returns-in-Some-clause-ends
+returns-in-Some-clause-ends c =
+    let answer = position_from_yields_List (λ x. not (in_alphabet c.args.a x)) _ _ c.position.result c.position.ensures.ran (YieldsList-from_slice _ c.iter.ensures.rest) (λ x b q k. search (rules, tests)) in
+    omega (arith, run_found (in_alphabet c.args.a) c.args.text.now c.args.at _ answer c.in-Some.i c.in-Some.is)
 
-pub loop-i-preserved : goal.loop-i-preserved
-loop-i-preserved c =
-    let a = c.args in
-    let i = c.loop-i.i in
-    let e : in_alphabet a.a (get_or a.text.now i 0) ≡ true = sym c.in_alphabet.ensures ∙ not-false _ c.if-not-in_alphabet.false-raw in
-    omega (arith, c.loop-i.invariant, ap length (run_on (in_alphabet a.a) a.text.now i (search rules) e))
-
-pub returns : goal.returns
-returns c =
-    let a = c.args in record {
-      ends = omega (arith, c.loop-i.invariant, ap length (run_none (in_alphabet a.a) a.text.now c.loop-i.i (search rules)));
-      within = omega arith;
-    }
+pub returns-in-None-clause-ends : goal.returns-in-None-clause-ends
+returns-in-None-clause-ends c =
+    let answer = position_from_yields_List (λ x. not (in_alphabet c.args.a x)) _ _ c.position.result c.position.ensures.ran (YieldsList-from_slice _ c.iter.ensures.rest) (λ x b q k. search (rules, tests)) in
+    run_whole (in_alphabet c.args.a) c.args.text.now c.args.at _ answer c.requires c.in-None.is

@@ -1,33 +1,16 @@
--- `text::until` meets its contract. The loop's invariant: what is passed and the run that is left make up the whole run.
--- Assumes nothing.
-use mathlib.Core.Path.{ap}
-use mathlib.Core.Bool.{not}
-use native.Mathlib.Omega.{arith}
-use borrow.Author.Tests.{eq-eqb, ne_eqb}
-use lib.ListN.{length}
+use Rattle.std.proofs.Common.{rules, tests, not, arith}
+use Rattle.std.proofs.lemmas.Iterator.{YieldsList-from_slice}
+use Rattle.std.proofs.lemmas.Iterator.Search.{position_from_yields_List}
 use Rattle.text.specs.Meaning.{is_not}
-use Rattle.text.proofs.Runs.{run_on, run_stop, run_none}
-use borrow.Author.Rules.{rules}
+use Rattle.text.proofs.Runs.{run_found, run_whole}
 use Rattle.text.proofs.until.Goals as goal
 
-pub returns-then-text-i : goal.returns-then-text-i
-returns-then-text-i c =
-    let a = c.args in
-    let l = c.loop-i in record {
-      ends = omega (arith, l.invariant, ap length (run_stop (is_not a.stop) a.text.now l.i (search rules) (ap not (eq-eqb _ _ c.if-text-i.true))));
-      within = omega arith;
-    }
+pub returns-in-Some-clause-ends : goal.returns-in-Some-clause-ends
+returns-in-Some-clause-ends c =
+    let answer = position_from_yields_List (λ x. not (is_not c.args.stop x)) _ _ c.position.result c.position.ensures.ran (YieldsList-from_slice _ c.iter.ensures.rest) (λ x b q k. search (rules, tests)) in
+    omega (arith, run_found (is_not c.args.stop) c.args.text.now c.args.at _ answer c.in-Some.i c.in-Some.is)
 
-pub loop-i-preserved : goal.loop-i-preserved
-loop-i-preserved c =
-    let a = c.args in
-    let l = c.loop-i in
-    omega (arith, l.invariant, ap length (run_on (is_not a.stop) a.text.now l.i (search rules) (ap not (ne_eqb _ _ c.if-text-i.false))))
-
-pub returns : goal.returns
-returns c =
-    let a = c.args in
-    let l = c.loop-i in record {
-      ends = omega (arith, l.invariant, ap length (run_none (is_not a.stop) a.text.now l.i (search rules)));
-      within = omega arith;
-    }
+pub returns-in-None-clause-ends : goal.returns-in-None-clause-ends
+returns-in-None-clause-ends c =
+    let answer = position_from_yields_List (λ x. not (is_not c.args.stop x)) _ _ c.position.result c.position.ensures.ran (YieldsList-from_slice _ c.iter.ensures.rest) (λ x b q k. search (rules, tests)) in
+    run_whole (is_not c.args.stop) c.args.text.now c.args.at _ answer c.requires c.in-None.is

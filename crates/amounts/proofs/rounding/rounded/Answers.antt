@@ -1,77 +1,68 @@
--- `amounts::rounding::rounded` meets its contract. Assumes nothing.
-use native.Mathlib.Omega.{arith}
-use mathlib.Core.Path.{◌≡◌, sym, ap, ap₂, ◌∙◌}
-use mathlib.Core.Bool.{not, beq}
-use Prim.Native.Nat.{◌<◌, ◌≤◌, ◌*◌}
+-- `amounts::rounding::rounded` meets its contract: the quotient, the rest and one further are themselves, read out of their bits.
+-- Assumes nothing.
+use Rattle.std.proofs.Common.{arith, ℕ, ◌≡◌, ◌*◌, ◌<◌, ◌≤◌, ap, ap₂, sym, ◌∙◌, ℤ, pos, ◌+ℤ◌, ◌-ℤ◌, nat_abs, w64, to_z, of_z, Bool, not}
+use mathlib.Core.Bool.{beq}
 use native.Mathlib.Nat.{mod-lt}
 use lib.Dec.{lit<}
-use lib.IntN.{ℤ, pos, nat_abs, ◌+ℤ◌, ◌-ℤ◌}
 use lib.Signed.{non_neg, quot_z, rem_z}
-use mir.Syntax.{w64}
-use mir.Val.{to_z, of_z}
+use mir.Val.{SFits}
 use mir.Facts.{to_z-of_z}
 use Rattle.language.proofs.Logic.Integers.{abs_rest}
-use Rattle.amounts.proofs.Fitting.{again, read_both, quotient_small}
+use Rattle.amounts.proofs.Fitting.{result_is, small_fits, sum_fits, difference_fits, quotient_small, quotient_fits}
 use Rattle.amounts.proofs.Quotients.{same_sides, other_sides, stays, one_up, one_down}
 use Rattle.amounts.proofs.rounding.rounded.Goals as goal
 
-pub magnitude-left-requires : goal.magnitude-left-requires
-magnitude-left-requires c =
-    let rested : to_z w64 (of_z w64 c.rest.result) ≡ rem_z c.args.top c.args.bottom = again c.rest.type_inv ∙ c.rest.ensures ∙ read_both rem_z c.args.top c.args.bottom c.ranges.top c.ranges.bottom in
-    let left-small : nat_abs (rem_z c.args.top c.args.bottom) < nat_abs c.args.bottom = omega (arith, abs_rest c.args.top c.args.bottom, mod-lt (nat_abs c.args.top) c.requires.1) in
-    omega (arith, ap nat_abs rested, left-small, c.requires.2)
+-- a number as it is read out of its bits
+abbrev read : ℤ → ℤ
+read z = to_z w64 (of_z w64 z)
 
-pub overflow_mul-left : goal.overflow_mul-left
-overflow_mul-left c =
-    let rested : to_z w64 (of_z w64 c.rest.result) ≡ rem_z c.args.top c.args.bottom = again c.rest.type_inv ∙ c.rest.ensures ∙ read_both rem_z c.args.top c.args.bottom c.ranges.top c.ranges.bottom in
-    let left_is : c.magnitude-left.result ≡ nat_abs (rem_z c.args.top c.args.bottom) = c.magnitude-left.ensures ∙ ap nat_abs rested in
-    let left-small : nat_abs (rem_z c.args.top c.args.bottom) < nat_abs c.args.bottom = omega (arith, abs_rest c.args.top c.args.bottom, mod-lt (nat_abs c.args.top) c.requires.1) in
-    record { fits = omega (arith, left_is, left-small, c.requires.2) }
+module _ (t d : ℤ) (ft : SFits w64 t) (fd : SFits w64 d) (small : nat_abs t < 4611686018427387904) (some : 0 < nat_abs d) (most : nat_abs d ≤ 999999999) where
+  quotient : read (quot_z (read t) (read d)) ≡ quot_z t d
+  quotient = result_is quot_z t d ft fd (quotient_fits t d small)
 
-pub returns-then-left-magnitude : goal.returns-then-left-magnitude
-returns-then-left-magnitude c =
-    let quotient : to_z w64 (of_z w64 c.whole-q.result) ≡ quot_z c.args.top c.args.bottom = again c.whole-q.type_inv ∙ c.whole-q.ensures ∙ read_both quot_z c.args.top c.args.bottom c.ranges.top c.ranges.bottom in
-    let rested : to_z w64 (of_z w64 c.rest.result) ≡ rem_z c.args.top c.args.bottom = again c.rest.type_inv ∙ c.rest.ensures ∙ read_both rem_z c.args.top c.args.bottom c.ranges.top c.ranges.bottom in
-    let left_is : c.magnitude-left.result ≡ nat_abs (rem_z c.args.top c.args.bottom) = c.magnitude-left.ensures ∙ ap nat_abs rested in
-    let size : c.magnitude.result ≡ nat_abs c.args.bottom = c.magnitude.ensures ∙ ap nat_abs (to_z-of_z c.ranges.bottom) in
-    quotient ∙ stays c.args.top c.args.bottom (omega (arith, left_is, size, c.if-left-magnitude.true))
+  rest : read (rem_z (read t) (read d)) ≡ rem_z t d
+  rest = result_is rem_z t d ft fd (small_fits (rem_z t d) (omega (arith, abs_rest t d, mod-lt (nat_abs t) some)))
 
-pub sum-requires : goal.sum-requires
-sum-requires c =
-    let quotient : to_z w64 (of_z w64 c.whole-q.result) ≡ quot_z c.args.top c.args.bottom = again c.whole-q.type_inv ∙ c.whole-q.ensures ∙ read_both quot_z c.args.top c.args.bottom c.ranges.top c.ranges.bottom in
-    let q-small : nat_abs (to_z w64 (of_z w64 c.whole-q.result)) < 4611686018427387904 = omega (arith, ap nat_abs quotient, quotient_small c.args.top c.args.bottom c.requires.0) in
-    (q-small, lit< tt)
+  up : read (read (quot_z (read t) (read d)) +ℤ pos 1) ≡ quot_z t d +ℤ pos 1
+  up = ap (λ (v : ℤ). read (v +ℤ pos 1)) quotient ∙ to_z-of_z (sum_fits (quot_z t d) (pos 1) (quotient_small t d small) (lit< tt))
 
-pub difference-requires : goal.difference-requires
-difference-requires c =
-    let quotient : to_z w64 (of_z w64 c.whole-q.result) ≡ quot_z c.args.top c.args.bottom = again c.whole-q.type_inv ∙ c.whole-q.ensures ∙ read_both quot_z c.args.top c.args.bottom c.ranges.top c.ranges.bottom in
-    let q-small : nat_abs (to_z w64 (of_z w64 c.whole-q.result)) < 4611686018427387904 = omega (arith, ap nat_abs quotient, quotient_small c.args.top c.args.bottom c.requires.0) in
-    (q-small, lit< tt)
+  down : read (read (quot_z (read t) (read d)) -ℤ pos 1) ≡ quot_z t d -ℤ pos 1
+  down = ap (λ (v : ℤ). read (v -ℤ pos 1)) quotient ∙ to_z-of_z (difference_fits (quot_z t d) (pos 1) (quotient_small t d small) (lit< tt))
+
+  -- twice the rest against the divisor, by the sizes that the code compares
+  module _ (left size : ℕ) (left_is : left ≡ nat_abs (read (rem_z (read t) (read d)))) (size_is : size ≡ nat_abs (read d)) where
+    little : 2 * left < size → 2 * nat_abs (rem_z t d) < nat_abs d
+    little h = omega (arith, left_is ∙ ap nat_abs rest, size_is ∙ ap nat_abs (to_z-of_z fd), h)
+
+    much : size ≤ 2 * left → nat_abs d ≤ 2 * nat_abs (rem_z t d)
+    much h = omega (arith, left_is ∙ ap nat_abs rest, size_is ∙ ap nat_abs (to_z-of_z fd), h)
+
+  sides : (a b : Bool) → a ≡ not (non_neg (read t)) → b ≡ not (non_neg (read d)) → beq a b ≡ beq (not (non_neg t)) (not (non_neg d))
+  sides a b p q = ap₂ beq (p ∙ ap (λ (v : ℤ). not (non_neg v)) (to_z-of_z ft)) (q ∙ ap (λ (v : ℤ). not (non_neg v)) (to_z-of_z fd))
+
+pub returns-then-left-unsigned_abs : goal.returns-then-left-unsigned_abs
+returns-then-left-unsigned_abs c =
+    let a = c.args in
+    let r = c.requires in
+    quotient a.top a.bottom c.ranges.top c.ranges.bottom r.0 r.1 r.2
+    ∙ stays a.top a.bottom (little a.top a.bottom c.ranges.top c.ranges.bottom r.0 r.1 r.2 _ _ c.unsigned_abs-left.ensures.value c.unsigned_abs.ensures.value c.if-left-unsigned_abs.true)
 
 pub returns-then-below_zero : goal.returns-then-below_zero
 returns-then-below_zero c =
-    let quotient : to_z w64 (of_z w64 c.whole-q.result) ≡ quot_z c.args.top c.args.bottom = again c.whole-q.type_inv ∙ c.whole-q.ensures ∙ read_both quot_z c.args.top c.args.bottom c.ranges.top c.ranges.bottom in
-    let sides : beq c.below_zero.result c.below_zero-2.result ≡ beq (not (non_neg c.args.top)) (not (non_neg c.args.bottom)) = ap₂ beq
-    (c.below_zero.ensures ∙ ap (λ (v : ℤ). not (non_neg v)) (to_z-of_z c.ranges.top))
-    (c.below_zero-2.ensures ∙ ap (λ (v : ℤ). not (non_neg v)) (to_z-of_z c.ranges.bottom)) in
-    let rested : to_z w64 (of_z w64 c.rest.result) ≡ rem_z c.args.top c.args.bottom = again c.rest.type_inv ∙ c.rest.ensures ∙ read_both rem_z c.args.top c.args.bottom c.ranges.top c.ranges.bottom in
-    let left_is : c.magnitude-left.result ≡ nat_abs (rem_z c.args.top c.args.bottom) = c.magnitude-left.ensures ∙ ap nat_abs rested in
-    let size : c.magnitude.result ≡ nat_abs c.args.bottom = c.magnitude.ensures ∙ ap nat_abs (to_z-of_z c.ranges.bottom) in
-    let much-left : nat_abs c.args.bottom ≤ 2 * nat_abs (rem_z c.args.top c.args.bottom) = omega (arith, left_is, size, c.if-left-magnitude.false) in
-    let t = c.args.top in
-    let d = c.args.bottom in
-    again c.sum.type_inv ∙ c.sum.ensures ∙ ap (λ (v : ℤ). v +ℤ pos 1) quotient ∙ one_up t d much-left (same_sides (non_neg t) (non_neg d) (sym sides ∙ c.if-below_zero.true))
+    let a = c.args in
+    let r = c.requires in
+    let same = sides a.top a.bottom c.ranges.top c.ranges.bottom r.0 r.1 r.2 _ _ c.below_zero.ensures c.below_zero-2.ensures in
+    up a.top a.bottom c.ranges.top c.ranges.bottom r.0 r.1 r.2
+    ∙ one_up a.top a.bottom
+    (much a.top a.bottom c.ranges.top c.ranges.bottom r.0 r.1 r.2 _ _ c.unsigned_abs-left.ensures.value c.unsigned_abs.ensures.value c.if-left-unsigned_abs.false)
+    (same_sides (non_neg a.top) (non_neg a.bottom) (sym same ∙ c.if-below_zero.true))
 
 pub returns-else-below_zero : goal.returns-else-below_zero
 returns-else-below_zero c =
-    let quotient : to_z w64 (of_z w64 c.whole-q.result) ≡ quot_z c.args.top c.args.bottom = again c.whole-q.type_inv ∙ c.whole-q.ensures ∙ read_both quot_z c.args.top c.args.bottom c.ranges.top c.ranges.bottom in
-    let sides : beq c.below_zero.result c.below_zero-2.result ≡ beq (not (non_neg c.args.top)) (not (non_neg c.args.bottom)) = ap₂ beq
-    (c.below_zero.ensures ∙ ap (λ (v : ℤ). not (non_neg v)) (to_z-of_z c.ranges.top))
-    (c.below_zero-2.ensures ∙ ap (λ (v : ℤ). not (non_neg v)) (to_z-of_z c.ranges.bottom)) in
-    let rested : to_z w64 (of_z w64 c.rest.result) ≡ rem_z c.args.top c.args.bottom = again c.rest.type_inv ∙ c.rest.ensures ∙ read_both rem_z c.args.top c.args.bottom c.ranges.top c.ranges.bottom in
-    let left_is : c.magnitude-left.result ≡ nat_abs (rem_z c.args.top c.args.bottom) = c.magnitude-left.ensures ∙ ap nat_abs rested in
-    let size : c.magnitude.result ≡ nat_abs c.args.bottom = c.magnitude.ensures ∙ ap nat_abs (to_z-of_z c.ranges.bottom) in
-    let much-left : nat_abs c.args.bottom ≤ 2 * nat_abs (rem_z c.args.top c.args.bottom) = omega (arith, left_is, size, c.if-left-magnitude.false) in
-    let t = c.args.top in
-    let d = c.args.bottom in
-    again c.difference.type_inv ∙ c.difference.ensures ∙ ap (λ (v : ℤ). v -ℤ pos 1) quotient ∙ one_down t d much-left (other_sides (non_neg t) (non_neg d) (sym sides ∙ c.if-below_zero.false))
+    let a = c.args in
+    let r = c.requires in
+    let same = sides a.top a.bottom c.ranges.top c.ranges.bottom r.0 r.1 r.2 _ _ c.below_zero.ensures c.below_zero-2.ensures in
+    down a.top a.bottom c.ranges.top c.ranges.bottom r.0 r.1 r.2
+    ∙ one_down a.top a.bottom
+    (much a.top a.bottom c.ranges.top c.ranges.bottom r.0 r.1 r.2 _ _ c.unsigned_abs-left.ensures.value c.unsigned_abs.ensures.value c.if-left-unsigned_abs.false)
+    (other_sides (non_neg a.top) (non_neg a.bottom) (sym same ∙ c.if-below_zero.false))

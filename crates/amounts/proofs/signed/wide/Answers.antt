@@ -1,8 +1,0 @@
--- `amounts::signed::wide` meets its contract. Assumes nothing.
-use native.Mathlib.Omega.{arith}
-use mir.Syntax.{w64}
-use mir.Facts.{to_z_pos}
-use Rattle.amounts.proofs.signed.wide.Goals as goal
-
-pub returns : goal.returns
-returns c = to_z_pos w64 (omega (arith, c.ranges.n.fits))
