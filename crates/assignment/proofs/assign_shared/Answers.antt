@@ -22,8 +22,8 @@ use Rattle.assignment.proofs.assign_shared.Goals as goal
 pub slice_bounds-find-end-2 : goal.slice_bounds-find-end-2
 slice_bounds-find-end-2 c = sym (length-take-le _ _ c.requires.0.running.vars_within)
 
-pub find-found-requires : goal.find-found-requires
-find-found-requires c =
+pub find-requires : goal.find-requires
+find-requires c =
     let a = c.args in
     let S = c.requires.0 in
     some_variables S.session.store.variables (take a.l.vars_len a.vars.now) a.l.vars a.variable_slots.now S.running.variables
@@ -65,8 +65,8 @@ replace-put-requires c =
         variables = S.session.store.variables;
         name = a.name.now;
         lies = shared_lie S.session a.l b S.running a.l.weight (omega arith);
-        below = there_below S.session.store.variables t a.l.vars a.variable_slots.now S.running.variables a.name.now c.find-found.result q c.in-At.number c.in-At.start c.in-At.end c.in-At.is;
-        is_number = (there S.session.store.variables t a.l.vars a.variable_slots.now S.running.variables a.name.now c.find-found.result q c.in-At.number c.in-At.start c.in-At.end c.in-At.is).number;
+        below = there_below S.session.store.variables t a.l.vars a.variable_slots.now S.running.variables a.name.now c.find-found.result q c.in-Some.found.number c.in-Some.found.start c.in-Some.found.end c.in-Some.found.is;
+        is_number = (there S.session.store.variables t a.l.vars a.variable_slots.now S.running.variables a.name.now c.find-found.result q c.in-Some.found.number c.in-Some.found.start c.in-Some.found.end c.in-Some.found.is).number;
       },
       c.requires.2,
       S.running.light,
@@ -78,7 +78,7 @@ returns-in_default-put c s lo lm v R el W =
     c.find-found.ensures (map variable_row s.store.variables) (variables_rows s.store.variables (take a.l.vars_len a.vars.now) a.l.vars a.variable_slots.now R.variables) in
     let a = c.args in
     let b = slices a.principals.now a.principal_slots.now a.vars.now a.variable_slots.now lo lm a.assertions.now in
-    let F = there s.store.variables (take a.l.vars_len a.vars.now) a.l.vars a.variable_slots.now R.variables a.name.now c.find-found.result (looked-up s lo lm R) c.in-At.number c.in-At.start c.in-At.end c.in-At.is in
+    let F = there s.store.variables (take a.l.vars_len a.vars.now) a.l.vars a.variable_slots.now R.variables a.name.now c.find-found.result (looked-up s lo lm R) c.in-Some.found.number c.in-Some.found.start c.in-Some.found.end c.in-Some.found.is in
     shared_full s a.l b R a.name.now v W.held.is_valid c.requires.1 el _ F.is_value
     (put_full s.store.variables (put a.name.now v s.store.variables) a.l.weight c.replace-put.result c.replace-put.new.buf a.l.vars c.replace-put.new.slots
     (c.replace-put.ensures s.store.variables a.name.now v (shared_lie s a.l b R a.l.weight (omega arith)) F.number W) c.in_default-put.is)
@@ -89,7 +89,7 @@ returns c s lo lm v R el W =
     c.find-found.ensures (map variable_row s.store.variables) (variables_rows s.store.variables (take a.l.vars_len a.vars.now) a.l.vars a.variable_slots.now R.variables) in
     let a = c.args in
     let b = slices a.principals.now a.principal_slots.now a.vars.now a.variable_slots.now lo lm a.assertions.now in
-    let F = there s.store.variables (take a.l.vars_len a.vars.now) a.l.vars a.variable_slots.now R.variables a.name.now c.find-found.result (looked-up s lo lm R) c.in-At.number c.in-At.start c.in-At.end c.in-At.is in
+    let F = there s.store.variables (take a.l.vars_len a.vars.now) a.l.vars a.variable_slots.now R.variables a.name.now c.find-found.result (looked-up s lo lm R) c.in-Some.found.number c.in-Some.found.start c.in-Some.found.end c.in-Some.found.is in
     subst (λ (k : Layout). Running (assign s a.name.now v) k (slices a.principals.now a.principal_slots.now c.replace-put.new.buf c.replace-put.new.slots lo lm a.assertions.now)) (sym c.with_shared.ensures)
     (shared_done s a.l b R a.name.now v W.held.is_valid c.requires.1 el _ F.is_value c.replace-put.new.buf c.replace-put.new.slots c.in-Done.n c.in-Done.w c.replace-put.auto.buf
     (put_done s.store.variables (put a.name.now v s.store.variables) a.l.weight c.replace-put.result c.replace-put.new.buf a.l.vars c.replace-put.new.slots

@@ -28,8 +28,8 @@ elements_of-more-requires c = c.requires.t.1
 pub slice_bounds-find-end-2 : goal.slice_bounds-find-end-2
 slice_bounds-find-end-2 c = sym (length-take-le _ _ c.requires.some_list.running.locals_within)
 
-pub find-found-requires : goal.find-found-requires
-find-found-requires c =
+pub find-requires : goal.find-requires
+find-requires c =
     let a = c.args in
     some_variables c.requires.some_list.session.locals (take a.l.locals_len a.locals.now) a.l.locals a.local_slots.now c.requires.some_list.running.local_variables
 
@@ -102,14 +102,14 @@ extend-put-requires c =
     let b = slices a.principals.now a.principal_slots.now a.vars.now a.variable_slots.now a.locals.now a.local_slots.now a.assertions.now in
     let q = looked-up c.requires.some_list.session c.requires.some_list.running in
     let t = take a.l.locals_len a.locals.now in
-    let F = there c.requires.some_list.session.locals t a.l.locals a.local_slots.now c.requires.some_list.running.local_variables a.name.now c.find-found.result q c.in-At.number c.in-At.start c.in-At.end c.in-At.is in (
+    let F = there c.requires.some_list.session.locals t a.l.locals a.local_slots.now c.requires.some_list.running.local_variables a.name.now c.find-found.result q c.in-Some.found.number c.in-Some.found.start c.in-Some.found.end c.in-Some.found.is in (
       record {
         variables = c.requires.some_list.session.locals;
         name = a.name.now;
         elements = c.requires.some_list.elements;
         more = added_by c.requires.t.1.value;
         lies = locals_lie c.requires.some_list.session a.l b c.requires.some_list.running;
-        below = there_below c.requires.some_list.session.locals t a.l.locals a.local_slots.now c.requires.some_list.running.local_variables a.name.now c.find-found.result q c.in-At.number c.in-At.start c.in-At.end c.in-At.is;
+        below = there_below c.requires.some_list.session.locals t a.l.locals a.local_slots.now c.requires.some_list.running.local_variables a.name.now c.find-found.result q c.in-Some.found.number c.in-Some.found.start c.in-Some.found.end c.in-Some.found.is;
         is_number = F.number;
         is_list = in_first (value_in c.requires.some_list.session.locals a.name.now) (value_in c.requires.some_list.session.store.variables a.name.now) F.is_value c.requires.some_list.is_list;
         extra = A.extra;
@@ -128,11 +128,11 @@ returns-in_default-put c s v es R i W =
     let q = looked-up s R in
     let fs = added_by v in
     let X = (c.elements_of-more.ensures v W).extra in
-    let k = there_below s.locals t a.l.locals a.local_slots.now R.local_variables a.name.now c.find-found.result q c.in-At.number c.in-At.start c.in-At.end c.in-At.is in
-    let F = there s.locals t a.l.locals a.local_slots.now R.local_variables a.name.now c.find-found.result q c.in-At.number c.in-At.start c.in-At.end c.in-At.is in
+    let k = there_below s.locals t a.l.locals a.local_slots.now R.local_variables a.name.now c.find-found.result q c.in-Some.found.number c.in-Some.found.start c.in-Some.found.end c.in-Some.found.is in
+    let F = there s.locals t a.l.locals a.local_slots.now R.local_variables a.name.now c.find-found.result q c.in-Some.found.number c.in-Some.found.start c.in-Some.found.end c.in-Some.found.is in
     let j = in_first (value_in s.locals a.name.now) (value_in s.store.variables a.name.now) F.is_value i in
     let L = locals_lie s a.l b R in
-    let h = both_valid L a.name.now c.in-At.number k F.number es fs j _ _ X in
+    let h = both_valid L a.name.now c.in-Some.found.number k F.number es fs j _ _ X in
     subst (λ (z : List Element). limit < session_weight (assign s a.name.now (list z))) (extend_adds es v)
     (local_full s a.l b R a.name.now (list (es ++ fs)) h (list es) j
     (put_full s.locals (put a.name.now (list (es ++ fs)) s.locals) a.l.weight c.extend-put.result c.extend-put.new.buf a.l.locals c.extend-put.new.slots
@@ -148,11 +148,11 @@ returns c s v es R i W =
     let q = looked-up s R in
     let fs = added_by v in
     let X = (c.elements_of-more.ensures v W).extra in
-    let k = there_below s.locals t a.l.locals a.local_slots.now R.local_variables a.name.now c.find-found.result q c.in-At.number c.in-At.start c.in-At.end c.in-At.is in
-    let F = there s.locals t a.l.locals a.local_slots.now R.local_variables a.name.now c.find-found.result q c.in-At.number c.in-At.start c.in-At.end c.in-At.is in
+    let k = there_below s.locals t a.l.locals a.local_slots.now R.local_variables a.name.now c.find-found.result q c.in-Some.found.number c.in-Some.found.start c.in-Some.found.end c.in-Some.found.is in
+    let F = there s.locals t a.l.locals a.local_slots.now R.local_variables a.name.now c.find-found.result q c.in-Some.found.number c.in-Some.found.start c.in-Some.found.end c.in-Some.found.is in
     let j = in_first (value_in s.locals a.name.now) (value_in s.store.variables a.name.now) F.is_value i in
     let L = locals_lie s a.l b R in
-    let h = both_valid L a.name.now c.in-At.number k F.number es fs j _ _ X in
+    let h = both_valid L a.name.now c.in-Some.found.number k F.number es fs j _ _ X in
     subst (λ (z : List Element). Running (assign s a.name.now (list z)) c.with_locals.result (slices a.principals.now a.principal_slots.now a.vars.now a.variable_slots.now c.extend-put.new.buf c.extend-put.new.slots a.assertions.now)) (extend_adds es v)
     (subst (λ (k : Layout). Running (assign s a.name.now (list (es ++ fs))) k (slices a.principals.now a.principal_slots.now a.vars.now a.variable_slots.now c.extend-put.new.buf c.extend-put.new.slots a.assertions.now)) (sym c.with_locals.ensures)
     (local_done s a.l b R a.name.now (list (es ++ fs)) h (list es) j c.extend-put.new.buf c.extend-put.new.slots c.in-Done.n c.in-Done.w c.extend-put.auto.buf

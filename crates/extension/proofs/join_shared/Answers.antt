@@ -23,8 +23,8 @@ use Rattle.extension.proofs.join_shared.Goals as goal
 pub slice_bounds-find-end-2 : goal.slice_bounds-find-end-2
 slice_bounds-find-end-2 c = sym (length-take-le _ _ c.requires.0.some_shared.running.vars_within)
 
-pub find-found-requires : goal.find-found-requires
-find-found-requires c =
+pub find-requires : goal.find-requires
+find-requires c =
     let a = c.args in
     let S = c.requires.0.some_shared in
     some_variables S.session.store.variables (take a.l.vars_len a.vars.now) a.l.vars a.variable_slots.now S.running.variables
@@ -53,8 +53,8 @@ extend-put-requires c =
         elements = Q.elements;
         more = Q.more;
         lies = shared_lie S.session a.l b S.running a.l.weight (omega arith);
-        below = there_below S.session.store.variables t a.l.vars a.variable_slots.now S.running.variables a.name.now c.find-found.result q c.in-At.number c.in-At.start c.in-At.end c.in-At.is;
-        is_number = (there S.session.store.variables t a.l.vars a.variable_slots.now S.running.variables a.name.now c.find-found.result q c.in-At.number c.in-At.start c.in-At.end c.in-At.is).number;
+        below = there_below S.session.store.variables t a.l.vars a.variable_slots.now S.running.variables a.name.now c.find-found.result q c.in-Some.found.number c.in-Some.found.start c.in-Some.found.end c.in-Some.found.is;
+        is_number = (there S.session.store.variables t a.l.vars a.variable_slots.now S.running.variables a.name.now c.find-found.result q c.in-Some.found.number c.in-Some.found.start c.in-Some.found.end c.in-Some.found.is).number;
         is_list = Q.is_list;
         extra = Q.extra;
       },
@@ -70,10 +70,10 @@ returns-in_default-put c s lo lm es fs R el i X =
     let b = slices a.principals.now a.principal_slots.now a.vars.now a.variable_slots.now lo lm a.assertions.now in
     let t = take a.l.vars_len a.vars.now in
     let q = looked-up s lo lm R in
-    let k = there_below s.store.variables t a.l.vars a.variable_slots.now R.variables a.name.now c.find-found.result q c.in-At.number c.in-At.start c.in-At.end c.in-At.is in
-    let F = there s.store.variables t a.l.vars a.variable_slots.now R.variables a.name.now c.find-found.result q c.in-At.number c.in-At.start c.in-At.end c.in-At.is in
+    let k = there_below s.store.variables t a.l.vars a.variable_slots.now R.variables a.name.now c.find-found.result q c.in-Some.found.number c.in-Some.found.start c.in-Some.found.end c.in-Some.found.is in
+    let F = there s.store.variables t a.l.vars a.variable_slots.now R.variables a.name.now c.find-found.result q c.in-Some.found.number c.in-Some.found.start c.in-Some.found.end c.in-Some.found.is in
     let L = shared_lie s a.l b R a.l.weight (omega arith) in
-    let h = both_valid L a.name.now c.in-At.number k F.number es fs i a.more.now a.weight X in
+    let h = both_valid L a.name.now c.in-Some.found.number k F.number es fs i a.more.now a.weight X in
     shared_full s a.l b R a.name.now (list (es ++ fs)) h c.requires.1 el (list es) i
     (put_full s.store.variables (put a.name.now (list (es ++ fs)) s.store.variables) a.l.weight c.extend-put.result c.extend-put.new.buf a.l.vars c.extend-put.new.slots
     (c.extend-put.ensures s.store.variables a.name.now es fs L F.number i X) c.in_default-put.is)
@@ -86,10 +86,10 @@ returns c s lo lm es fs R el i X =
     let b = slices a.principals.now a.principal_slots.now a.vars.now a.variable_slots.now lo lm a.assertions.now in
     let t = take a.l.vars_len a.vars.now in
     let q = looked-up s lo lm R in
-    let k = there_below s.store.variables t a.l.vars a.variable_slots.now R.variables a.name.now c.find-found.result q c.in-At.number c.in-At.start c.in-At.end c.in-At.is in
-    let F = there s.store.variables t a.l.vars a.variable_slots.now R.variables a.name.now c.find-found.result q c.in-At.number c.in-At.start c.in-At.end c.in-At.is in
+    let k = there_below s.store.variables t a.l.vars a.variable_slots.now R.variables a.name.now c.find-found.result q c.in-Some.found.number c.in-Some.found.start c.in-Some.found.end c.in-Some.found.is in
+    let F = there s.store.variables t a.l.vars a.variable_slots.now R.variables a.name.now c.find-found.result q c.in-Some.found.number c.in-Some.found.start c.in-Some.found.end c.in-Some.found.is in
     let L = shared_lie s a.l b R a.l.weight (omega arith) in
-    let h = both_valid L a.name.now c.in-At.number k F.number es fs i a.more.now a.weight X in
+    let h = both_valid L a.name.now c.in-Some.found.number k F.number es fs i a.more.now a.weight X in
     subst (λ (k : Layout). Running (assign s a.name.now (list (es ++ fs))) k (slices a.principals.now a.principal_slots.now c.extend-put.new.buf c.extend-put.new.slots lo lm a.assertions.now)) (sym c.with_shared.ensures)
     (shared_done s a.l b R a.name.now (list (es ++ fs)) h c.requires.1 el (list es) i c.extend-put.new.buf c.extend-put.new.slots c.in-Done.n c.in-Done.w c.extend-put.auto.buf
     (put_done s.store.variables (put a.name.now (list (es ++ fs)) s.store.variables) a.l.weight c.extend-put.result c.extend-put.new.buf a.l.vars c.extend-put.new.slots

@@ -3,9 +3,9 @@
 use lib.ListN.{take}
 use lib.Seq.{length-take-le}
 use mathlib.Core.Path.{sym, ap, subst}
+use Rattle.std.specs.Prelude.{None}
 use Rattle.language.specs.Weight.{password_weight}
-use Rattle.contents.specs.Contents.{PasswordAt, PasswordIn}
-use Rattle.contents.specs.declared.Password.TheVariants.{Kept, Absent}
+use Rattle.contents.specs.Contents.{kept_at, PasswordAt, PasswordIn}
 use Rattle.store.proofs.Holders.{some_principals}
 use Rattle.passwords.proofs.Weighing.{kept_weight}
 use borrow.Author.Rules.{rules}
@@ -26,13 +26,13 @@ overflow_sub-result c =
 pub returns-in-Kept : goal.returns-in-Kept
 returns-in-Kept c ks K =
     let a = c.args in
-    let A : PasswordAt ks (take a.len a.principals.now) a.number (Kept c.in-Kept.start c.in-Kept.end) =
+    let A : PasswordAt ks (take a.len a.principals.now) a.number (kept_at c.in-Kept.start c.in-Kept.end) =
     subst (PasswordAt ks (take a.len a.principals.now) a.number) c.in-Kept.is (c.password_of-p.ensures ks K) in
     kept_weight ks (take a.len a.principals.now) a.number c.in-Kept.start c.in-Kept.end A
 
 pub returns-in-Absent : goal.returns-in-Absent
 returns-in-Absent c ks K =
     let a = c.args in
-    let A : PasswordAt ks (take a.len a.principals.now) a.number Absent =
+    let A : PasswordAt ks (take a.len a.principals.now) a.number None =
     subst (PasswordAt ks (take a.len a.principals.now) a.number) c.in-Absent.is (c.password_of-p.ensures ks K) in
     ap password_weight A.meant

@@ -4,8 +4,8 @@ use mathlib.Core.Path.{sym, ◌∙◌}
 use Rattle.evaluate.proofs.Labels.{row_there, row_missing}
 use Rattle.evaluate.proofs.draft.is_new.Goals as goal
 
-pub returns-in-At : goal.returns-in-At
-returns-in-At c l H = row_there l c.args.label.now c.in-At.number c.in-At.start c.in-At.end (sym c.in-At.is ∙ c.find-found.ensures l H)
+pub returns-in-Some : goal.returns-in-Some
+returns-in-Some c l H = row_there l c.args.label.now c.in-Some.found.number c.in-Some.found.start c.in-Some.found.end (c.in-Some.ensures l H)
 
-pub returns-in-Missing : goal.returns-in-Missing
-returns-in-Missing c l H = row_missing l c.args.label.now (sym c.in-Missing.is ∙ c.find-found.ensures l H)
+pub returns-in-None : goal.returns-in-None
+returns-in-None c l H = row_missing l c.args.label.now (c.in-None.ensures l H)
