@@ -15,7 +15,7 @@ use Rattle.language.specs.Calls.{wrong, length_answer, question}
 use Rattle.language.proofs.StateText.Names.{named_is}
 use Rattle.store.specs.Rows.{principal_row, variable_row, found_at, place}
 use Rattle.store.proofs.Answers.{FoundPrincipal, principal_found, principal_missing, variable_missing}
-use Rattle.named_rights.specs.Numbers.{code, variables, Asks}
+use Rattle.named_rights.specs.Numbers.{code, Asks}
 use Rattle.named_rights.proofs.Places.{code_lt}
 use Rattle.validate.specs.Checked.{Understood}
 use Rattle.validate.proofs.States.{store, everyone, found, variable_known}

@@ -30,6 +30,8 @@ use Rattle.language.proofs.Logic.Lists.{sum_append}
 use Rattle.language.proofs.Meaning.Weights.{put_new}
 use Rattle.store.specs.Held.{Variables}
 use Rattle.store.specs.Rows.{position, found_at, place, variable_row}
+use Rattle.std.specs.Prelude as Std
+use Rattle.std.specs.Prelude.{None}
 use Rattle.store.specs.declared.index.Found.{Found}
 use Rattle.store.proofs.Answers.{FoundVariable, variable_found, variable_missing, value_at}
 use Rattle.named_rights.specs.Numbers.{principals_of, variables, numbered, Standing}
@@ -76,11 +78,11 @@ module _ (s : Session) (x : Name) (v : Value) where
 -- ---- the texts
 
 -- a name that was found among variables, or was not
-module _ (vs : List Variable) (t : Text) (count : ℕ) (slots : List ℕ) (H : Variables vs t count slots) (x : Name) (r : Found) (F : r ≡ place (map variable_row vs) x) where
+module _ (vs : List Variable) (t : Text) (count : ℕ) (slots : List ℕ) (H : Variables vs t count slots) (x : Name) (r : Std.Option Found) (F : r ≡ place (map variable_row vs) x) where
   pub there : (k a e : ℕ) → r ≡ found_at k a e → FoundVariable vs t x k a e
   there k a e q = variable_found vs t count slots H x k a e (sym q ∙ F)
 
-  pub not_there : r ≡ Missing → value_in vs x ≡ none
+  pub not_there : r ≡ None → value_in vs x ≡ none
   not_there q = variable_missing vs x (sym q ∙ F)
 
   pub there_below : (k a e : ℕ) → r ≡ found_at k a e → k < count

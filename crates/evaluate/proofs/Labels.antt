@@ -10,7 +10,10 @@ use mathlib.Core.List.{List, [], ◌∷◌, ◌++◌, append-nil}
 use lib.Dec.{T}
 use lib.ListN.{length, take, drop, set, length-append, length-map}
 use lib.Seq.{take-suc-set, take-take}
-use Rattle.std.specs.Prelude.{None}
+use Rattle.std.specs.Prelude as Std
+use Rattle.std.specs.Prelude.{Some, None, is_some}
+use Rattle.std.proofs.lemmas.Bool.{false≢true}
+use Rattle.store.specs.declared.index.Found.{Found}
 use Rattle.language.specs.Text.{Text, when◌then◌else◌, ◌≟◌, member, joined}
 use Rattle.language.specs.Syntax.{Name}
 use Rattle.language.specs.Identifiers.{is_name}
@@ -49,6 +52,13 @@ row_there rows x k s e q =
 pub row_missing : (rows : List Row) (x : Name) → None ≡ place rows x → true ≡ not (member x (row_names rows))
 row_missing rows x q =
     sym (ap not (not_there (row_names rows) x (omega (arith, unanswered rows x q, length-map rows (λ (r : Row). r.name)))))
+
+-- whether a look-up found nothing
+pub row_new : (rows : List Row) (x : Name) (o : Std.Option Found) (b : Bool) → is_some o ≡ not b → o ≡ place rows x → b ≡ not (member x (row_names rows))
+row_new rows x (Some f) false e q = row_there rows x f.number f.start f.end q
+row_new rows x (Some f) true e q = absurd (false≢true (sym e))
+row_new rows x None false e q = absurd (false≢true e)
+row_new rows x None true e q = row_missing rows x q
 
 -- ---- a row more
 

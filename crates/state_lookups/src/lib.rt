@@ -43,8 +43,9 @@ pub fn principal(text: &[u8], slots: &[u32], count: usize, name: &[u8], out: &mu
         return MISSING;
     };
     let number = found.number;
-    match password_of(text, slots, count, number) {
-        Some(p) => write(number, &text[p.start..p.end], out),
+    let password = password_of(text, slots, count, number);
+    match password {
+        Some(kept) => write(number, &text[kept.start..kept.end], out),
         None => unkept(number),
     }
 }
@@ -57,7 +58,8 @@ pub fn count(text: &[u8], slots: &[u32], count: usize, name: &[u8]) -> u64
     let Some(found) = find(text, slots, count, name) else {
         return MISSING;
     };
-    count_of(text, slots, count, found.number).value
+    let digits = count_of(text, slots, count, found.number);
+    digits.value
 }
 
 // A variable by name, with its value's text.
@@ -70,7 +72,9 @@ pub fn variable(text: &[u8], slots: &[u32], count: usize, name: &[u8], out: &mut
     };
     let number = found.number;
     let span = value_of(text, slots, count, number);
-    write(number, &text[span.start..span.end], out)
+    let start = span.start;
+    let end = span.end;
+    write(number, &text[start..end], out)
 }
 
 // The name of the record of a number.
@@ -82,5 +86,8 @@ pub fn nth_name(text: &[u8], slots: &[u32], count: usize, number: usize, out: &m
         return MISSING;
     }
     let place = nth(text, slots, count, number);
-    write(number, &text[place.start + 2..place.mid], out)
+    let start = place.start;
+    let from = start + 2;
+    let to = place.mid;
+    write(number, &text[from..to], out)
 }

@@ -10,7 +10,6 @@ use Rattle.store.specs.Rows.{found_at, place, principal_row}
 use Rattle.store.proofs.Holders.{principals_rows, some_principals}
 use Rattle.store.proofs.Answers.{principal_found}
 use Rattle.opening.proofs.Senders.{not_there, let_in_lem, turned_away}
-use borrow.Author.Rules.{rules}
 use Rattle.opening.proofs.log_in.Goals as goal
 
 pub find-requires : goal.find-requires

@@ -1,6 +1,6 @@
 -- `permits::allowed` meets its contract. The number of a shared variable is asked for; any other name asks for nothing.
 -- Assumes nothing.
-use mathlib.Core.Path.{◌≡◌, sym, ◌∙◌}
+use mathlib.Core.Path.{◌≡◌}
 use mathlib.Core.List.{map}
 use Rattle.language.specs.Values.{Session}
 use Rattle.store.specs.Rows.{variable_row, found_at, place}

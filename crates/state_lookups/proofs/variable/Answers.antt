@@ -1,4 +1,4 @@
-use mathlib.Core.Path.{◌≡◌, refl, sym, subst, ◌∙◌}
+use mathlib.Core.Path.{◌≡◌, refl, sym, subst}
 use mathlib.Core.List.{List, map}
 use Prim.Native.Nat.{◌<◌}
 use native.Mathlib.Omega.{arith}

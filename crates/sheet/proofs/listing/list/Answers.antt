@@ -1,13 +1,12 @@
 -- `sheet::listing::list` meets its contract. A variable that is not found is refused; the tables of a checked state are those of its sheet.
 -- Assumes nothing.
-use mathlib.Core.Path.{◌≡◌, sym, ◌∙◌}
+use mathlib.Core.Path.{◌≡◌}
 use mathlib.Core.List.{map}
 use Rattle.language.specs.Calls.{SheetBuffers}
 use Rattle.store.specs.Rows.{variable_row, found_at, place}
 use Rattle.validate.specs.Checked.{Understood}
 use Rattle.validate.proofs.States.{store, vars_rows, are_vars}
 use Rattle.sheet.proofs.Printing.{not_listed, tables, listable, listed_is}
-use borrow.Author.Rules.{rules}
 use Rattle.sheet.proofs.listing.list.Goals as goal
 
 pub find-requires : goal.find-requires
