@@ -6,16 +6,16 @@ use native.Mathlib.Omega.{arith}
 use mathlib.Core.Option.{Option, none, some}
 use mathlib.Core.List.{List, map}
 use lib.Dec.{T}
+use Rattle.std.specs.Prelude.{None}
 use Rattle.language.specs.Text.{Text, present}
 use Rattle.language.specs.Syntax.{Name, Right}
 use Rattle.language.specs.State.{Principal, Value, Store, named, value_in}
 use Rattle.language.specs.Chains.{chain_length}
 use Rattle.language.specs.Calls.{wrong, length_answer, question}
 use Rattle.language.proofs.StateText.Names.{named_is}
-use Rattle.store.specs.Rows.{principal_row, variable_row, place}
-use Rattle.store.specs.declared.index.Found.TheVariants.{At, Missing}
+use Rattle.store.specs.Rows.{principal_row, variable_row, found_at, place}
 use Rattle.store.proofs.Answers.{FoundPrincipal, principal_found, principal_missing, variable_missing}
-use Rattle.named_rights.specs.Numbers.{code, variables, Asks}
+use Rattle.named_rights.specs.Numbers.{code, Asks}
 use Rattle.named_rights.proofs.Places.{code_lt}
 use Rattle.validate.specs.Checked.{Understood}
 use Rattle.validate.proofs.States.{store, everyone, found, variable_known}
@@ -58,20 +58,20 @@ module _ (s : Store) (p x : Name) where
 -- ---- on a state that was checked
 
 module _ {t : Text} {slots-p slots_v assertions : List ℕ} {m : Parts} (u : Understood t slots-p slots_v assertions m) where
-  pub unknown_name : (p x : Name) (o : Option Right) → Missing ≡ place (map principal_row (store u).principals) p → wrong 6 ≡ question (store u) p x o
+  pub unknown_name : (p x : Name) (o : Option Right) → None ≡ place (map principal_row (store u).principals) p → wrong 6 ≡ question (store u) p x o
   unknown_name p x o q = nobody (store u) p x o (principal_missing (store u).principals p q)
 
-  module _ (p x : Name) (k a b : ℕ) (q : At k a b ≡ place (map principal_row (store u).principals) p) where
+  module _ (p x : Name) (k a b : ℕ) (q : found_at k a b ≡ place (map principal_row (store u).principals) p) where
     P : FoundPrincipal (store u).principals p k
     P = principal_found (store u).principals p k a b q
 
     pub unknown_right : (o : Option Right) → right_code o ≡ 4 → wrong 7 ≡ question (store u) p x o
     unknown_right o h = no_right (store u) p x _ P.is_named o (names_none o h)
 
-    pub unknown_variable : (o : Option Right) → Missing ≡ place (map variable_row (store u).variables) x → wrong 7 ≡ question (store u) p x o
+    pub unknown_variable : (o : Option Right) → None ≡ place (map variable_row (store u).variables) x → wrong 7 ≡ question (store u) p x o
     unknown_variable o h = no_variable (store u) p x _ P.is_named o (variable_missing (store u).variables x h)
 
-    module _ (l d e : ℕ) (w : At l d e ≡ place (map variable_row (store u).variables) x) where
+    module _ (l d e : ℕ) (w : found_at l d e ≡ place (map variable_row (store u).variables) x) where
       pub asks : (r : Right) (n : ℕ) → n ≡ code r → Asks (store u) r x p m.principals l n k
       asks r n h = record {
         everyone = everyone u;

@@ -6,7 +6,7 @@ ghost use Rattle.answers.specs.Answers.{answer_meant, right_code};
 
 use answers::Answer;
 use assertion::{APPEND, DELEGATE, READ, WRITE};
-use store::index::{Found, find};
+use store::index::find;
 use validate::Parts;
 
 // A right's number by its letter, 4 for any other byte.
@@ -46,12 +46,7 @@ pub fn decide(
         count,
         name,
     );
-    let Found::At {
-        number,
-        start: _,
-        end: _,
-    } = principal
-    else {
+    let Some(asker) = principal else {
         return Answer::Wrong(6);
     };
     let code = right_code(right);
@@ -61,15 +56,17 @@ pub fn decide(
     let vars_from = parts.vars_from;
     let vars_to = parts.vars_to;
     let place = find(&state[vars_from..vars_to], vars, parts.vars, variable);
-    let Found::At {
-        number: shared,
-        start: _,
-        end: _,
-    } = place
-    else {
+    let Some(shared) = place else {
         return Answer::Wrong(7);
     };
-    let chain = named_rights::chain(assertions, parts.asserted, count, shared, code, number);
+    let chain = named_rights::chain(
+        assertions,
+        parts.asserted,
+        count,
+        shared.number,
+        code,
+        asker.number,
+    );
     match chain {
         Some(n) => Answer::Yes(n),
         None => Answer::No,

@@ -1,35 +1,18 @@
 -- Numbers entered in and withdrawn from the front of a list.
 -- Assumes nothing.
 use mathlib.Core.Path.{◌≡◌, refl, sym, ap, ◌∙◌}
-use mathlib.Core.Bool.{Bool, true, false, ◌||◌}
+use mathlib.Core.Bool.{true, false}
 use mathlib.Core.List.{List, [], ◌∷◌, ◌++◌, append_assoc}
 use Prim.Native.Nat.{ℕ, zero, suc, ◌+◌, ◌-◌, ◌≤◌, ◌<◌}
 use native.Mathlib.Nat.{not-suc-le-zero, le_of_suc-le-suc}
 use native.Mathlib.Numerals.{add-one}
 use native.Mathlib.Omega.{arith}
-use borrow.Author.Tests.{eq-eqb, ne_eqb, lt-ltb}
-use lib.Dec.{eqb, ltb}
-use lib.ListN.{length, get_or, set, take, drop, length-append, length-drop, take-append-drop}
-use lib.Seq.{take-suc, take-suc-set, drop-cons, drop-drop, set_at, get_or-take, get_or-drop, get_or-append-add, take-take, take_at, drop_at, take-add, length-take-le}
-use Rattle.language.specs.Text.{any}
+use borrow.Author.Tests.{eq-eqb, ne_eqb}
+use lib.ListN.{length, get_or, set, take, drop, length-append, length-drop}
+use lib.Seq.{take-suc-set, drop-drop, get_or-take, take-take, take_at, drop_at, take-add, length-take-le}
+use Rattle.std.specs.List.{copy_within}
 use Rattle.assertion_list.specs.Asserting.{stands_in, enter_number, withdraw_number}
 use Rattle.assertion_list.specs.Shapes.{FirstAt, closed}
-use Rattle.language.proofs.Logic.Lists.{any_last}
-use Rattle.language.proofs.Logic.Tests.{or_true, or_false}
-
--- ---- assertions
-
-stands_more : (l : List ℕ) (a i : ℕ) → i < length l → stands_in (take (i + 1) l) a ≡ (stands_in (take i l) a || eqb a (get_or l i 0))
-stands_more l a i h = ap (λ (n : ℕ). any (eqb a) (take n l)) (add-one i) ∙ ap (any (eqb a)) (take-suc l i 0 h) ∙ any_last (eqb a) (take i l) (get_or l i 0)
-
-pub stands_hit : (l : List ℕ) (a i hits : ℕ) → i < length l → get_or l i 0 ≡ a → ltb 0 (hits + 1) ≡ stands_in (take (i + 1) l) a
-stands_hit l a i hits h e =
-    lt-ltb 0 (hits + 1) (omega arith)
-    ∙ sym (stands_more l a i h ∙ ap (λ (b : Bool). stands_in (take i l) a || b) (eq-eqb a (get_or l i 0) (sym e)) ∙ or_true (stands_in (take i l) a))
-
-pub stands_miss : (l : List ℕ) (a i hits : ℕ) → i < length l → (get_or l i 0 ≡ a → ⊥) → ltb 0 hits ≡ stands_in (take i l) a → ltb 0 hits ≡ stands_in (take (i + 1) l) a
-stands_miss l a i hits h n e =
-    e ∙ sym (stands_more l a i h ∙ ap (λ (b : Bool). stands_in (take i l) a || b) (ne_eqb a (get_or l i 0) (λ q. n (sym q))) ∙ or_false (stands_in (take i l) a))
 
 -- ---- entering
 
@@ -59,44 +42,10 @@ part_take l s e h k =
     let q : e ≡ s + (e - s) = omega arith in
     sym (ap (λ (n : ℕ). drop s (take n l)) q ∙ ap (drop s) (take-add s (e - s) l) ∙ drop_at (take s l) (take (e - s) (drop s l)) s (length-take-le s l k))
 
-module _ (l : List ℕ) (k i : ℕ) where
-  -- those after place k, up to place i, have moved down
-  abbrev pub closing : List ℕ
-  closing = take k l ++ (take (i - k) (drop (k + 1) l) ++ drop i l)
-
-  closing_is : closing ≡ (take k l ++ take (i - k) (drop (k + 1) l)) ++ drop i l
-  closing_is = sym (append_assoc (take k l) (take (i - k) (drop (k + 1) l)) (drop i l))
-
-  moved_size : k ≤ i → i < length l → length (take k l ++ take (i - k) (drop (k + 1) l)) ≡ i
-  moved_size h m =
-      omega (arith, length-append (take k l) (take (i - k) (drop (k + 1) l)), length-take-le k l (omega arith), length-take-le (i - k) (drop (k + 1) l) (omega (arith, length-drop (k + 1) l)))
-
-  pub closing_next : k ≤ i → i + 1 < length l → get_or closing (i + 1) 0 ≡ get_or l (i + 1) 0
-  closing_next h m =
-      let p : List ℕ = take k l ++ take (i - k) (drop (k + 1) l) in
-      let z : length p ≡ i = moved_size h (omega arith) in
-      ap (λ (x : List ℕ). get_or x (i + 1) 0) closing_is ∙ ap (λ (n : ℕ). get_or (p ++ drop i l) (n + 1) 0) (sym z) ∙ get_or-append-add p (drop i l) 1 0 ∙ get_or-drop i l 1 0
-
-pub closing_start : (l : List ℕ) (k : ℕ) → l ≡ closing l k k
-closing_start l k =
-    let e : k - k ≡ 0 = omega arith in
-    rw e (sym (take-append-drop k l))
-
-pub closing_more : (l : List ℕ) (k i : ℕ) → k ≤ i → i + 1 < length l → set (closing l k i) i (get_or l (i + 1) 0) ≡ closing l k (i + 1)
-closing_more l k i h m =
-    let p : List ℕ = take k l ++ take (i - k) (drop (k + 1) l) in
-    let z : length p ≡ i = moved_size l k i h (omega arith) in
-    let e : i + 1 - k ≡ suc (i - k) = omega arith in
-    let b : i - k < length (drop (k + 1) l) = omega (arith, length-drop (k + 1) l) in
-    let g : get_or (drop (k + 1) l) (i - k) 0 ≡ get_or l (i + 1) 0 = get_or-drop (k + 1) l (i - k) 0 ∙ ap (λ (n : ℕ). get_or l n 0) (let q : k + 1 + (i - k) ≡ i + 1 = omega arith in q) in
-    let next : take (i + 1 - k) (drop (k + 1) l) ≡ take (i - k) (drop (k + 1) l) ++ (get_or l (i + 1) 0 ∷ []) =
-    ap (λ (n : ℕ). take n (drop (k + 1) l)) e ∙ take-suc (drop (k + 1) l) (i - k) 0 b ∙ ap (λ (x : ℕ). take (i - k) (drop (k + 1) l) ++ (x ∷ [])) g in
-    ap (λ (x : List ℕ). set x i (get_or l (i + 1) 0)) (closing_is l k i ∙ ap (λ (r : List ℕ). p ++ r) (drop-cons l i 0 (omega arith)))
-    ∙ set_at p (get_or l i 0) (drop (suc i) l) (get_or l (i + 1) 0) i z
-    ∙ append_assoc (take k l) (take (i - k) (drop (k + 1) l)) (get_or l (i + 1) 0 ∷ drop (suc i) l)
-    ∙ sym (ap (λ (x : List ℕ). take k l ++ (x ++ drop (i + 1) l)) next
-    ∙ ap (λ (x : List ℕ). take k l ++ x) (append_assoc (take (i - k) (drop (k + 1) l)) (get_or l (i + 1) 0 ∷ []) (drop (i + 1) l))
-    ∙ ap (λ (n : ℕ). take k l ++ (take (i - k) (drop (k + 1) l) ++ (get_or l (i + 1) 0 ∷ drop n l))) (add-one i))
+pub closed_is : (l : List ℕ) (k n : ℕ) → k < n → copy_within l (k + 1) n k ≡ closed l k n
+closed_is l k n h =
+    append_assoc (take k l) (take (n - (k + 1)) (drop (k + 1) l)) (drop (k + (n - (k + 1))) l)
+    ∙ ap (λ (m : ℕ). take k l ++ (take (n - (k + 1)) (drop (k + 1) l) ++ drop m l)) (let q : k + (n - (k + 1)) ≡ n - 1 = omega arith in q)
 
 -- what is left of the front of the list, and of the rest
 module _ (l : List ℕ) (k n : ℕ) (h : k < n) (m : n ≤ length l) where

@@ -3,22 +3,20 @@
 
 ghost use Rattle.std.specs.Prelude.{◌≡◌, ◌++◌, ◌+◌, ◌-◌, ◌≤◌, ◌<◌, length, take, drop};
 ghost use Rattle.assertion_list.specs.Asserting.{stands_in, enter_number, withdraw_number};
-ghost use Rattle.assertion_list.specs.Shapes.{FirstAt, closed};
+ghost use Rattle.assertion_list.specs.Shapes.{FirstMeant};
 
-// Whether `a` stands. The loop looks at every number, so that it goes by blocks.
+// Whether `a` stands. The loop looks at every number, so that some are looked at together.
 pub fn stands(list: &[u64], n: usize, a: u64) -> bool
     requires { n ≤ length list.now }
     ensures { result ≡ stands_in (take n list.now) a }
 {
-    let mut hits: usize = 0;
-    let mut i = 0;
-    while i < n {
-        if list[i] == a {
-            hits += 1;
+    let mut hit = false;
+    for b in &list[..n] {
+        if *b == a {
+            hit = true;
         }
-        i += 1;
     }
-    0 < hits
+    hit
 }
 
 // Enters `a` last, unless it stands; how many stand then.
@@ -34,46 +32,23 @@ pub fn enter(list: &mut [u64], n: usize, a: u64) -> usize
     n + 1
 }
 
-// The place of the first number that equals `a`, or `n` where there is none.
-fn first(list: &[u64], n: usize, a: u64) -> usize
+// The place of the first number that equals `a`.
+fn first(list: &[u64], n: usize, a: u64) -> Option<usize>
     requires { n ≤ length list.now }
-    ensures { FirstAt list.now n a result }
+    ensures { FirstMeant list.now n a result }
 {
-    let mut i = 0;
-    while i < n {
-        if list[i] == a {
-            return i;
-        }
-        i += 1;
-    }
-    i
+    list[..n].iter().position(|b| *b == a)
 }
 
-// The numbers after place `k`, up to place `n`, each move down by one.
-fn close_up(list: &mut [u64], k: usize, n: usize)
-    requires { (k < n) × (n ≤ length list.old) }
-    ensures { list.new ≡ closed list.old k n }
-{
-    let mut i = k;
-    let mut next = k + 1;
-    while next < n {
-        let m = list[next];
-        list[i] = m;
-        i = next;
-        next += 1;
-    }
-}
-
-// Withdraws `a`, if it stands; how many stand then.
+// Withdraws `a`, if it stands: the numbers after it, up to place `n`, each move down by one. How many stand then.
 pub fn withdraw(list: &mut [u64], n: usize, a: u64) -> usize
     requires { n ≤ length list.old }
     ensures withdrawn { take result list.new ≡ withdraw_number (take n list.old) a }
     ensures others { (result ≤ n) × (drop n list.new ≡ drop n list.old) }
 {
-    let k = first(list, n, a);
-    if k == n {
+    let Some(k) = first(list, n, a) else {
         return n;
-    }
-    close_up(list, k, n);
+    };
+    list.copy_within(k + 1..n, k);
     n - 1
 }

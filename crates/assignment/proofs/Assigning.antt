@@ -29,9 +29,10 @@ use Rattle.language.proofs.Meaning.Stores.{put_shape, enter_shape}
 use Rattle.language.proofs.Logic.Lists.{sum_append}
 use Rattle.language.proofs.Meaning.Weights.{put_new}
 use Rattle.store.specs.Held.{Variables}
-use Rattle.store.specs.Rows.{position, place, variable_row}
+use Rattle.store.specs.Rows.{position, found_at, place, variable_row}
+use Rattle.std.specs.Prelude as Std
+use Rattle.std.specs.Prelude.{None}
 use Rattle.store.specs.declared.index.Found.{Found}
-use Rattle.store.specs.declared.index.Found.TheVariants.{At, Missing}
 use Rattle.store.proofs.Answers.{FoundVariable, variable_found, variable_missing, value_at}
 use Rattle.named_rights.specs.Numbers.{principals_of, variables, numbered, Standing}
 use Rattle.language.proofs.StateText.Least.{name_weighs}
@@ -77,14 +78,14 @@ module _ (s : Session) (x : Name) (v : Value) where
 -- ---- the texts
 
 -- a name that was found among variables, or was not
-module _ (vs : List Variable) (t : Text) (count : ℕ) (slots : List ℕ) (H : Variables vs t count slots) (x : Name) (r : Found) (F : r ≡ place (map variable_row vs) x) where
-  pub there : (k a e : ℕ) → r ≡ At k a e → FoundVariable vs t x k a e
+module _ (vs : List Variable) (t : Text) (count : ℕ) (slots : List ℕ) (H : Variables vs t count slots) (x : Name) (r : Std.Option Found) (F : r ≡ place (map variable_row vs) x) where
+  pub there : (k a e : ℕ) → r ≡ found_at k a e → FoundVariable vs t x k a e
   there k a e q = variable_found vs t count slots H x k a e (sym q ∙ F)
 
-  pub not_there : r ≡ Missing → value_in vs x ≡ none
+  pub not_there : r ≡ None → value_in vs x ≡ none
   not_there q = variable_missing vs x (sym q ∙ F)
 
-  pub there_below : (k a e : ℕ) → r ≡ At k a e → k < count
+  pub there_below : (k a e : ℕ) → r ≡ found_at k a e → k < count
   there_below k a e q = omega (arith, (there k a e q).below, H.counted)
 
 module _ (s : Session) (l : Layout) (b : Slices) (R : Running s l b) where

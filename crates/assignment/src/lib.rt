@@ -17,7 +17,7 @@ ghost use Rattle.assignment.specs.Assignments.{SomeShared, SomeNew, Assigns};
 
 use grants::{grant, grant_weight};
 use session::Layout;
-use store::index::{Found, find};
+use store::index::find;
 use variable_text::{Put, add, replace};
 
 #[derive(Clone, Copy)]
@@ -129,13 +129,7 @@ fn assign_shared(
 {
     let len = l.vars_len;
     let count = l.vars;
-    let found = find(&vars[..len], variable_slots, count, name);
-    let Found::At {
-        number,
-        start: _,
-        end: _,
-    } = found
-    else {
+    let Some(found) = find(&vars[..len], variable_slots, count, name) else {
         return make(
             principals,
             principal_slots,
@@ -153,7 +147,7 @@ fn assign_shared(
         len,
         variable_slots,
         count,
-        number,
+        found.number,
         value,
         weight,
         l.weight,
@@ -187,13 +181,7 @@ pub fn assign(
 {
     let len = l.locals_len;
     let count = l.locals;
-    let found = find(&locals[..len], local_slots, count, name);
-    let Found::At {
-        number,
-        start: _,
-        end: _,
-    } = found
-    else {
+    let Some(found) = find(&locals[..len], local_slots, count, name) else {
         return assign_shared(
             principals,
             principal_slots,
@@ -211,7 +199,7 @@ pub fn assign(
         len,
         local_slots,
         count,
-        number,
+        found.number,
         value,
         weight,
         l.weight,

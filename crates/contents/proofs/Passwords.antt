@@ -14,9 +14,9 @@ use Rattle.store.specs.Held.{Principals, Variables}
 use Rattle.text.specs.Parts.{part}
 use Rattle.store.specs.Rows.{Row, Rows, row_at, no_row, start_of, row_text, body_text, password_letter, password_body, count_text, principal_row, variable_row, Placed}
 use Rattle.store.specs.Contents.{principal_at, variable_at}
-use Rattle.contents.specs.Contents.{LastTab, CountAt, PasswordAt, ValueAt}
+use Rattle.contents.specs.Contents.{kept_at, LastTab, CountAt, PasswordAt, ValueAt}
 use Rattle.store.specs.declared.index.Place.{Place}
-use Rattle.contents.specs.declared.Password.TheVariants.{Kept, Absent}
+use Rattle.std.specs.Prelude.{None}
 use Rattle.store.proofs.Records.{start_next, row_here, body_part}
 use Rattle.store.proofs.Places.{lies}
 use Rattle.store.proofs.Holders.{principals_rows, variables_rows}
@@ -86,17 +86,17 @@ module _ (ks : List Principal) (t : Text) (count : ℕ) (slots : List ℕ) (K : 
       let q : p.start ≡ p.start + 0 = omega arith in
       ap (λ (n : ℕ). get_or t n 0) q ∙ sym (get_or-drop p.start t 0 0) ∙ ap (λ (l : Text). get_or l 0 0) line_here
 
-  pub no_password : (get_or t p.start 0 ≡ 80 → ⊥) → PasswordAt ks t k Absent
+  pub no_password : (get_or t p.start 0 ≡ 80 → ⊥) → PasswordAt ks t k None
   no_password n = record { within = tt; meant = go (principal_at ks k).password (λ e. n (first_is ∙ e)) }
     where
       go : (o : Option Text) → (password_letter o ≡ 80 → ⊥) → none ≡ o
       go none f = refl
       go (some w) f = absurd (f refl)
 
-  pub kept_password : get_or t p.start 0 ≡ 80 → (r : ℕ) → CountAt ks t k r → PasswordAt ks t k (Kept (p.mid + 1) (r - 1))
+  pub kept_password : get_or t p.start 0 ≡ 80 → (r : ℕ) → CountAt ks t k r → PasswordAt ks t k (kept_at (p.mid + 1) (r - 1))
   kept_password e r C = go (principal_at ks k).password refl
     where
-      go : (o : Option Text) → o ≡ (principal_at ks k).password → PasswordAt ks t k (Kept (p.mid + 1) (r - 1))
+      go : (o : Option Text) → o ≡ (principal_at ks k).password → PasswordAt ks t k (kept_at (p.mid + 1) (r - 1))
       go none q = absurd (let z : 78 ≡ 80 = ap password_letter q ∙ sym first_is ∙ e in omega (arith, z))
       go (some w) q =
           let H = principals_rows ks t count slots K in

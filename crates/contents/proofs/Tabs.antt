@@ -22,17 +22,6 @@ use Rattle.contents.specs.Contents.{LastTab}
 abbrev pub NoTab : Text → ℕ → ℕ → Type 0
 NoTab t i to = (j : ℕ) → i ≤ j → j < to → get_or t j 0 ≡ tab → ⊥
 
-module _ (t : Text) (i : ℕ) (n : get_or t (i - 1) 0 ≡ tab → ⊥) where
-  pub tab_lower : (from : ℕ) → from < i → get_or t from 0 ≡ tab → from < i - 1
-  tab_lower from h q =
-      let d : from ≡ i - 1 → ⊥ = λ e. n (ap (λ (m : ℕ). get_or t m 0) (sym e) ∙ q) in
-      omega arith
-
-  pub no_tab_lower : (to : ℕ) → NoTab t i to → NoTab t (i - 1) to
-  no_tab_lower to f j l h q =
-      let d : j ≡ i - 1 → ⊥ = λ e. n (ap (λ (m : ℕ). get_or t m 0) (sym e) ∙ q) in
-      f j (omega arith) h q
-
 -- ---- the field after it
 
 abbrev Tabless : Text → Type 0

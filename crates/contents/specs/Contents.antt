@@ -1,5 +1,7 @@
 -- What stands in a record: a principal's password and count, a variable's value.
 use Rattle.std.specs.Prelude.{◌≡◌, ℕ, suc, ◌+◌, ◌-◌, ◌≤◌, ◌<◌, List, [], ◌++◌, map, length, get_or, drop}
+use Rattle.std.specs.Prelude as Std
+use Rattle.std.specs.Prelude.{Some, None}
 use Rattle.std.proofs.Math.Option.{Option, none, some}
 use Rattle.language.specs.Text.{Text}
 use Rattle.language.specs.State.{Value, Principal, Variable}
@@ -7,24 +9,33 @@ use Rattle.language.specs.Encode.{tab, value_text}
 use Rattle.text.specs.Parts.{part}
 use Rattle.store.specs.Rows.{start_of, count_text, principal_row}
 use Rattle.store.specs.Contents.{principal_at, variable_at}
-use Rattle.contents.specs.declared.Password.{Password}
-use Rattle.contents.specs.declared.Password.TheVariants.{Kept, Absent}
+use Rattle.text.specs.declared.Span.{Span}
 
 -- the bytes of a value, none where there is none: a value's text is never empty
 abbrev pub value_bytes : Option Value → Text
 value_bytes none = []
 value_bytes (some v) = value_text v
 
-abbrev pub password_meant : Text → Password → Option Text
-password_meant t (Kept s e) = some (part t s e)
-password_meant t Absent = none
+-- the bytes are the text of the value that there is
+pub record IsText (t : Text) (o : Option Value) : Type 0 where
+  pub value : Value
+  pub is_value : o ≡ some value
+  pub bytes : t ≡ value_text value
 
-abbrev pub PasswordIn : Text → Password → Type 0
-PasswordIn t (Kept s e) = (s ≤ e) × (e ≤ length t)
-PasswordIn t Absent = Unit {0}
+-- a password stands there
+abbrev pub kept_at : ℕ → ℕ → Std.Option Span
+kept_at s e = Some (record { start = s; end = e })
+
+abbrev pub password_meant : Text → Std.Option Span → Option Text
+password_meant t (Some p) = some (part t p.start p.end)
+password_meant t None = none
+
+abbrev pub PasswordIn : Text → Std.Option Span → Type 0
+PasswordIn t (Some p) = (p.start ≤ p.end) × (p.end ≤ length t)
+PasswordIn t None = Unit {0}
 
 -- the answer r is the password of principal k
-pub record PasswordAt (ks : List Principal) (t : Text) (k : ℕ) (r : Password) : Type 0 where
+pub record PasswordAt (ks : List Principal) (t : Text) (k : ℕ) (r : Std.Option Span) : Type 0 where
   pub within : PasswordIn t r
   pub meant : password_meant t r ≡ (principal_at ks k).password
 

@@ -1,35 +1,30 @@
 // What a record holds: a principal's password and count, a variable's value, and the value of a name; a name's number, and what a principal's name weighs.
 #![tactic(auto)]
 
-ghost use Rattle.std.specs.Prelude.{◌≡◌, List, ◌≤◌, ◌<◌, length, take, get_or};
+ghost use Rattle.std.specs.Prelude.{◌≡◌, List, ◌≤◌, ◌<◌, length, take, get_or, MatchOption};
+ghost use Rattle.std.proofs.Math.Option.{none};
 ghost use Rattle.language.specs.Text.{◌or_else◌};
 ghost use Rattle.language.specs.State.{Principal, Variable, value_in};
 ghost use Rattle.language.specs.Weight.{name_weight};
 ghost use Rattle.language.specs.Encode.{tab};
 ghost use Rattle.store.specs.Held.{Principals, Variables};
 ghost use Rattle.store.specs.Rows.{Row, Rows, SomeRows, row_names, row_at, position};
-ghost use Rattle.contents.specs.Contents.{value_bytes, LastTab, CountAt, PasswordAt, ValueAt};
+ghost use Rattle.contents.specs.Contents.{value_bytes, IsText, LastTab, CountAt, PasswordAt, ValueAt};
 
-use store::index::{Found, find, nth};
+use store::index::{find, nth};
 use text::Span;
-
-// Where a password stands.
-#[derive(Clone, Copy)]
-pub enum Password {
-    Kept { start: usize, end: usize },
-    Absent,
-}
 
 // The place after the last tab from `from` up to `to`; a tab stands at `from`.
 fn last_tab(text: &[u8], from: usize, to: usize) -> usize
     requires { (from < to) × (to ≤ length text.now) × (get_or text.now from 0 ≡ tab) }
     ensures { LastTab text.now from to result }
 {
-    let mut i = to;
-    while text[i - 1] != b'\t' {
-        i -= 1;
+    for i in (from + 1..to).rev() {
+        if text[i] == b'\t' {
+            return i + 1;
+        }
     }
-    i
+    from + 1
 }
 
 // Where the count of a principal starts: it is the last field of the line, and no digit is a tab.
@@ -39,25 +34,23 @@ pub fn count_at(text: &[u8], slots: &[u32], count: usize, number: usize) -> usiz
     ensures counted { (ks : List Principal) → Principals ks text.now count slots.now → CountAt ks text.now number result }
 {
     let place = nth(text, slots, count, number);
-    let from = place.start + 1;
     let to = place.end;
-    last_tab(text, from, to)
+    last_tab(text, place.start + 1, to)
 }
 
 // The password of a principal whose line starts with P: after the tab that follows the name, up to the tab before the count.
-pub fn password_of(text: &[u8], slots: &[u32], count: usize, number: usize) -> Password
+pub fn password_of(text: &[u8], slots: &[u32], count: usize, number: usize) -> Option<Span>
     requires { SomeRows text.now count slots.now × (number < count) }
     ensures { (ks : List Principal) → Principals ks text.now count slots.now → PasswordAt ks text.now number result }
 {
     let place = nth(text, slots, count, number);
-    let first = place.start;
-    if text[first] != b'P' {
-        return Password::Absent;
+    if text[place.start] != b'P' {
+        return None;
     }
     let start = place.mid + 1;
     let digits = count_at(text, slots, count, number);
     let end = digits - 1;
-    Password::Kept { start, end }
+    Some(Span { start, end })
 }
 
 // The text of a variable's value.
@@ -66,10 +59,20 @@ pub fn value_of(text: &[u8], slots: &[u32], count: usize, number: usize) -> Span
     ensures { (vs : List Variable) → Variables vs text.now count slots.now → ValueAt vs text.now number result.start result.end }
 {
     let place = nth(text, slots, count, number);
-    let mid = place.mid;
-    let start = mid + 1;
-    let end = place.end;
-    Span { start, end }
+    Span {
+        start: place.mid + 1,
+        end: place.end,
+    }
+}
+
+// The bytes of the value of a name, where the text has it.
+fn bytes_of<'a>(text: &'a [u8], slots: &[u32], count: usize, name: &[u8]) -> Option<&'a [u8]>
+    requires { SomeRows text.now count slots.now }
+    ensures { (vs : List Variable) → Variables vs text.now count slots.now
+        → MatchOption result (value_in vs name.now ≡ none) (λ b. IsText b.now (value_in vs name.now)) }
+{
+    let found = find(text, slots, count, name)?;
+    Some(&text[found.start + 3 + name.len()..found.end])
 }
 
 // The bytes of the value of a name, a part of the locals or else of the shared text; nothing where neither has it.
@@ -87,31 +90,11 @@ pub fn read<'a>(
         → Variables lv locals.now lcount lslots.now
         → result.now ≡ value_bytes (value_in lv name.now or_else value_in sv name.now) }
 {
-    let l = find(locals, lslots, lcount, name);
-    match l {
-        Found::At {
-            number: _,
-            start,
-            end,
-        } => {
-            let from = start + 3 + name.len();
-            &locals[from..end]
-        }
-        Found::Missing => {
-            let s = find(shared, slots, count, name);
-            match s {
-                Found::At {
-                    number: _,
-                    start,
-                    end,
-                } => {
-                    let from = start + 3 + name.len();
-                    &shared[from..end]
-                }
-                Found::Missing => &shared[0..0],
-            }
-        }
+    let local = bytes_of(locals, lslots, lcount, name);
+    if let Some(bytes) = local {
+        return bytes;
     }
+    bytes_of(shared, slots, count, name).unwrap_or(&[])
 }
 
 // The number of a name among the records in the first `len` bytes; of a name that is missing, how many there are.
@@ -119,14 +102,9 @@ pub fn number_of(rows: &[u8], slots: &[u32], len: usize, count: usize, name: &[u
     requires { (len ≤ length rows.now) × SomeRows (take len rows.now) count slots.now }
     ensures { (l : List Row) → Rows l (take len rows.now) count slots.now → result ≡ position (row_names l) name.now }
 {
-    let found = find(&rows[..len], slots, count, name);
-    match found {
-        Found::At {
-            number,
-            start: _,
-            end: _,
-        } => number,
-        Found::Missing => count,
+    match find(&rows[..len], slots, count, name) {
+        Some(found) => found.number,
+        None => count,
     }
 }
 
@@ -134,13 +112,11 @@ pub fn number_of(rows: &[u8], slots: &[u32], len: usize, count: usize, name: &[u
 pub fn name_weight(name: &[u8]) -> usize
     ensures { result ≡ name_weight name.now }
 {
-    if text::same_bytes(name, b"admin") {
-        return 1;
+    if text::same_bytes(name, b"admin") || text::same_bytes(name, b"anyone") {
+        1
+    } else {
+        name.len()
     }
-    if text::same_bytes(name, b"anyone") {
-        return 1;
-    }
-    name.len()
 }
 
 // The weight of the name of a principal, by its number.
@@ -149,7 +125,5 @@ pub fn principal_weight(principals: &[u8], slots: &[u32], count: usize, number: 
     ensures { (rows : List Row) → Rows rows principals.now count slots.now → result ≡ name_weight (row_at rows number).name }
 {
     let place = nth(principals, slots, count, number);
-    let from = place.start + 2;
-    let to = place.mid;
-    name_weight(&principals[from..to])
+    name_weight(&principals[place.start + 2..place.mid])
 }

@@ -11,7 +11,7 @@ ghost use Rattle.store.specs.Rows.{Row, Rows, position};
 ghost use Rattle.edits.specs.Changes.{principal_names, variable_names, with_password, Outside, SomeSpot, Respelled, SomeValue, SomeElements, SomeBare, SomeKept, SomePassword};
 ghost use Rattle.store.specs.Contents.{principal_at};
 
-use contents::{Password, count_at, password_of};
+use contents::{count_at, password_of};
 use splice::{shift, splice};
 use store::index::nth;
 
@@ -136,12 +136,9 @@ pub fn set_password(
         → number ≡ position (principal_names ks) p
         → Principals (map (changed p password.now) ks) (take result buf.new) count slots.new }
 {
-    let p = password_of(&buf[..len], slots, count, number);
-    match p {
-        Password::Kept { start: _, end: _ } => write_password(
-            buf, len, slots, count, number, password,
-        ),
-        Password::Absent => {
+    match password_of(&buf[..len], slots, count, number) {
+        Some(_) => write_password(buf, len, slots, count, number, password),
+        None => {
             let n = open_line(buf, len, slots, count, number);
             write_password(buf, n, slots, count, number, password)
         }

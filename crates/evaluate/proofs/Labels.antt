@@ -10,13 +10,16 @@ use mathlib.Core.List.{List, [], ◌∷◌, ◌++◌, append-nil}
 use lib.Dec.{T}
 use lib.ListN.{length, take, drop, set, length-append, length-map}
 use lib.Seq.{take-suc-set, take-take}
+use Rattle.std.specs.Prelude as Std
+use Rattle.std.specs.Prelude.{Some, None, is_some}
+use Rattle.std.proofs.lemmas.Bool.{false≢true}
+use Rattle.store.specs.declared.index.Found.{Found}
 use Rattle.language.specs.Text.{Text, when◌then◌else◌, ◌≟◌, member, joined}
 use Rattle.language.specs.Syntax.{Name}
 use Rattle.language.specs.Identifiers.{is_name}
 use Rattle.language.proofs.Logic.Tests.{and, all_append, ==_sym, same_test}
 use Rattle.store.specs.Held.{slot, slots_from, places}
-use Rattle.store.specs.Rows.{Row, Rows, row_text, row_names, position, place}
-use Rattle.store.specs.declared.index.Found.TheVariants.{At, Missing}
+use Rattle.store.specs.Rows.{Row, Rows, row_text, row_names, position, found_at, place}
 use Rattle.store.proofs.Records.{joined_append}
 use Rattle.store.proofs.Answers.{answered, unanswered}
 
@@ -41,14 +44,21 @@ not_there (y ∷ l) x h = rw (same_sym x y) (go (y ≟ x) h (not_there l x))
     go true h f = absurd (not-suc-le-zero h)
     go false h f = f (le_of_suc-le-suc h)
 
-pub row_there : (rows : List Row) (x : Name) (k s e : ℕ) → At k s e ≡ place rows x → false ≡ not (member x (row_names rows))
+pub row_there : (rows : List Row) (x : Name) (k s e : ℕ) → found_at k s e ≡ place rows x → false ≡ not (member x (row_names rows))
 row_there rows x k s e q =
     let A = answered rows x k s e q in
     sym (ap not (there (row_names rows) x (omega (arith, A.number, A.below, length-map rows (λ (r : Row). r.name)))))
 
-pub row_missing : (rows : List Row) (x : Name) → Missing ≡ place rows x → true ≡ not (member x (row_names rows))
+pub row_missing : (rows : List Row) (x : Name) → None ≡ place rows x → true ≡ not (member x (row_names rows))
 row_missing rows x q =
     sym (ap not (not_there (row_names rows) x (omega (arith, unanswered rows x q, length-map rows (λ (r : Row). r.name)))))
+
+-- whether a look-up found nothing
+pub row_new : (rows : List Row) (x : Name) (o : Std.Option Found) (b : Bool) → is_some o ≡ not b → o ≡ place rows x → b ≡ not (member x (row_names rows))
+row_new rows x (Some f) false e q = row_there rows x f.number f.start f.end q
+row_new rows x (Some f) true e q = absurd (false≢true (sym e))
+row_new rows x None false e q = absurd (false≢true e)
+row_new rows x None true e q = row_missing rows x q
 
 -- ---- a row more
 

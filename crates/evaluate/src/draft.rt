@@ -12,7 +12,6 @@ ghost use Rattle.values.specs.Answers.{text_at, Placed};
 ghost use Rattle.evaluated.specs.Results.{MaybeString};
 ghost use Rattle.evaluate.specs.Drafts.{Drafted, SomeDraft, Lent, Extends, spelling};
 
-use store::index::Found as Label;
 use values::Found;
 
 // How far a record is written, how many fields it has, and what they weigh. Of fields that are too heavy only the labels are written.
@@ -57,15 +56,7 @@ fn is_new(rows: &[u8], slots: &[u32], count: usize, label: &[u8]) -> bool
     requires { SomeRows rows.now count slots.now }
     ensures { (l : List Row) → Rows l rows.now count slots.now → result ≡ not (member label.now (row_names l)) }
 {
-    let found = store::index::find(rows, slots, count, label);
-    match found {
-        Label::At {
-            number: _,
-            start: _,
-            end: _,
-        } => false,
-        Label::Missing => true,
-    }
+    store::index::find(rows, slots, count, label).is_none()
 }
 
 // The slot of a row that starts at a place.

@@ -15,7 +15,7 @@ ghost use Rattle.extension.specs.Extensions.{Adds, SomeSharedList, SomeList};
 
 use assignment::{Assigned, with_locals, with_shared};
 use session::Layout;
-use store::index::{Found, find};
+use store::index::find;
 use values::Kind;
 use variable_text::{Put, extend};
 
@@ -65,13 +65,7 @@ fn join_shared(
 {
     let len = l.vars_len;
     let count = l.vars;
-    let found = find(&vars[..len], variable_slots, count, name);
-    let Found::At {
-        number,
-        start: _,
-        end: _,
-    } = found
-    else {
+    let Some(found) = find(&vars[..len], variable_slots, count, name) else {
         return Assigned::Full;
     };
     let put = extend(
@@ -79,7 +73,7 @@ fn join_shared(
         len,
         variable_slots,
         count,
-        number,
+        found.number,
         more,
         weight,
         l.weight,
@@ -116,13 +110,7 @@ pub fn join(
     let to = value.len();
     let len = l.locals_len;
     let count = l.locals;
-    let found = find(&locals[..len], local_slots, count, name);
-    let Found::At {
-        number,
-        start: _,
-        end: _,
-    } = found
-    else {
+    let Some(found) = find(&locals[..len], local_slots, count, name) else {
         return join_shared(
             principals,
             principal_slots,
@@ -140,7 +128,7 @@ pub fn join(
         len,
         local_slots,
         count,
-        number,
+        found.number,
         &value[from..to],
         more.weight,
         l.weight,

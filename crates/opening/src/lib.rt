@@ -15,9 +15,9 @@ ghost use Rattle.session.specs.Sessions.{slices, Sized, Running};
 ghost use Rattle.opening.specs.Logins.{LoginMeant, SomeState};
 ghost use Rattle.opening.specs.Beginnings.{SomeValid};
 
-use contents::{Password, password_of};
+use contents::password_of;
 use session::Layout;
-use store::index::{Found, find};
+use store::index::find;
 use text::same_bytes;
 use validate::Parts;
 use value_text::copy_in;
@@ -35,10 +35,9 @@ fn opens(principals: &[u8], slots: &[u32], count: usize, number: usize, password
     ensures { (ks : List Principal) → Principals ks principals.now count slots.now
         → result ≡ Run.opens password.now (principal_at ks number).password }
 {
-    let kept = password_of(principals, slots, count, number);
-    match kept {
-        Password::Kept { start, end } => same_bytes(password, &principals[start..end]),
-        Password::Absent => false,
+    match password_of(principals, slots, count, number) {
+        Some(kept) => same_bytes(password, &principals[kept.start..kept.end]),
+        None => false,
     }
 }
 
@@ -58,19 +57,14 @@ pub fn log_in(
     let to = parts.principals_to;
     let count = parts.principals;
     let principals = &state[from..to];
-    let found = find(principals, principal_slots, count, name);
-    match found {
-        Found::At {
-            number,
-            start: _,
-            end: _,
-        } => {
-            if opens(principals, principal_slots, count, number, password) {
-                return Login::Right(number);
+    match find(principals, principal_slots, count, name) {
+        Some(found) => {
+            if opens(principals, principal_slots, count, found.number, password) {
+                return Login::Right(found.number);
             }
             Login::Mistaken
         }
-        Found::Missing => Login::Mistaken,
+        None => Login::Mistaken,
     }
 }
 

@@ -15,7 +15,7 @@ ghost use Rattle.store.specs.Contents.{principal_at};
 ghost use Rattle.session.specs.Sessions.{slices, Running, SomeRunning};
 ghost use Rattle.session.specs.Endings.{Ended};
 
-use contents::{Password, number_of, password_of};
+use contents::{number_of, password_of};
 use session::{Layout, Verdict};
 use text::Span;
 
@@ -30,10 +30,9 @@ fn password_weight(
     requires { (len ≤ length principals.now) × SomePrincipals (take len principals.now) count slots.now × (number < count) }
     ensures { (ks : List Principal) → Principals ks (take len principals.now) count slots.now → result ≡ password_weight (principal_at ks number).password }
 {
-    let p = password_of(&principals[..len], slots, count, number);
-    match p {
-        Password::Kept { start, end } => end - start,
-        Password::Absent => 0,
+    match password_of(&principals[..len], slots, count, number) {
+        Some(p) => p.end - p.start,
+        None => 0,
     }
 }
 

@@ -9,14 +9,14 @@ use mathlib.Core.List.{List, map}
 use lib.Dec.{T}
 use lib.ListN.{length, length-map}
 use lib.Seq.{length-take-le}
+use Rattle.std.specs.Prelude.{None}
 use Rattle.language.specs.Text.{Text, when◌then◌else◌, present}
 use Rattle.language.specs.Syntax.{Name, Right}
 use Rattle.language.specs.State.{Value, Variable}
 use Rattle.language.specs.Values.{Session}
 use Rattle.language.specs.Chains.{has}
 use Rattle.language.proofs.StateText.Names.{valued_is}
-use Rattle.store.specs.Rows.{variable_row, place}
-use Rattle.store.specs.declared.index.Found.TheVariants.{At, Missing}
+use Rattle.store.specs.Rows.{variable_row, found_at, place}
 use Rattle.store.proofs.Answers.{FoundVariable, variable_found, variable_missing}
 use Rattle.named_rights.specs.Numbers.{code, principals_of, variables, numbered, Asks}
 use Rattle.named_rights.proofs.Few.{few_names, few_variables, few_assertions}
@@ -33,7 +33,7 @@ module _ {s : Session} {shared : Text} {slots : List ℕ} {count : ℕ} {asserti
   pub few_principals : m ≤ 1024
   few_principals = omega (arith, W.everyone, few_names s.store W.is_valid)
 
-  module _ (x : Name) (k b e : ℕ) (q : At k b e ≡ place (map variable_row s.store.variables) x) where
+  module _ (x : Name) (k b e : ℕ) (q : found_at k b e ≡ place (map variable_row s.store.variables) x) where
     F : FoundVariable s.store.variables shared x k b e
     F = variable_found s.store.variables shared count slots W.shared_held x k b e q
 
@@ -53,5 +53,5 @@ module _ {s : Session} {shared : Text} {slots : List ℕ} {count : ℕ} {asserti
     pub shared_allowed : (r : Right) (c : Bool) → c ≡ has s.store r x s.sender → c ≡ allowed_on s r x
     shared_allowed r c h = h ∙ sym (ap (λ (o : Option Value). when◌then◌else◌ {A = Bool} (present o) (has s.store r x s.sender) true) F.is_value)
 
-  pub other_allowed : (x : Name) (r : Right) → Missing ≡ place (map variable_row s.store.variables) x → true ≡ allowed_on s r x
+  pub other_allowed : (x : Name) (r : Right) → None ≡ place (map variable_row s.store.variables) x → true ≡ allowed_on s r x
   other_allowed x r q = sym (ap (λ (o : Option Value). when◌then◌else◌ {A = Bool} (present o) (has s.store r x s.sender) true) (variable_missing s.store.variables x q))

@@ -14,7 +14,6 @@ ghost use Rattle.permits.specs.Permits.{Sends, SomeSender, allowed_on, unread};
 ghost use Rattle.permits.specs.Knowledge.{past};
 
 use assertion::READ;
-use store::index::Found;
 use syntax::{FieldRead, Operand, Term};
 
 // What is known of the terms of an expression, in the order in which they stand: that the sender may read all of them; that it may read so
@@ -58,14 +57,9 @@ pub fn allowed(
     ensures { (s : Session) (r : Right) → Sends s shared.now slots.now count assertions.now n principals sender
         → right ≡ code r → result ≡ allowed_on s r name.now }
 {
-    let found = store::index::find(shared, slots, count, name);
-    match found {
-        Found::At {
-            number,
-            start: _,
-            end: _,
-        } => named_rights::may(assertions, n, principals, number, right, sender),
-        Found::Missing => true,
+    match store::index::find(shared, slots, count, name) {
+        Some(found) => named_rights::may(assertions, n, principals, found.number, right, sender),
+        None => true,
     }
 }
 

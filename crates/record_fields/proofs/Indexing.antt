@@ -10,14 +10,14 @@ use mathlib.Core.List.{List, [], ◌∷◌, ◌++◌, map}
 use lib.Dec.{T, T_not, leb, leb→le}
 use lib.ListN.{length, take, drop, set, length-append, length-drop, length-map}
 use lib.Seq.{take-suc-set, take-append_seam}
+use Rattle.std.specs.Prelude.{None}
 use Rattle.language.specs.Text.{Text, when◌then◌else◌, ◌≟◌, all, joined, sum, member, distinct}
 use Rattle.language.specs.Syntax.{Name}
 use Rattle.language.specs.Identifiers.{is_name}
 use Rattle.language.proofs.Logic.Tests.{both, one_of_lem, left_of_lem, right_of, ==_sym, all_map, any_right_lem, distinct_last}
 use Rattle.store.specs.Held.{Held, slot, slots_from}
 use Rattle.text.specs.Parts.{part}
-use Rattle.store.specs.Rows.{Row, Rows, row_text, row_names, position, place}
-use Rattle.store.specs.declared.index.Found.TheVariants.{At, Missing}
+use Rattle.store.specs.Rows.{Row, Rows, row_text, row_names, position, found_at, place}
 use Rattle.store.proofs.Holders.{as_rows}
 use Rattle.store.proofs.Answers.{answered, unanswered}
 use Rattle.record_fields.specs.Sections.{Fails, light_all, Entitled}
@@ -124,12 +124,12 @@ module _ {A : Type 0} (name : A → Name) (text : A → Text) (row : A → Row) 
   pub member_rows : (rows : List A) (x : Name) → T (member x (map name rows)) → T (member x (row_names (map row rows)))
   member_rows rows x h = subst (λ (l : List Name). T (member x l)) (sym (names_of rows)) h
 
-pub is_there : (rows : List Row) (x : Name) (k s e : ℕ) → At k s e ≡ place rows x → T (member x (row_names rows))
+pub is_there : (rows : List Row) (x : Name) (k s e : ℕ) → found_at k s e ≡ place rows x → T (member x (row_names rows))
 is_there rows x k s e q =
     let A = answered rows x k s e q in
     place_member x (row_names rows) (omega (arith, A.number, A.below, length-map rows (λ (r : Row). r.name)))
 
-pub is_new : (rows : List Row) (x : Name) → Missing ≡ place rows x → T (member x (row_names rows)) → ⊥
+pub is_new : (rows : List Row) (x : Name) → None ≡ place rows x → T (member x (row_names rows)) → ⊥
 is_new rows x q m =
     let U = unanswered rows x q in
     let P = member_place x (row_names rows) m in

@@ -8,7 +8,6 @@ ghost use Rattle.record_fields.specs.Entering.{Entering, Entered};
 ghost use Rattle.record_fields.specs.Sections.{Safe, StringMeant, FieldMeant, FieldsMeant};
 
 use lines::Cut;
-use store::index::Found;
 use text::Alphabet;
 
 // A record: where it ends, and what is weighed with it.
@@ -78,8 +77,7 @@ pub fn enter(text: &[u8], at: usize, i: usize, m: usize, slots: &mut [u32], n: u
         → Entered rows (part text.now (i + 2) m) (i - at) n slots.old slots.new result }
 {
     let from = i + 2;
-    let seen = store::index::find(&text[at..i], slots, n, &text[from..m]);
-    let Found::Missing = seen else {
+    let None = store::index::find(&text[at..i], slots, n, &text[from..m]) else {
         return false;
     };
     slots[n] = store::index::hash(&text[from..m]) * 131072 + (i - at) as u32;

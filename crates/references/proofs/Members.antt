@@ -7,6 +7,7 @@ use mathlib.Core.List.{List, [], ◌∷◌, ◌++◌, append_assoc}
 use native.Mathlib.Omega.{arith}
 use lib.Dec.{T}
 use lib.ListN.{length, get_or, drop, length-map}
+use Rattle.std.specs.Prelude.{None}
 use Rattle.language.specs.Text.{Text, all, member}
 use Rattle.language.specs.Bytes.{word_byte}
 use Rattle.language.specs.Encode.{delegator_text}
@@ -16,8 +17,7 @@ use Rattle.language.proofs.StateText.Names.{member_all}
 use Rattle.lines.specs.Cuts.{Field}
 use Rattle.text.specs.Parts.{part}
 use Rattle.lines.proofs.Cuts.{only, wider, narrower}
-use Rattle.store.specs.Rows.{Row, Rows, row_names, place}
-use Rattle.store.specs.declared.index.Found.TheVariants as Found
+use Rattle.store.specs.Rows.{Row, Rows, row_names, found_at, place}
 use Rattle.store.proofs.Answers.{answered}
 use Rattle.language.specs.Weight.{name_weight}
 use Rattle.language.proofs.StateText.Clean.{name_length, name_word}
@@ -45,12 +45,12 @@ module _ (rows : List Row) (t : Text) (from to count : ℕ) (slots : List ℕ) (
   member_word x h = name_word x (member_all is_name x (row_names rows) (names_all rows H.named) h)
 
   module _ (stop : ℕ) (outside : word_byte stop ≡ false) (at e : ℕ) (f : Field (all word_byte) stop t at e) where
-    pub unknown : Found.Missing ≡ place rows (part t at e) → (x r : Text) → T (member x (row_names rows)) → drop at t ≡ x ++ stop ∷ r → ⊥
+    pub unknown : None ≡ place rows (part t at e) → (x r : Text) → T (member x (row_names rows)) → drop at t ≡ x ++ stop ∷ r → ⊥
     unknown q x r h d =
         let (same, left) = only word_byte (λ x. member x (row_names rows)) member_word stop outside t at e f x r h d in
         is_new rows (part t at e) q (subst (λ (y : Text). T (member y (row_names rows))) (sym same) h)
 
-    pub is_known : (k s z : ℕ) → Found.At k s z ≡ place rows (part t at e) → Member (row_names rows) stop t at k e
+    pub is_known : (k s z : ℕ) → found_at k s z ≡ place rows (part t at e) → Member (row_names rows) stop t at k e
     is_known k s z q = record {
       field = narrower word_byte (λ x. member x (row_names rows)) member_word stop outside t at e f (is_there rows (part t at e) k s z q);
       number = (answered rows (part t at e) k s z q).number;

@@ -7,7 +7,6 @@ ghost use Rattle.store.specs.Rows.{Row, Rows, SomeRows, row_names};
 ghost use Rattle.references.specs.Known.{Asking, KnownMeant, DelegatorMeant};
 
 use lines::Cut;
-use store::index::Found;
 use text::Alphabet;
 
 // A record's number, and where the name ends.
@@ -34,16 +33,10 @@ pub fn known_at(
     let Cut::At(e) = cut else {
         return Known::No;
     };
-    let found = store::index::find(&text[from..to], slots, count, &text[at..e]);
-    let Found::At {
-        number,
-        start: _,
-        end: _,
-    } = found
-    else {
+    let Some(found) = store::index::find(&text[from..to], slots, count, &text[at..e]) else {
         return Known::No;
     };
-    Known::At(number, e)
+    Known::At(found.number, e)
 }
 
 // The default delegator's line, which stands behind the principals: the number of its name, and where it ends.

@@ -6,6 +6,7 @@ use Prim.Native.Nat.{ℕ, ◌-◌, ◌≤◌}
 use native.Mathlib.Omega.{arith}
 use lib.ListN.{length, take, drop, replicate, length-map}
 use lib.Seq.{length-take-le, take_at}
+use Rattle.std.specs.Prelude.{None}
 use Rattle.language.specs.Text.{Text}
 use Rattle.language.specs.Syntax.{Name, Right}
 use Rattle.language.specs.State.{Principal, Store}
@@ -13,8 +14,7 @@ use Rattle.language.specs.Encode.{buffer_size}
 use Rattle.language.specs.Sheet.{sheet_text}
 use Rattle.language.specs.Calls.{listed, refuse, SheetBuffers, sheet_on}
 use Rattle.text.specs.Parts.{part}
-use Rattle.store.specs.Rows.{variable_row, place}
-use Rattle.store.specs.declared.index.Found.TheVariants.{At, Missing}
+use Rattle.store.specs.Rows.{variable_row, found_at, place}
 use Rattle.store.proofs.Answers.{variable_missing}
 use Rattle.value_text.specs.Writing.{Written}
 use Rattle.value_text.proofs.Pieces.{written_length, written_take}
@@ -54,10 +54,10 @@ printed {sheet} {before} {after} {page} {r} h w e =
 -- ---- on a state that was checked
 
 module _ {t : Text} {slots-p slots_v assertions : List ℕ} {m : Parts} (u : Understood t slots-p slots_v assertions m) (x : Name) where
-  pub not_listed : (b : SheetBuffers) → Missing ≡ place (map variable_row (store u).variables) x → refuse b 7 ≡ sheet_on b x (store u)
+  pub not_listed : (b : SheetBuffers) → None ≡ place (map variable_row (store u).variables) x → refuse b 7 ≡ sheet_on b x (store u)
   not_listed b q = unknown_variable b x (store u) (variable_missing (store u).variables x q)
 
-  module _ (l d e : ℕ) (w : At l d e ≡ place (map variable_row (store u).variables) x) where
+  module _ (l d e : ℕ) (w : found_at l d e ≡ place (map variable_row (store u).variables) x) where
     pub tables : SheetTables (store u) x (part t m.principals_from m.principals_to) slots-p m.principals m.asserted l assertions
     tables = record {
       is_valid = store_valid u;

@@ -15,7 +15,7 @@ use answers::Answer;
 use assertion::{APPEND, DELEGATE, READ, WRITE};
 use sheet_page::put_sheet;
 use state_lines::zero_rest;
-use store::index::{Found, find};
+use store::index::find;
 use validate::Parts;
 
 // How long everyone's shortest chain for a right is, in the first `count` marks.
@@ -80,13 +80,7 @@ pub fn list(
 {
     let vars_from = parts.vars_from;
     let vars_to = parts.vars_to;
-    let place = find(&state[vars_from..vars_to], vars, parts.vars, variable);
-    let Found::At {
-        number,
-        start: _,
-        end: _,
-    } = place
-    else {
+    let Some(found) = find(&state[vars_from..vars_to], vars, parts.vars, variable) else {
         return Answer::Wrong(7);
     };
     let from = parts.principals_from;
@@ -98,7 +92,7 @@ pub fn list(
         count,
         assertions,
         parts.asserted,
-        number,
+        found.number,
         output,
     );
     Answer::Listed {

@@ -8,16 +8,15 @@ use Prim.Native.Nat.{ℕ, ◌+◌, ◌≤◌, ◌<◌}
 use native.Mathlib.Omega.{arith}
 use borrow.Author.Tests.{lt-ltb, le-ltb}
 use lib.ListN.{length, get_or, length-map, get_or-map}
+use Rattle.std.specs.Prelude.{None}
 use Rattle.language.specs.Text.{Text, when◌then◌else◌}
 use Rattle.language.specs.Syntax.{Name}
 use Rattle.language.specs.State.{Principal, Variable}
 use Rattle.text.specs.Parts.{part}
-use Rattle.store.specs.Rows.{Row, Rows, no_row, row_names, position, place, principal_row, variable_row, Placed}
+use Rattle.store.specs.Rows.{Row, Rows, no_row, row_names, position, found_at, place, principal_row, variable_row, Placed}
 use Rattle.store.specs.Contents.{principal_at, variable_at}
-use Rattle.contents.specs.Contents.{PasswordAt, ValueAt}
-use Rattle.store.specs.declared.index.Found.TheVariants.{At, Missing}
+use Rattle.contents.specs.Contents.{kept_at, PasswordAt, ValueAt}
 use Rattle.store.specs.declared.index.Place.{Place}
-use Rattle.contents.specs.declared.Password.TheVariants.{Kept, Absent}
 use Rattle.store.proofs.Records.{name_part}
 use Rattle.store.proofs.Answers.{FoundPrincipal, principal_found, principal_missing, answered, value_at, variable_names_lem, variable_missing}
 use Rattle.state_lookups.specs.Looks.{missing, unkept, found, password, principal, value, counted, principal_of, count_said, variable_of, name_of}
@@ -25,13 +24,13 @@ use Rattle.state_lookups.specs.Looks.{missing, unkept, found, password, principa
 -- ---- principals
 
 module _ (ks : List Principal) (x : Name) where
-  pub principal_gone : Missing ≡ place (map principal_row ks) x → principal_of ks x ≡ missing
+  pub principal_gone : None ≡ place (map principal_row ks) x → principal_of ks x ≡ missing
   principal_gone q = ap (principal (position (map (λ k. k.name) ks) x)) (principal_missing ks x q)
 
-  pub count_gone : Missing ≡ place (map principal_row ks) x → count_said ks x ≡ 4294967298
+  pub count_gone : None ≡ place (map principal_row ks) x → count_said ks x ≡ 4294967298
   count_gone q = ap counted (principal_missing ks x q)
 
-  module _ (k s e : ℕ) (q : At k s e ≡ place (map principal_row ks) x) where
+  module _ (k s e : ℕ) (q : found_at k s e ≡ place (map principal_row ks) x) where
     pub count_here : count_said ks x ≡ (principal_at ks k).count
     count_here = ap counted (principal_found ks x k s e q).is_named
 
@@ -40,19 +39,19 @@ module _ (ks : List Principal) (x : Name) where
         let F : FoundPrincipal ks x k = principal_found ks x k s e q in
         (λ i. principal (sym F.number i) (F.is_named i))
 
-    pub principal_kept : (t : Text) (a b : ℕ) → PasswordAt ks t k (Kept a b) → principal_of ks x ≡ found k (part t a b)
+    pub principal_kept : (t : Text) (a b : ℕ) → PasswordAt ks t k (kept_at a b) → principal_of ks x ≡ found k (part t a b)
     principal_kept t a b P = principal_here ∙ ap (password k) (sym P.meant)
 
-    pub principal_bare : (t : Text) → PasswordAt ks t k Absent → principal_of ks x ≡ unkept k
+    pub principal_bare : (t : Text) → PasswordAt ks t k None → principal_of ks x ≡ unkept k
     principal_bare t P = principal_here ∙ ap (password k) (sym P.meant)
 
 -- ---- variables
 
 module _ (vs : List Variable) (x : Name) where
-  pub variable_gone : Missing ≡ place (map variable_row vs) x → variable_of vs x ≡ missing
+  pub variable_gone : None ≡ place (map variable_row vs) x → variable_of vs x ≡ missing
   variable_gone q = ap (value (position (map (λ v. v.name) vs) x)) (variable_missing vs x q)
 
-  pub variable_here : (k s e : ℕ) → At k s e ≡ place (map variable_row vs) x → (t : Text) (a b : ℕ) → ValueAt vs t k a b → variable_of vs x ≡ found k (part t a b)
+  pub variable_here : (k s e : ℕ) → found_at k s e ≡ place (map variable_row vs) x → (t : Text) (a b : ℕ) → ValueAt vs t k a b → variable_of vs x ≡ found k (part t a b)
   variable_here k s e q t a b P =
       let A = answered (map variable_row vs) x k s e q in
       let n : k ≡ position (map (λ v. v.name) vs) x = A.number ∙ ap (λ (ns : List Name). position ns x) (variable_names_lem vs) in

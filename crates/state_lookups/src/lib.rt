@@ -10,10 +10,10 @@ ghost use Rattle.store.specs.Rows.{Row, Rows, SomeRows, row_names};
 ghost use Rattle.counts.specs.Counted.{SomeCounted};
 ghost use Rattle.state_lookups.specs.Looks.{Says, found, name_of, principal_of, count_said, variable_of, SomeVariables};
 
-use contents::{Password, password_of, value_of};
+use contents::{password_of, value_of};
 use counts::count_of;
 use splice::copy;
-use store::index::{Found, find, nth};
+use store::index::{find, nth};
 
 const MISSING: u64 = 4294967298;
 
@@ -39,19 +39,14 @@ pub fn principal(text: &[u8], slots: &[u32], count: usize, name: &[u8], out: &mu
     requires { SomePrincipals text.now count slots.now × (count ≤ 4096) × (length text.now ≤ 65536) × (65536 ≤ length out.old) }
     ensures { (ks : List Principal) → Principals ks text.now count slots.now → Says (principal_of ks name.now) out.old out.new result }
 {
-    let place = find(text, slots, count, name);
-    let Found::At {
-        number,
-        start: _,
-        end: _,
-    } = place
-    else {
+    let Some(found) = find(text, slots, count, name) else {
         return MISSING;
     };
+    let number = found.number;
     let password = password_of(text, slots, count, number);
     match password {
-        Password::Kept { start, end } => write(number, &text[start..end], out),
-        Password::Absent => unkept(number),
+        Some(kept) => write(number, &text[kept.start..kept.end], out),
+        None => unkept(number),
     }
 }
 
@@ -60,16 +55,10 @@ pub fn count(text: &[u8], slots: &[u32], count: usize, name: &[u8]) -> u64
     requires { SomeCounted text.now count slots.now }
     ensures { (ks : List Principal) → Principals ks text.now count slots.now → T (all valid_principal ks) → result ≡ count_said ks name.now }
 {
-    let place = find(text, slots, count, name);
-    let Found::At {
-        number,
-        start: _,
-        end: _,
-    } = place
-    else {
+    let Some(found) = find(text, slots, count, name) else {
         return MISSING;
     };
-    let digits = count_of(text, slots, count, number);
+    let digits = count_of(text, slots, count, found.number);
     digits.value
 }
 
@@ -78,15 +67,10 @@ pub fn variable(text: &[u8], slots: &[u32], count: usize, name: &[u8], out: &mut
     requires { SomeVariables text.now count slots.now × (count ≤ 4096) × (length text.now ≤ 65536) × (65536 ≤ length out.old) }
     ensures { (vs : List Variable) → Variables vs text.now count slots.now → Says (variable_of vs name.now) out.old out.new result }
 {
-    let place = find(text, slots, count, name);
-    let Found::At {
-        number,
-        start: _,
-        end: _,
-    } = place
-    else {
+    let Some(found) = find(text, slots, count, name) else {
         return MISSING;
     };
+    let number = found.number;
     let span = value_of(text, slots, count, number);
     let start = span.start;
     let end = span.end;

@@ -4,6 +4,7 @@ use mathlib.Core.Path.{◌≡◌, refl, sym, ap, subst, ◌∙◌}
 use mathlib.Core.Bool.{Bool, true, false}
 use mathlib.Core.Option.{none, some}
 use mathlib.Core.List.{List, [], ◌∷◌, map}
+use Rattle.std.specs.Prelude.{None}
 use Prim.Native.Nat.{ℕ, zero, suc, ◌+◌, ◌≤◌, ◌<◌}
 use native.Mathlib.Nat.{not-suc-le-zero, le_of_suc-le-suc}
 use native.Mathlib.Omega.{arith}
@@ -18,9 +19,9 @@ use Rattle.language.specs.Encode.{value_text}
 use Rattle.language.proofs.Logic.Tests.{==→≡}
 use Rattle.store.specs.Held.{Variables}
 use Rattle.text.specs.Parts.{part}
-use Rattle.store.specs.Rows.{Row, Rows, no_row, row_at, row_names, start_of, position, place, principal_row, row_in, variable_row}
+use Rattle.store.specs.Rows.{Row, Rows, no_row, row_at, row_names, start_of, position, found_at, place, principal_row, row_in, variable_row}
 use Rattle.store.specs.Contents.{principal_at, variable_at}
-use Rattle.store.specs.declared.index.Found.TheVariants.{At, Missing}
+use Rattle.store.specs.declared.index.Found.{Found}
 use Rattle.store.proofs.Records.{start_before, start_in, body_part}
 use Rattle.store.proofs.Holders.{variables_rows}
 
@@ -38,17 +39,18 @@ pub record Answered (rows : List Row) (x : Name) (k s e : ℕ) : Type 0 where
   pub starts : s ≡ start_of rows k
   pub ends : e ≡ start_of rows (suc k)
 
-pub answered : (rows : List Row) (x : Name) (k s e : ℕ) → At k s e ≡ place rows x → Answered rows x k s e
+pub answered : (rows : List Row) (x : Name) (k s e : ℕ) → found_at k s e ≡ place rows x → Answered rows x k s e
 answered rows x k s e q = go (ltb (position (row_names rows) x) (length rows)) refl q
   where
     n : ℕ
     n = position (row_names rows) x
 
-    go : (b : Bool) → ltb n (length rows) ≡ b → At k s e ≡ (when b then At n (start_of rows n) (start_of rows (suc n)) else Missing) → Answered rows x k s e
+    go : (b : Bool) → ltb n (length rows) ≡ b → found_at k s e ≡ (when b then found_at n (start_of rows n) (start_of rows (suc n)) else None) → Answered rows x k s e
     go true h q =
-        let en : k ≡ n = cc in
-        let es : s ≡ start_of rows n = cc in
-        let ee : e ≡ start_of rows (suc n) = cc in
+        let same : ◌≡◌ {A = Found} (record { number = k; start = s; end = e }) (record { number = n; start = start_of rows n; end = start_of rows (suc n) }) = cc in
+        let en : k ≡ n = ap (λ (f : Found). f.number) same in
+        let es : s ≡ start_of rows n = ap (λ (f : Found). f.start) same in
+        let ee : e ≡ start_of rows (suc n) = ap (λ (f : Found). f.end) same in
         record {
           number = en;
           below = omega (arith, en, ltb-true n (length rows) h);
@@ -57,13 +59,13 @@ answered rows x k s e q = go (ltb (position (row_names rows) x) (length rows)) r
         }
     go false h q = absurd (let z : ◌≡◌ {A = ℕ} 0 1 = cc in omega arith)
 
-pub unanswered : (rows : List Row) (x : Name) → Missing ≡ place rows x → length rows ≤ position (row_names rows) x
+pub unanswered : (rows : List Row) (x : Name) → None ≡ place rows x → length rows ≤ position (row_names rows) x
 unanswered rows x q = go (ltb (position (row_names rows) x) (length rows)) refl q
   where
     n : ℕ
     n = position (row_names rows) x
 
-    go : (b : Bool) → ltb n (length rows) ≡ b → Missing ≡ (when b then At n (start_of rows n) (start_of rows (suc n)) else Missing) → length rows ≤ n
+    go : (b : Bool) → ltb n (length rows) ≡ b → None ≡ (when b then found_at n (start_of rows n) (start_of rows (suc n)) else None) → length rows ≤ n
     go true h q = absurd (let z : ◌≡◌ {A = ℕ} 0 1 = cc in omega arith)
     go false h q = ltb-false n (length rows) h
 
@@ -154,7 +156,7 @@ pub record FoundRow (t : Text) (x : Name) (s e : ℕ) : Type 0 where
   pub order : s + 3 + length x ≤ e
   pub within : e ≤ length t
 
-module _ (rows : List Row) (t : Text) (count : ℕ) (slots : List ℕ) (H : Rows rows t count slots) (x : Name) (k s e : ℕ) (q : At k s e ≡ place rows x) where
+module _ (rows : List Row) (t : Text) (count : ℕ) (slots : List ℕ) (H : Rows rows t count slots) (x : Name) (k s e : ℕ) (q : found_at k s e ≡ place rows x) where
   pub found_name : (row_at rows k).name ≡ x
   found_name =
       let A = answered rows x k s e q in
@@ -182,7 +184,7 @@ module _ (rows : List Row) (t : Text) (count : ℕ) (slots : List ℕ) (H : Rows
       (λ i. part t (p i) (A.ends i)) ∙ body_part rows t count slots H k h b r
 
 pub variable_found : (vs : List Variable) (t : Text) (count : ℕ) (slots : List ℕ) → Variables vs t count slots → (x : Name) (k s e : ℕ)
-    → At k s e ≡ place (map variable_row vs) x → FoundVariable vs t x k s e
+    → found_at k s e ≡ place (map variable_row vs) x → FoundVariable vs t x k s e
 variable_found vs t count slots W x k s e q =
     let rows : List Row = map variable_row vs in
     let H = variables_rows vs t count slots W in
@@ -200,7 +202,7 @@ variable_found vs t count slots W x k s e q =
       value_bytes_lem = found_body rows t count slots H x k s e q (value_text (variable_at vs k).value) b;
     }
 
-pub variable_missing : (vs : List Variable) (x : Name) → Missing ≡ place (map variable_row vs) x → value_in vs x ≡ none
+pub variable_missing : (vs : List Variable) (x : Name) → None ≡ place (map variable_row vs) x → value_in vs x ≡ none
 variable_missing vs x q =
     value_none vs x (omega (arith, unanswered (map variable_row vs) x q, length-map vs variable_row, ap (λ (ns : List Name). position ns x) (variable_names_lem vs)))
 
@@ -212,13 +214,13 @@ pub record FoundPrincipal (ks : List Principal) (p : Name) (k : ℕ) : Type 0 wh
   pub below : k < length ks
   pub is_named : named ks p ≡ some (principal_at ks k)
 
-pub principal_found : (ks : List Principal) (p : Name) (k s e : ℕ) → At k s e ≡ place (map principal_row ks) p → FoundPrincipal ks p k
+pub principal_found : (ks : List Principal) (p : Name) (k s e : ℕ) → found_at k s e ≡ place (map principal_row ks) p → FoundPrincipal ks p k
 principal_found ks p k s e q =
     let A = answered (map principal_row ks) p k s e q in
     let l : k < length ks = omega (arith, A.below, length-map ks principal_row) in
     let n : k ≡ position (map (λ k. k.name) ks) p = A.number ∙ ap (λ (ns : List Name). position ns p) (principal_names_lem ks) in
     record { number = n; below = l; is_named = principal_at_lem ks p (omega (arith, n)) ∙ ap (λ (m : ℕ). some (principal_at ks m)) (sym n) }
 
-pub principal_missing : (ks : List Principal) (p : Name) → Missing ≡ place (map principal_row ks) p → named ks p ≡ none
+pub principal_missing : (ks : List Principal) (p : Name) → None ≡ place (map principal_row ks) p → named ks p ≡ none
 principal_missing ks p q =
     principal_none ks p (omega (arith, unanswered (map principal_row ks) p q, length-map ks principal_row, ap (λ (ns : List Name). position ns p) (principal_names_lem ks)))

@@ -5,6 +5,5 @@ pub mod Lookups
 pub mod Holders
 pub mod Answers
 pub mod Places
-pub mod Scanning
 pub mod Hashes
 pub mod NameWeights

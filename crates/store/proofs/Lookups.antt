@@ -3,6 +3,7 @@
 use mathlib.Core.Path.{◌≡◌, sym, ap, ◌∙◌}
 use mathlib.Core.Bool.{true, false}
 use mathlib.Core.List.{List, []}
+use Rattle.std.specs.Prelude.{None}
 use Prim.Native.Nat.{ℕ, suc, ◌+◌, ◌%◌, ◌≤◌, ◌<◌}
 use native.Mathlib.Decide.{dec_le}
 use native.Mathlib.Numerals.{add-one}
@@ -14,9 +15,8 @@ use Rattle.language.specs.Syntax.{Name}
 use Rattle.language.specs.Bytes.{word_byte}
 use Rattle.language.proofs.Logic.Tests.{==→≡, false_of}
 use Rattle.store.specs.Held.{hash, places}
-use Rattle.store.specs.Rows.{Row, Rows, row_at, no_row, start_of, row_names, position, place}
+use Rattle.store.specs.Rows.{Row, Rows, row_at, no_row, start_of, row_names, position, found_at, place}
 use Rattle.store.specs.Scans.{FirstHit}
-use Rattle.store.specs.declared.index.Found.TheVariants.{At, Missing}
 use Rattle.store.proofs.Positions.{position_at, position_none}
 use Rattle.store.proofs.Records.{text_size, place_there, hash_there, name_front, start_before, start_in}
 
@@ -72,13 +72,13 @@ names_count : (rows : List Row) → length (row_names rows) ≡ length rows
 names_count rows = length-map rows (λ (r : Row). r.name)
 
 pub placed_at : (rows : List Row) (x : Name) (k : ℕ) → k < length rows → Passed rows x k → ((row_at rows k).name ≟ x) ≡ true
-    → At k (start_of rows k) (start_of rows (suc k)) ≡ place rows x
+    → found_at k (start_of rows k) (start_of rows (suc k)) ≡ place rows x
 placed_at rows x k h P e =
     let q : position (row_names rows) x ≡ k =
     position_at (row_names rows) x k (omega (arith, names_count rows)) (passed_names rows x k P) (ap (λ (y : Name). y ≟ x) (name_of rows k) ∙ e) in
     rw (q, lt-ltb k (length rows) h)
 
-pub placed_none : (rows : List Row) (x : Name) (count : ℕ) → count ≡ length rows → Passed rows x count → Missing ≡ place rows x
+pub placed_none : (rows : List Row) (x : Name) (count : ℕ) → count ≡ length rows → Passed rows x count → None ≡ place rows x
 placed_none rows x count c P =
     let q : position (row_names rows) x ≡ length rows =
     position_none (row_names rows) x (λ j h. passed_names rows x count P j (omega (arith, c, names_count rows))) ∙ names_count rows in

@@ -1,6 +1,8 @@
 -- What principals and variables have in common in a state text: a letter, a tab, the name, and then either the line's end or a tab and
 -- more. The look-ups are stated of such rows, once for both.
 use Rattle.std.specs.Prelude.{◌≡◌, ℕ, suc, ◌+◌, List, [], ◌∷◌, ◌++◌, map, ltb, length, take, get_or}
+use Rattle.std.specs.Prelude.{Some, None}
+use Rattle.std.specs.Prelude as Std
 use Rattle.std.proofs.Math.Option.{Option, none, some}
 use Rattle.language.specs.Text.{Text, joined, decimal, when◌then◌else◌, ◌≟◌}
 use Rattle.language.specs.Syntax.{Name}
@@ -9,7 +11,6 @@ use Rattle.language.specs.Encode.{tab, newline, value_text}
 use Rattle.language.specs.Former.{Form, current, former}
 use Rattle.store.specs.Held.{Held}
 use Rattle.store.specs.declared.index.Found.{Found}
-use Rattle.store.specs.declared.index.Found.TheVariants.{At, Missing}
 use Rattle.store.specs.declared.index.Place.{Place}
 
 pub record Row : Type 0 where
@@ -85,11 +86,14 @@ row_at rows k = get_or rows k no_row
 abbrev pub start_of : List Row → ℕ → ℕ
 start_of rows k = length (joined row_text (take k rows))
 
+abbrev pub found_at : ℕ → ℕ → ℕ → Std.Option Found
+found_at k s e = Some (record { number = k; start = s; end = e })
+
 -- where a name's row stands
-abbrev pub place : List Row → Name → Found
+abbrev pub place : List Row → Name → Std.Option Found
 place rows x =
     let k = position (row_names rows) x in
-    when ltb k (length rows) then At k (start_of rows k) (start_of rows (suc k)) else Missing
+    when ltb k (length rows) then found_at k (start_of rows k) (start_of rows (suc k)) else None
 
 -- the place of a number's row: where it starts, where its name ends, where it ends
 pub record Placed (rows : List Row) (k : ℕ) (p : Place) : Type 0 where

@@ -5,19 +5,16 @@ ghost use Rattle.language.specs.Text.{◌≟◌};
 ghost use Rattle.store.specs.Held.{hash, places};
 ghost use Rattle.text.specs.Parts.{part};
 ghost use Rattle.store.specs.Rows.{Row, Rows, SomeRows, place, Placed};
-ghost use Rattle.store.specs.Scans.{FirstHit, HitMeant};
+ghost use Rattle.store.specs.Scans.{FirstMeant, HitMeant};
 
 use text::Alphabet;
 
 // Where a record stands: its number, and its text from `start` up to `end`.
 #[derive(Clone, Copy)]
-pub enum Found {
-    At {
-        number: usize,
-        start: usize,
-        end: usize,
-    },
-    Missing,
+pub struct Found {
+    pub number: usize,
+    pub start: usize,
+    pub end: usize,
 }
 
 // A record of a known number: its text from `start` up to `end`; its name from `start + 2` up to `mid`.
@@ -28,21 +25,13 @@ pub struct Place {
     pub end: usize,
 }
 
-fn wide(b: u8) -> u32
-    ensures { result ≡ b }
-{
-    b as u32
-}
-
 // A name's hash.
 pub fn hash(name: &[u8]) -> u32
     ensures { result ≡ hash name.now }
 {
     let mut h = 0;
-    let mut i = 0;
-    while i < name.len() {
-        h = (h * 31 + wide(name[i])) % 32768;
-        i += 1;
+    for b in name {
+        h = (h * 31 + u32::from(*b)) % 32768;
     }
     h
 }
@@ -53,56 +42,42 @@ fn hits(slots: &[u32], from: usize, to: usize, p: u32) -> bool
     ensures { HitMeant slots.now from to p result }
 {
     let mut hit = false;
-    let mut i = from;
-    while i < to {
+    for i in from..to {
         if slots[i] / 131072 == p {
             hit = true;
         }
-        i += 1;
     }
     hit
 }
 
-// The first of the slots from `from` up to `to` that has the hash `p`, or `to` where there is none.
-fn first_of(slots: &[u32], from: usize, to: usize, p: u32) -> usize
+// The first of the slots from `from` up to `to` that has the hash `p`.
+fn first_of(slots: &[u32], from: usize, to: usize, p: u32) -> Option<usize>
     requires { (from ≤ to) × (to ≤ length slots.now) }
-    ensures { FirstHit slots.now from to p result }
+    ensures { FirstMeant slots.now from to p result }
 {
-    let mut i = from;
-    while i < to {
+    for i in from..to {
         if slots[i] / 131072 == p {
-            return i;
+            return Some(i);
         }
-        i += 1;
     }
-    i
-}
-
-// Where the block that starts at `i` ends: 64 slots further, or at the last.
-fn block_end(i: usize, to: usize) -> usize
-    requires { i < to }
-    ensures { (i < result) × (result ≤ to) }
-{
-    if to - i > 64 {
-        return i + 64;
-    }
-    to
+    None
 }
 
 // The same as `first_of`, block by block, because most blocks have no such slot.
-fn scan(slots: &[u32], from: usize, to: usize, p: u32) -> usize
+fn scan(slots: &[u32], from: usize, to: usize, p: u32) -> Option<usize>
     requires { (from ≤ to) × (to ≤ length slots.now) }
-    ensures { FirstHit slots.now from to p result }
+    ensures { FirstMeant slots.now from to p result }
 {
     let mut i = from;
     while i < to {
-        let next = block_end(i, to);
+        // 64 slots further, or at the last
+        let next = i + (to - i).min(64);
         if hits(slots, i, next, p) {
             return first_of(slots, i, next, p);
         }
         i = next;
     }
-    i
+    None
 }
 
 // Where the record of a slot starts.
@@ -119,14 +94,13 @@ pub fn nth(text: &[u8], slots: &[u32], count: usize, number: usize) -> Place
     ensures { (rows : List Row) → Rows rows text.now count slots.now → Placed rows number result }
 {
     let start = start_of(slots, number);
-    let at = start + 2;
-    let mid = text::run_end(text, at, Alphabet::Word);
+    let mid = text::run_end(text, start + 2, Alphabet::Word);
     let next = number + 1;
-    if next < count {
-        let end = start_of(slots, next);
-        return Place { start, mid, end };
-    }
-    let end = text.len();
+    let end = if next < count {
+        start_of(slots, next)
+    } else {
+        text.len()
+    };
     Place { start, mid, end }
 }
 
@@ -139,30 +113,22 @@ fn is_named(text: &[u8], from: usize, to: usize, name: &[u8]) -> bool
 }
 
 // The record of a name.
-pub fn find(text: &[u8], slots: &[u32], count: usize, name: &[u8]) -> Found
+pub fn find(text: &[u8], slots: &[u32], count: usize, name: &[u8]) -> Option<Found>
     requires { SomeRows text.now count slots.now }
     ensures { (rows : List Row) → Rows rows text.now count slots.now → result ≡ place rows name.now }
 {
     let p = hash(name);
     let mut i = 0;
-    while i < count {
-        let k = scan(slots, i, count, p);
-        if k == count {
-            return Found::Missing;
-        }
+    while let Some(k) = scan(slots, i, count, p) {
         let at = nth(text, slots, count, k);
-        let start = at.start;
-        let from = start + 2;
-        let to = at.mid;
-        if is_named(text, from, to, name) {
-            let end = at.end;
-            return Found::At {
+        if is_named(text, at.start + 2, at.mid, name) {
+            return Some(Found {
                 number: k,
-                start,
-                end,
-            };
+                start: at.start,
+                end: at.end,
+            });
         }
         i = k + 1;
     }
-    Found::Missing
+    None
 }

@@ -16,8 +16,7 @@ use Rattle.language.specs.Valid.{valid_store}
 use Rattle.language.proofs.StateText.Names.{valued_is}
 use Rattle.language.proofs.StateText.RoundTrip.{decode_holds}
 use Rattle.text.specs.Parts.{part}
-use Rattle.store.specs.Rows.{Rows, SomeRows, principal_row, variable_row, place}
-use Rattle.store.specs.declared.index.Found.TheVariants.{At}
+use Rattle.store.specs.Rows.{Rows, SomeRows, principal_row, variable_row, found_at, place}
 use Rattle.store.proofs.Holders.{principals_rows, some_principals, variables_rows, some_variables}
 use Rattle.store.proofs.Answers.{FoundVariable, variable_found}
 use Rattle.named_rights.specs.Numbers.{principals_of, variables, numbered}
@@ -61,7 +60,7 @@ module _ {t : Text} {slots-p slots_v assertions : List ℕ} {m : Parts} (u : Und
   are_vars = variables_rows store.variables (part t m.vars_from m.vars_to) m.vars slots_v u.represents.variables
 
   -- a variable that is found
-  module _ (x : Name) (l d e : ℕ) (w : At l d e ≡ place (map variable_row store.variables) x) where
+  module _ (x : Name) (l d e : ℕ) (w : found_at l d e ≡ place (map variable_row store.variables) x) where
     pub found : FoundVariable store.variables (part t m.vars_from m.vars_to) x l d e
     found = variable_found store.variables (part t m.vars_from m.vars_to) m.vars slots_v u.represents.variables x l d e w
 

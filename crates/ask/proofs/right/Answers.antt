@@ -5,7 +5,6 @@ use Rattle.validate.specs.Checked.{Understood, CheckedMeant}
 use Rattle.validate.specs.declared.Checked.{Checked}
 use Rattle.answers.specs.Answers.{answer_meant}
 use Rattle.ask.proofs.Refusals.{ask_size, ask_form, ask_done}
-use borrow.Author.Rules.{rules}
 use Rattle.ask.proofs.right.Goals as goal
 
 pub returns-then-state-ne65536 : goal.returns-then-state-ne65536

@@ -16,27 +16,26 @@ use Rattle.session.specs.declared.Layout.{Layout}
 use Rattle.session.specs.Sessions.{slices, Running}
 use Rattle.variable_text.proofs.Weighing.{put_full, put_done}
 use Rattle.assignment.proofs.Assigning.{there, not_there, there_below, shared_lie, shared_full, shared_done}
-use borrow.Author.Rules.{rules}
 use Rattle.assignment.proofs.assign_shared.Goals as goal
 
 pub slice_bounds-find-end-2 : goal.slice_bounds-find-end-2
 slice_bounds-find-end-2 c = sym (length-take-le _ _ c.requires.0.running.vars_within)
 
-pub find-found-requires : goal.find-found-requires
-find-found-requires c =
+pub find-requires : goal.find-requires
+find-requires c =
     let a = c.args in
     let S = c.requires.0 in
     some_variables S.session.store.variables (take a.l.vars_len a.vars.now) a.l.vars a.variable_slots.now S.running.variables
 
 pub make-requires : goal.make-requires
 make-requires c =
-    let looked-up : let a = c.args in (s : Session) (lo : Text) (lm : List ℕ) → Running s a.l (slices a.principals.now a.principal_slots.now a.vars.now a.variable_slots.now lo lm a.assertions.now) → c.find-found.result ≡ place (map variable_row s.store.variables) a.name.now = λ s lo lm R. let a = c.args in
-    c.find-found.ensures (map variable_row s.store.variables) (variables_rows s.store.variables (take a.l.vars_len a.vars.now) a.l.vars a.variable_slots.now R.variables) in
+    let looked-up : let a = c.args in (s : Session) (lo : Text) (lm : List ℕ) → Running s a.l (slices a.principals.now a.principal_slots.now a.vars.now a.variable_slots.now lo lm a.assertions.now) → c.find.result ≡ place (map variable_row s.store.variables) a.name.now = λ s lo lm R. let a = c.args in
+    c.find.ensures (map variable_row s.store.variables) (variables_rows s.store.variables (take a.l.vars_len a.vars.now) a.l.vars a.variable_slots.now R.variables) in
     let a = c.args in
     let S = c.requires.0 in (
       record {
         some = S;
-        is_new = not_there S.session.store.variables (take a.l.vars_len a.vars.now) a.l.vars a.variable_slots.now S.running.variables a.name.now c.find-found.result
+        is_new = not_there S.session.store.variables (take a.l.vars_len a.vars.now) a.l.vars a.variable_slots.now S.running.variables a.name.now c.find.result
             (looked-up S.session S.locals S.local_slots S.running) c.in_default.is;
       },
       c.requires.1,
@@ -45,17 +44,17 @@ make-requires c =
 
 pub returns-in_default : goal.returns-in_default
 returns-in_default c s lo lm v R el W =
-    let looked-up : let a = c.args in (s : Session) (lo : Text) (lm : List ℕ) → Running s a.l (slices a.principals.now a.principal_slots.now a.vars.now a.variable_slots.now lo lm a.assertions.now) → c.find-found.result ≡ place (map variable_row s.store.variables) a.name.now = λ s lo lm R. let a = c.args in
-    c.find-found.ensures (map variable_row s.store.variables) (variables_rows s.store.variables (take a.l.vars_len a.vars.now) a.l.vars a.variable_slots.now R.variables) in
+    let looked-up : let a = c.args in (s : Session) (lo : Text) (lm : List ℕ) → Running s a.l (slices a.principals.now a.principal_slots.now a.vars.now a.variable_slots.now lo lm a.assertions.now) → c.find.result ≡ place (map variable_row s.store.variables) a.name.now = λ s lo lm R. let a = c.args in
+    c.find.ensures (map variable_row s.store.variables) (variables_rows s.store.variables (take a.l.vars_len a.vars.now) a.l.vars a.variable_slots.now R.variables) in
     let a = c.args in
     c.make.ensures s lo lm v R el
-    (not_there s.store.variables (take a.l.vars_len a.vars.now) a.l.vars a.variable_slots.now R.variables a.name.now c.find-found.result (looked-up s lo lm R)
+    (not_there s.store.variables (take a.l.vars_len a.vars.now) a.l.vars a.variable_slots.now R.variables a.name.now c.find.result (looked-up s lo lm R)
     c.in_default.is) W
 
 pub replace-put-requires : goal.replace-put-requires
 replace-put-requires c =
-    let looked-up : let a = c.args in (s : Session) (lo : Text) (lm : List ℕ) → Running s a.l (slices a.principals.now a.principal_slots.now a.vars.now a.variable_slots.now lo lm a.assertions.now) → c.find-found.result ≡ place (map variable_row s.store.variables) a.name.now = λ s lo lm R. let a = c.args in
-    c.find-found.ensures (map variable_row s.store.variables) (variables_rows s.store.variables (take a.l.vars_len a.vars.now) a.l.vars a.variable_slots.now R.variables) in
+    let looked-up : let a = c.args in (s : Session) (lo : Text) (lm : List ℕ) → Running s a.l (slices a.principals.now a.principal_slots.now a.vars.now a.variable_slots.now lo lm a.assertions.now) → c.find.result ≡ place (map variable_row s.store.variables) a.name.now = λ s lo lm R. let a = c.args in
+    c.find.ensures (map variable_row s.store.variables) (variables_rows s.store.variables (take a.l.vars_len a.vars.now) a.l.vars a.variable_slots.now R.variables) in
     let a = c.args in
     let S = c.requires.0 in
     let b = slices a.principals.now a.principal_slots.now a.vars.now a.variable_slots.now S.locals S.local_slots a.assertions.now in
@@ -65,8 +64,8 @@ replace-put-requires c =
         variables = S.session.store.variables;
         name = a.name.now;
         lies = shared_lie S.session a.l b S.running a.l.weight (omega arith);
-        below = there_below S.session.store.variables t a.l.vars a.variable_slots.now S.running.variables a.name.now c.find-found.result q c.in-At.number c.in-At.start c.in-At.end c.in-At.is;
-        is_number = (there S.session.store.variables t a.l.vars a.variable_slots.now S.running.variables a.name.now c.find-found.result q c.in-At.number c.in-At.start c.in-At.end c.in-At.is).number;
+        below = there_below S.session.store.variables t a.l.vars a.variable_slots.now S.running.variables a.name.now c.find.result q c.in-Some.found.number c.in-Some.found.start c.in-Some.found.end c.in-Some.is;
+        is_number = (there S.session.store.variables t a.l.vars a.variable_slots.now S.running.variables a.name.now c.find.result q c.in-Some.found.number c.in-Some.found.start c.in-Some.found.end c.in-Some.is).number;
       },
       c.requires.2,
       S.running.light,
@@ -74,22 +73,22 @@ replace-put-requires c =
 
 pub returns-in_default-put : goal.returns-in_default-put
 returns-in_default-put c s lo lm v R el W =
-    let looked-up : let a = c.args in (s : Session) (lo : Text) (lm : List ℕ) → Running s a.l (slices a.principals.now a.principal_slots.now a.vars.now a.variable_slots.now lo lm a.assertions.now) → c.find-found.result ≡ place (map variable_row s.store.variables) a.name.now = λ s lo lm R. let a = c.args in
-    c.find-found.ensures (map variable_row s.store.variables) (variables_rows s.store.variables (take a.l.vars_len a.vars.now) a.l.vars a.variable_slots.now R.variables) in
+    let looked-up : let a = c.args in (s : Session) (lo : Text) (lm : List ℕ) → Running s a.l (slices a.principals.now a.principal_slots.now a.vars.now a.variable_slots.now lo lm a.assertions.now) → c.find.result ≡ place (map variable_row s.store.variables) a.name.now = λ s lo lm R. let a = c.args in
+    c.find.ensures (map variable_row s.store.variables) (variables_rows s.store.variables (take a.l.vars_len a.vars.now) a.l.vars a.variable_slots.now R.variables) in
     let a = c.args in
     let b = slices a.principals.now a.principal_slots.now a.vars.now a.variable_slots.now lo lm a.assertions.now in
-    let F = there s.store.variables (take a.l.vars_len a.vars.now) a.l.vars a.variable_slots.now R.variables a.name.now c.find-found.result (looked-up s lo lm R) c.in-At.number c.in-At.start c.in-At.end c.in-At.is in
+    let F = there s.store.variables (take a.l.vars_len a.vars.now) a.l.vars a.variable_slots.now R.variables a.name.now c.find.result (looked-up s lo lm R) c.in-Some.found.number c.in-Some.found.start c.in-Some.found.end c.in-Some.is in
     shared_full s a.l b R a.name.now v W.held.is_valid c.requires.1 el _ F.is_value
     (put_full s.store.variables (put a.name.now v s.store.variables) a.l.weight c.replace-put.result c.replace-put.new.buf a.l.vars c.replace-put.new.slots
     (c.replace-put.ensures s.store.variables a.name.now v (shared_lie s a.l b R a.l.weight (omega arith)) F.number W) c.in_default-put.is)
 
 pub returns : goal.returns
 returns c s lo lm v R el W =
-    let looked-up : let a = c.args in (s : Session) (lo : Text) (lm : List ℕ) → Running s a.l (slices a.principals.now a.principal_slots.now a.vars.now a.variable_slots.now lo lm a.assertions.now) → c.find-found.result ≡ place (map variable_row s.store.variables) a.name.now = λ s lo lm R. let a = c.args in
-    c.find-found.ensures (map variable_row s.store.variables) (variables_rows s.store.variables (take a.l.vars_len a.vars.now) a.l.vars a.variable_slots.now R.variables) in
+    let looked-up : let a = c.args in (s : Session) (lo : Text) (lm : List ℕ) → Running s a.l (slices a.principals.now a.principal_slots.now a.vars.now a.variable_slots.now lo lm a.assertions.now) → c.find.result ≡ place (map variable_row s.store.variables) a.name.now = λ s lo lm R. let a = c.args in
+    c.find.ensures (map variable_row s.store.variables) (variables_rows s.store.variables (take a.l.vars_len a.vars.now) a.l.vars a.variable_slots.now R.variables) in
     let a = c.args in
     let b = slices a.principals.now a.principal_slots.now a.vars.now a.variable_slots.now lo lm a.assertions.now in
-    let F = there s.store.variables (take a.l.vars_len a.vars.now) a.l.vars a.variable_slots.now R.variables a.name.now c.find-found.result (looked-up s lo lm R) c.in-At.number c.in-At.start c.in-At.end c.in-At.is in
+    let F = there s.store.variables (take a.l.vars_len a.vars.now) a.l.vars a.variable_slots.now R.variables a.name.now c.find.result (looked-up s lo lm R) c.in-Some.found.number c.in-Some.found.start c.in-Some.found.end c.in-Some.is in
     subst (λ (k : Layout). Running (assign s a.name.now v) k (slices a.principals.now a.principal_slots.now c.replace-put.new.buf c.replace-put.new.slots lo lm a.assertions.now)) (sym c.with_shared.ensures)
     (shared_done s a.l b R a.name.now v W.held.is_valid c.requires.1 el _ F.is_value c.replace-put.new.buf c.replace-put.new.slots c.in-Done.n c.in-Done.w c.replace-put.auto.buf
     (put_done s.store.variables (put a.name.now v s.store.variables) a.l.weight c.replace-put.result c.replace-put.new.buf a.l.vars c.replace-put.new.slots

@@ -8,7 +8,6 @@ use Rattle.session.specs.declared.Layout.{Layout}
 use Rattle.session.specs.Sessions.{slices, Running}
 use Rattle.variable_text.proofs.Weighing.{few, put_full, put_done}
 use Rattle.assignment.proofs.Assigning.{neither, locals_lie, locals_full, local_put}
-use borrow.Author.Rules.{rules}
 use Rattle.assignment.proofs.declare.Goals as goal
 
 pub add-put-requires : goal.add-put-requires

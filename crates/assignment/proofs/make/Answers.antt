@@ -20,7 +20,6 @@ use Rattle.variable_text.specs.Puts.{Weighs, Became}
 use Rattle.assignment.specs.Grants.{grant_weight}
 use Rattle.variable_text.proofs.Weighing.{put_full, put_done}
 use Rattle.assignment.proofs.Assigning.{shared_lie, sender_below, new_full, new_done, grants_room}
-use borrow.Author.Rules.{rules}
 use Rattle.assignment.proofs.make.Goals as goal
 
 pub slice_bounds-grant_weight-end : goal.slice_bounds-grant_weight-end

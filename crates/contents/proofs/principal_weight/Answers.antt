@@ -2,33 +2,25 @@ use mathlib.Core.Path.{ap, ◌∙◌}
 use Prim.Native.Nat.{◌+◌}
 use native.Mathlib.Omega.{arith}
 use Rattle.language.specs.Weight.{name_weight}
-use Rattle.store.proofs.Places.{Lies, lies}
+use Rattle.store.proofs.Places.{lies_here}
 use Rattle.store.proofs.NameWeights.{name_is}
 use Rattle.contents.proofs.principal_weight.Goals as goal
 
-pub overflow_add-from : goal.overflow_add-from
-overflow_add-from c =
-    let lying : Lies c.args.principals.now c.nth-place.result = let a = c.args in
-    lies c.requires.0.rows a.principals.now a.count a.slots.now c.requires.0.held a.number c.requires.1 c.nth-place.result (c.nth-place.ensures c.requires.0.rows c.requires.0.held) in
-    let l = lying in omega (arith, l.first, l.middle, l.last)
+pub overflow_add-place : goal.overflow_add-place
+overflow_add-place c =
+    let l = lies_here c.requires.0 c.requires.1 c.nth-place.ensures in omega arith
 
 pub slice_bounds-name_weight-count : goal.slice_bounds-name_weight-count
 slice_bounds-name_weight-count c =
-    let lying : Lies c.args.principals.now c.nth-place.result = let a = c.args in
-    lies c.requires.0.rows a.principals.now a.count a.slots.now c.requires.0.held a.number c.requires.1 c.nth-place.result (c.nth-place.ensures c.requires.0.rows c.requires.0.held) in
-    let l = lying in omega (arith, l.first, l.middle, l.last)
+    let l = lies_here c.requires.0 c.requires.1 c.nth-place.ensures in omega arith
 
 pub slice_bounds-name_weight-start : goal.slice_bounds-name_weight-start
 slice_bounds-name_weight-start c =
-    let lying : Lies c.args.principals.now c.nth-place.result = let a = c.args in
-    lies c.requires.0.rows a.principals.now a.count a.slots.now c.requires.0.held a.number c.requires.1 c.nth-place.result (c.nth-place.ensures c.requires.0.rows c.requires.0.held) in
-    let l = lying in omega (arith, l.first, l.middle, l.last)
+    let l = lies_here c.requires.0 c.requires.1 c.nth-place.ensures in omega arith
 
 pub slice_bounds-name_weight-end : goal.slice_bounds-name_weight-end
 slice_bounds-name_weight-end c =
-    let lying : Lies c.args.principals.now c.nth-place.result = let a = c.args in
-    lies c.requires.0.rows a.principals.now a.count a.slots.now c.requires.0.held a.number c.requires.1 c.nth-place.result (c.nth-place.ensures c.requires.0.rows c.requires.0.held) in
-    let l = lying in omega (arith, l.first, l.middle, l.last)
+    let l = lies_here c.requires.0 c.requires.1 c.nth-place.ensures in omega arith
 
 pub returns : goal.returns
 returns c rows H =

@@ -3,7 +3,6 @@
 use native.Mathlib.Omega.{arith}
 use Rattle.values.specs.declared.Kind.TheVariants as Is
 use Rattle.extension.proofs.Extending.{adds_by}
-use borrow.Author.Rules.{rules}
 use Rattle.extension.proofs.elements_of.Goals as goal
 
 pub kind_of-kind-requires : goal.kind_of-kind-requires

@@ -17,30 +17,29 @@ use Rattle.session.specs.Sessions.{slices, Running}
 use Rattle.variable_text.proofs.Weighing.{both_valid, put_full, put_done}
 use Rattle.extension.proofs.Extending.{none_some}
 use Rattle.assignment.proofs.Assigning.{there, not_there, there_below, shared_lie, shared_full, shared_done}
-use borrow.Author.Rules.{rules}
 use Rattle.extension.proofs.join_shared.Goals as goal
 
 pub slice_bounds-find-end-2 : goal.slice_bounds-find-end-2
 slice_bounds-find-end-2 c = sym (length-take-le _ _ c.requires.0.some_shared.running.vars_within)
 
-pub find-found-requires : goal.find-found-requires
-find-found-requires c =
+pub find-requires : goal.find-requires
+find-requires c =
     let a = c.args in
     let S = c.requires.0.some_shared in
     some_variables S.session.store.variables (take a.l.vars_len a.vars.now) a.l.vars a.variable_slots.now S.running.variables
 
 pub returns-in_default : goal.returns-in_default
 returns-in_default c s lo lm es fs R el i X =
-    let looked-up : let a = c.args in (s : Session) (lo : Text) (lm : List ℕ) → Running s a.l (slices a.principals.now a.principal_slots.now a.vars.now a.variable_slots.now lo lm a.assertions.now) → c.find-found.result ≡ place (map variable_row s.store.variables) a.name.now = λ s lo lm R. let a = c.args in
-    c.find-found.ensures (map variable_row s.store.variables) (variables_rows s.store.variables (take a.l.vars_len a.vars.now) a.l.vars a.variable_slots.now R.variables) in
+    let looked-up : let a = c.args in (s : Session) (lo : Text) (lm : List ℕ) → Running s a.l (slices a.principals.now a.principal_slots.now a.vars.now a.variable_slots.now lo lm a.assertions.now) → c.find.result ≡ place (map variable_row s.store.variables) a.name.now = λ s lo lm R. let a = c.args in
+    c.find.ensures (map variable_row s.store.variables) (variables_rows s.store.variables (take a.l.vars_len a.vars.now) a.l.vars a.variable_slots.now R.variables) in
     let a = c.args in
-    absurd (none_some (not_there s.store.variables (take a.l.vars_len a.vars.now) a.l.vars a.variable_slots.now R.variables a.name.now c.find-found.result (looked-up s lo lm R)
+    absurd (none_some (not_there s.store.variables (take a.l.vars_len a.vars.now) a.l.vars a.variable_slots.now R.variables a.name.now c.find.result (looked-up s lo lm R)
     c.in_default.is) i)
 
 pub extend-put-requires : goal.extend-put-requires
 extend-put-requires c =
-    let looked-up : let a = c.args in (s : Session) (lo : Text) (lm : List ℕ) → Running s a.l (slices a.principals.now a.principal_slots.now a.vars.now a.variable_slots.now lo lm a.assertions.now) → c.find-found.result ≡ place (map variable_row s.store.variables) a.name.now = λ s lo lm R. let a = c.args in
-    c.find-found.ensures (map variable_row s.store.variables) (variables_rows s.store.variables (take a.l.vars_len a.vars.now) a.l.vars a.variable_slots.now R.variables) in
+    let looked-up : let a = c.args in (s : Session) (lo : Text) (lm : List ℕ) → Running s a.l (slices a.principals.now a.principal_slots.now a.vars.now a.variable_slots.now lo lm a.assertions.now) → c.find.result ≡ place (map variable_row s.store.variables) a.name.now = λ s lo lm R. let a = c.args in
+    c.find.ensures (map variable_row s.store.variables) (variables_rows s.store.variables (take a.l.vars_len a.vars.now) a.l.vars a.variable_slots.now R.variables) in
     let a = c.args in
     let Q = c.requires.0 in
     let S = Q.some_shared in
@@ -53,8 +52,8 @@ extend-put-requires c =
         elements = Q.elements;
         more = Q.more;
         lies = shared_lie S.session a.l b S.running a.l.weight (omega arith);
-        below = there_below S.session.store.variables t a.l.vars a.variable_slots.now S.running.variables a.name.now c.find-found.result q c.in-At.number c.in-At.start c.in-At.end c.in-At.is;
-        is_number = (there S.session.store.variables t a.l.vars a.variable_slots.now S.running.variables a.name.now c.find-found.result q c.in-At.number c.in-At.start c.in-At.end c.in-At.is).number;
+        below = there_below S.session.store.variables t a.l.vars a.variable_slots.now S.running.variables a.name.now c.find.result q c.in-Some.found.number c.in-Some.found.start c.in-Some.found.end c.in-Some.is;
+        is_number = (there S.session.store.variables t a.l.vars a.variable_slots.now S.running.variables a.name.now c.find.result q c.in-Some.found.number c.in-Some.found.start c.in-Some.found.end c.in-Some.is).number;
         is_list = Q.is_list;
         extra = Q.extra;
       },
@@ -64,32 +63,32 @@ extend-put-requires c =
 
 pub returns-in_default-put : goal.returns-in_default-put
 returns-in_default-put c s lo lm es fs R el i X =
-    let looked-up : let a = c.args in (s : Session) (lo : Text) (lm : List ℕ) → Running s a.l (slices a.principals.now a.principal_slots.now a.vars.now a.variable_slots.now lo lm a.assertions.now) → c.find-found.result ≡ place (map variable_row s.store.variables) a.name.now = λ s lo lm R. let a = c.args in
-    c.find-found.ensures (map variable_row s.store.variables) (variables_rows s.store.variables (take a.l.vars_len a.vars.now) a.l.vars a.variable_slots.now R.variables) in
+    let looked-up : let a = c.args in (s : Session) (lo : Text) (lm : List ℕ) → Running s a.l (slices a.principals.now a.principal_slots.now a.vars.now a.variable_slots.now lo lm a.assertions.now) → c.find.result ≡ place (map variable_row s.store.variables) a.name.now = λ s lo lm R. let a = c.args in
+    c.find.ensures (map variable_row s.store.variables) (variables_rows s.store.variables (take a.l.vars_len a.vars.now) a.l.vars a.variable_slots.now R.variables) in
     let a = c.args in
     let b = slices a.principals.now a.principal_slots.now a.vars.now a.variable_slots.now lo lm a.assertions.now in
     let t = take a.l.vars_len a.vars.now in
     let q = looked-up s lo lm R in
-    let k = there_below s.store.variables t a.l.vars a.variable_slots.now R.variables a.name.now c.find-found.result q c.in-At.number c.in-At.start c.in-At.end c.in-At.is in
-    let F = there s.store.variables t a.l.vars a.variable_slots.now R.variables a.name.now c.find-found.result q c.in-At.number c.in-At.start c.in-At.end c.in-At.is in
+    let k = there_below s.store.variables t a.l.vars a.variable_slots.now R.variables a.name.now c.find.result q c.in-Some.found.number c.in-Some.found.start c.in-Some.found.end c.in-Some.is in
+    let F = there s.store.variables t a.l.vars a.variable_slots.now R.variables a.name.now c.find.result q c.in-Some.found.number c.in-Some.found.start c.in-Some.found.end c.in-Some.is in
     let L = shared_lie s a.l b R a.l.weight (omega arith) in
-    let h = both_valid L a.name.now c.in-At.number k F.number es fs i a.more.now a.weight X in
+    let h = both_valid L a.name.now c.in-Some.found.number k F.number es fs i a.more.now a.weight X in
     shared_full s a.l b R a.name.now (list (es ++ fs)) h c.requires.1 el (list es) i
     (put_full s.store.variables (put a.name.now (list (es ++ fs)) s.store.variables) a.l.weight c.extend-put.result c.extend-put.new.buf a.l.vars c.extend-put.new.slots
     (c.extend-put.ensures s.store.variables a.name.now es fs L F.number i X) c.in_default-put.is)
 
 pub returns : goal.returns
 returns c s lo lm es fs R el i X =
-    let looked-up : let a = c.args in (s : Session) (lo : Text) (lm : List ℕ) → Running s a.l (slices a.principals.now a.principal_slots.now a.vars.now a.variable_slots.now lo lm a.assertions.now) → c.find-found.result ≡ place (map variable_row s.store.variables) a.name.now = λ s lo lm R. let a = c.args in
-    c.find-found.ensures (map variable_row s.store.variables) (variables_rows s.store.variables (take a.l.vars_len a.vars.now) a.l.vars a.variable_slots.now R.variables) in
+    let looked-up : let a = c.args in (s : Session) (lo : Text) (lm : List ℕ) → Running s a.l (slices a.principals.now a.principal_slots.now a.vars.now a.variable_slots.now lo lm a.assertions.now) → c.find.result ≡ place (map variable_row s.store.variables) a.name.now = λ s lo lm R. let a = c.args in
+    c.find.ensures (map variable_row s.store.variables) (variables_rows s.store.variables (take a.l.vars_len a.vars.now) a.l.vars a.variable_slots.now R.variables) in
     let a = c.args in
     let b = slices a.principals.now a.principal_slots.now a.vars.now a.variable_slots.now lo lm a.assertions.now in
     let t = take a.l.vars_len a.vars.now in
     let q = looked-up s lo lm R in
-    let k = there_below s.store.variables t a.l.vars a.variable_slots.now R.variables a.name.now c.find-found.result q c.in-At.number c.in-At.start c.in-At.end c.in-At.is in
-    let F = there s.store.variables t a.l.vars a.variable_slots.now R.variables a.name.now c.find-found.result q c.in-At.number c.in-At.start c.in-At.end c.in-At.is in
+    let k = there_below s.store.variables t a.l.vars a.variable_slots.now R.variables a.name.now c.find.result q c.in-Some.found.number c.in-Some.found.start c.in-Some.found.end c.in-Some.is in
+    let F = there s.store.variables t a.l.vars a.variable_slots.now R.variables a.name.now c.find.result q c.in-Some.found.number c.in-Some.found.start c.in-Some.found.end c.in-Some.is in
     let L = shared_lie s a.l b R a.l.weight (omega arith) in
-    let h = both_valid L a.name.now c.in-At.number k F.number es fs i a.more.now a.weight X in
+    let h = both_valid L a.name.now c.in-Some.found.number k F.number es fs i a.more.now a.weight X in
     subst (λ (k : Layout). Running (assign s a.name.now (list (es ++ fs))) k (slices a.principals.now a.principal_slots.now c.extend-put.new.buf c.extend-put.new.slots lo lm a.assertions.now)) (sym c.with_shared.ensures)
     (shared_done s a.l b R a.name.now (list (es ++ fs)) h c.requires.1 el (list es) i c.extend-put.new.buf c.extend-put.new.slots c.in-Done.n c.in-Done.w c.extend-put.auto.buf
     (put_done s.store.variables (put a.name.now (list (es ++ fs)) s.store.variables) a.l.weight c.extend-put.result c.extend-put.new.buf a.l.vars c.extend-put.new.slots

@@ -2,7 +2,6 @@
 -- Assumes nothing.
 use native.Mathlib.Omega.{arith}
 use Rattle.opening.proofs.Copies.{principals_fit, variables_fit, begun}
-use borrow.Author.Rules.{rules}
 use Rattle.opening.proofs.begin.Goals as goal
 
 pub copy_in-principals_len-requires : goal.copy_in-principals_len-requires

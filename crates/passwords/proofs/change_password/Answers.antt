@@ -1,7 +1,7 @@
 -- `passwords::change_password` meets its contract. The weight is known before a byte moves.
 -- Assumes nothing.
 use mathlib.Core.Path.{◌≡◌, sym, ◌∙◌}
-use mathlib.Core.Logic.{◌⊎◌, inl, inr, ⊎_elim}
+use mathlib.Core.Logic.{◌⊎◌, inl, inr}
 use Prim.Native.Nat.{◌+◌, ◌-◌, ◌<◌}
 use native.Mathlib.Omega.{arith}
 use lib.ListN.{length}
@@ -18,7 +18,6 @@ use Rattle.session.specs.Sessions.{slices, Running}
 use Rattle.store.proofs.Holders.{some_principals}
 use Rattle.session.proofs.Finding.{row_number, number_below, part_length}
 use Rattle.passwords.proofs.Passwords.{password_denied, password_failed, old_weighs, after_weighs, password_full, some_password, password_done}
-use borrow.Author.Rules.{rules}
 use Rattle.passwords.proofs.change_password.Goals as goal
 use Rattle.passwords.proofs.change_password.Goals.{then-sender-ne0+else-sender-n, else-sender-ne0}
 

@@ -1,4 +1,4 @@
-use mathlib.Core.Path.{sym, ap, ◌∙◌}
+use mathlib.Core.Path.{ap}
 use Prim.Native.Nat.{ℕ, ◌+◌, ◌*◌, ◌-◌}
 use native.Mathlib.Omega.{arith}
 use lib.ListN.{set}
@@ -9,7 +9,7 @@ use Rattle.record_fields.proofs.Indexing.{is_there, is_new}
 use Rattle.record_fields.proofs.enter.Goals as goal
 
 pub returns-in_default : goal.returns-in_default
-returns-in_default c = λ rows H. is_there rows _ _ _ _ (sym c.in_default.is ∙ c.find-seen.ensures rows H)
+returns-in_default c = λ rows H. is_there rows _ _ _ _ (c.in_default.ensures rows H)
 
 pub overflow_mul-slots : goal.overflow_mul-slots
 overflow_mul-slots c =
@@ -30,6 +30,6 @@ pub returns : goal.returns
 returns c =
     λ rows H.
     let a = c.args in (
-      λ k. is_new rows _ (sym c.in-Missing.is ∙ c.find-seen.ensures rows H) k,
+      λ k. is_new rows _ (c.in-None.ensures rows H) k,
       ap (λ (p : ℕ). set a.slots.now a.n (p * places + (a.i - a.at))) c.hash.ensures,
     )

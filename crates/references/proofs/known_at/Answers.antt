@@ -1,4 +1,4 @@
-use mathlib.Core.Path.{sym, subst, ◌∙◌}
+use mathlib.Core.Path.{subst}
 use native.Mathlib.Omega.{arith}
 use Rattle.language.specs.Text.{all}
 use Rattle.language.specs.Bytes.{word_byte}
@@ -28,13 +28,13 @@ slice_bounds-find-end-2 c =
     let field : let a = c.args in Field (all word_byte) a.stop a.text.now a.at c.in-At.e = let a = c.args in subst (λ k. CutMeant (all word_byte) a.stop a.text.now a.at k) c.in-At.is c.run_cut-cut.ensures in
     let f = field in omega (arith, f.high)
 
-pub returns-in_default-found : goal.returns-in_default-found
-returns-in_default-found c =
+pub returns-in_default-find : goal.returns-in_default-find
+returns-in_default-find c =
     let field : let a = c.args in Field (all word_byte) a.stop a.text.now a.at c.in-At.e = let a = c.args in subst (λ k. CutMeant (all word_byte) a.stop a.text.now a.at k) c.in-At.is c.run_cut-cut.ensures in
     λ rows H.
     let a = c.args in
     unknown rows a.text.now a.from a.to a.count a.slots.now H a.stop c.requires.outside a.at c.in-At.e field
-    (sym c.in_default-found.is ∙ c.find-found.ensures rows H)
+    (c.in_default-find.ensures rows H)
 
 pub returns : goal.returns
 returns c =
@@ -42,4 +42,4 @@ returns c =
     λ rows H.
     let a = c.args in
     is_known rows a.text.now a.from a.to a.count a.slots.now H a.stop c.requires.outside a.at c.in-At.e field
-    _ _ _ (sym c.in-At-found.is ∙ c.find-found.ensures rows H)
+    _ _ _ (c.in-Some.ensures rows H)

@@ -1,11 +1,10 @@
-use mathlib.Core.Path.{◌≡◌, refl, sym, subst, ◌∙◌}
+use mathlib.Core.Path.{◌≡◌, refl, sym, subst}
 use mathlib.Core.List.{List, map}
 use Prim.Native.Nat.{◌<◌}
 use native.Mathlib.Omega.{arith}
 use Rattle.language.specs.State.{Variable}
 use Rattle.store.specs.Held.{Variables}
-use Rattle.store.specs.Rows.{place, variable_row}
-use Rattle.store.specs.declared.index.Found.TheVariants.{At}
+use Rattle.store.specs.Rows.{found_at, place, variable_row}
 use Rattle.store.proofs.Holders.{variables_rows, some_variables}
 use Rattle.store.proofs.Answers.{variable_found}
 use Rattle.splice.proofs.Splicing.{length_part}
@@ -13,8 +12,8 @@ use Rattle.state_lookups.specs.Looks.{Look, Says}
 use Rattle.state_lookups.proofs.Lookups.{variable_gone, variable_here}
 use Rattle.state_lookups.proofs.variable.Goals as goal
 
-pub find-place-requires : goal.find-place-requires
-find-place-requires c =
+pub find-requires : goal.find-requires
+find-requires c =
     let a = c.args in
     let p = c.requires.0 in
     some_variables p.rows a.text.now a.count a.slots.now p.held
@@ -23,16 +22,16 @@ pub returns-in_default : goal.returns-in_default
 returns-in_default c vs W =
     let a = c.args in
     subst (λ (l : Look). Says l a.out.now a.out.now 4294967298)
-    (sym (variable_gone vs a.name.now (sym c.in_default.is ∙ c.find-place.ensures (map variable_row vs) (variables_rows vs a.text.now a.count a.slots.now W))))
+    (sym (variable_gone vs a.name.now (c.in_default.ensures (map variable_row vs) (variables_rows vs a.text.now a.count a.slots.now W))))
     (record { number_is = refl; written = refl })
 
 pub value_of-span-requires : goal.value_of-span-requires
 value_of-span-requires c =
-    let here : (vs : List Variable) → let a = c.args in Variables vs a.text.now a.count a.slots.now → At c.in-At.number c.in-At.start c.in-At.end ≡ place (map variable_row vs) a.name.now = λ vs W. let a = c.args in
-    sym c.in-At.is ∙ c.find-place.ensures (map variable_row vs) (variables_rows vs a.text.now a.count a.slots.now W) in
-    let below : c.in-At.number < c.args.count = let a = c.args in
+    let here : (vs : List Variable) → let a = c.args in Variables vs a.text.now a.count a.slots.now → found_at c.in-Some.found.number c.in-Some.found.start c.in-Some.found.end ≡ place (map variable_row vs) a.name.now = λ vs W. let a = c.args in
+    c.in-Some.ensures (map variable_row vs) (variables_rows vs a.text.now a.count a.slots.now W) in
+    let below : c.in-Some.found.number < c.args.count = let a = c.args in
     let p = c.requires.0 in
-    let F = variable_found p.rows a.text.now a.count a.slots.now p.held a.name.now c.in-At.number c.in-At.start c.in-At.end (here p.rows p.held) in
+    let F = variable_found p.rows a.text.now a.count a.slots.now p.held a.name.now c.in-Some.found.number c.in-Some.found.start c.in-Some.found.end (here p.rows p.held) in
     omega (arith, F.below, p.held.counted) in
     let a = c.args in
     let p = c.requires.0 in
@@ -49,11 +48,11 @@ slice_bounds-write-end c = let w = c.value_of-span.ensures c.requires.0.rows c.r
 
 pub write-requires : goal.write-requires
 write-requires c =
-    let here : (vs : List Variable) → let a = c.args in Variables vs a.text.now a.count a.slots.now → At c.in-At.number c.in-At.start c.in-At.end ≡ place (map variable_row vs) a.name.now = λ vs W. let a = c.args in
-    sym c.in-At.is ∙ c.find-place.ensures (map variable_row vs) (variables_rows vs a.text.now a.count a.slots.now W) in
-    let below : c.in-At.number < c.args.count = let a = c.args in
+    let here : (vs : List Variable) → let a = c.args in Variables vs a.text.now a.count a.slots.now → found_at c.in-Some.found.number c.in-Some.found.start c.in-Some.found.end ≡ place (map variable_row vs) a.name.now = λ vs W. let a = c.args in
+    c.in-Some.ensures (map variable_row vs) (variables_rows vs a.text.now a.count a.slots.now W) in
+    let below : c.in-Some.found.number < c.args.count = let a = c.args in
     let p = c.requires.0 in
-    let F = variable_found p.rows a.text.now a.count a.slots.now p.held a.name.now c.in-At.number c.in-At.start c.in-At.end (here p.rows p.held) in
+    let F = variable_found p.rows a.text.now a.count a.slots.now p.held a.name.now c.in-Some.found.number c.in-Some.found.start c.in-Some.found.end (here p.rows p.held) in
     omega (arith, F.below, p.held.counted) in
     let p = c.requires in
     let w = c.value_of-span.ensures p.0.rows p.0.held in
@@ -62,9 +61,9 @@ write-requires c =
 
 pub returns : goal.returns
 returns c vs W =
-    let here : (vs : List Variable) → let a = c.args in Variables vs a.text.now a.count a.slots.now → At c.in-At.number c.in-At.start c.in-At.end ≡ place (map variable_row vs) a.name.now = λ vs W. let a = c.args in
-    sym c.in-At.is ∙ c.find-place.ensures (map variable_row vs) (variables_rows vs a.text.now a.count a.slots.now W) in
+    let here : (vs : List Variable) → let a = c.args in Variables vs a.text.now a.count a.slots.now → found_at c.in-Some.found.number c.in-Some.found.start c.in-Some.found.end ≡ place (map variable_row vs) a.name.now = λ vs W. let a = c.args in
+    c.in-Some.ensures (map variable_row vs) (variables_rows vs a.text.now a.count a.slots.now W) in
     let a = c.args in
     subst (λ (l : Look). Says l a.out.now c.write.new.out c.write.result)
-    (sym (variable_here vs a.name.now c.in-At.number c.in-At.start c.in-At.end (here vs W) a.text.now c.value_of-span.result.start c.value_of-span.result.end (c.value_of-span.ensures vs W)))
+    (sym (variable_here vs a.name.now c.in-Some.found.number c.in-Some.found.start c.in-Some.found.end (here vs W) a.text.now c.value_of-span.result.start c.value_of-span.result.end (c.value_of-span.ensures vs W)))
     c.write.ensures

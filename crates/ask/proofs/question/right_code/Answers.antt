@@ -1,6 +1,5 @@
 -- `ask::question::right_code` meets its contract. A letter's right, and no right for any other byte.
 -- Assumes nothing.
-use borrow.Author.Tests.{ne_eqb}
 use Rattle.ask.proofs.question.right_code.Goals as goal
 
 pub returns-in-114 : goal.returns-in-114

@@ -4,7 +4,6 @@ use Prim.Native.Nat.{◌+◌, ◌≤◌, ◌<◌}
 use native.Mathlib.Omega.{arith}
 use lib.ListN.{length, length-set}
 use Rattle.assignment.proofs.Granting.{no_numbers, some_numbers}
-use borrow.Author.Rules.{rules}
 use Rattle.assignment.proofs.grants.grant.Goals as goal
 
 pub returns-then-sender-eq0 : goal.returns-then-sender-eq0

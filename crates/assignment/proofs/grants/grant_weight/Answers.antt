@@ -9,7 +9,6 @@ use Rattle.store.specs.Rows.{principal_row}
 use Rattle.store.proofs.Holders.{principals_rows}
 use Rattle.store.proofs.NameWeights.{row_light}
 use Rattle.assignment.proofs.Granting.{name_at, no_grants, some_grants}
-use borrow.Author.Rules.{rules}
 use Rattle.assignment.proofs.grants.grant_weight.Goals as goal
 
 pub returns-then-sender-eq0 : goal.returns-then-sender-eq0

@@ -4,8 +4,8 @@ use Rattle.store.specs.Rows.{Row, Rows}
 use Rattle.store.proofs.Lookups.{Passed}
 use Rattle.store.proofs.index.find.Given as goal
 
-abbrev pub invariant-loop-i : goal.invariant-loop-i
-invariant-loop-i l = (l.i ≤ l.count) × ((rows : List Row) → Rows rows l.text l.count l.slots → Passed rows l.name l.i)
+abbrev pub invariant-loop-k : goal.invariant-loop-k
+invariant-loop-k l = (l.i ≤ l.count) × ((rows : List Row) → Rows rows l.text l.count l.slots → Passed rows l.name l.i)
 
-abbrev pub decreases-loop-i : goal.decreases-loop-i
-decreases-loop-i l = l.count - l.i
+abbrev pub decreases-loop-k : goal.decreases-loop-k
+decreases-loop-k l = l.count - l.i

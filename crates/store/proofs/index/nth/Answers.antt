@@ -8,11 +8,6 @@ start_of-start-requires c =
     let a = c.args in
     omega (arith, slots_long c.requires.0.rows a.text.now a.count a.slots.now c.requires.0.held)
 
-pub overflow_add-at : goal.overflow_add-at
-overflow_add-at c =
-    let a = c.args in
-    omega (arith, name_starts c.requires.0.rows a.text.now a.count a.slots.now c.requires.0.held a.number c.requires.1 c.start_of-start.result c.start_of-start.ensures)
-
 pub run_end-mid-requires : goal.run_end-mid-requires
 run_end-mid-requires c =
     let a = c.args in
@@ -34,8 +29,8 @@ returns-then-next-count c rows H =
       ends = ends_before rows t a.count m H a.number c.requires.1 c.start_of-end.result c.if-next-count.true c.start_of-end.ensures;
     }
 
-pub returns : goal.returns
-returns c rows H =
+pub returns-else-next-count : goal.returns-else-next-count
+returns-else-next-count c rows H =
     let a = c.args in
     let t = a.text.now in
     let m = a.slots.now in
