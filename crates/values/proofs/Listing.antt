@@ -7,13 +7,12 @@ use mathlib.Core.List.{List, [], ◌∷◌, ◌++◌, append_assoc}
 use lib.Dec.{T}
 use lib.ListN.{length, drop, length-append, length-drop}
 use Rattle.language.specs.Text.{Text, all, joined, front}
-use Rattle.language.specs.State.{Field, Element, string, fields, list}
+use Rattle.language.specs.State.{Field, Element, string, fields}
 use Rattle.language.specs.Encode.{field_text, element_text}
 use Rattle.language.specs.Valid.{valid_field, valid_element}
 use Rattle.language.proofs.Logic.Tests.{both}
 use Rattle.language.proofs.StateText.Lines.{Free}
 use Rattle.text.specs.Meaning.{is_not}
-use Rattle.values.specs.Encoding.{Holds}
 use Rattle.values.specs.Places.{Here, no_field, FieldsAt, ElementAt, Elements, SomeFields, SomeElement}
 use Rattle.text.specs.declared.Span.{Span}
 use Rattle.values.specs.Answers.{Taken, Nexts}
@@ -77,12 +76,6 @@ no_field_lem : (es : List Element) → T (no_field (joined element_text es))
 no_field_lem [] = tt
 no_field_lem (string t ∷ es) = tt
 no_field_lem (fields fs ∷ es) = tt
-
-pub list_starts : (t : Text) (es : List Element) → Holds (list es) t → Elements t 2 es
-list_starts t es h = record {
-  are_valid = h.is_valid;
-  here = record { within = omega (arith, ap length h.is_text_lem); left = ap (drop 2) h.is_text_lem };
-}
 
 pub elements_head : (t : Text) (at : ℕ) (e : Element) (es : List Element) → Elements t at (e ∷ es) → ElementAt t at e (joined element_text es)
 elements_head t at e es E = record {

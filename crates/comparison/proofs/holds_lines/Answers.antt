@@ -5,12 +5,6 @@ use native.Mathlib.Omega.{arith}
 use Rattle.comparison.proofs.Comparing.{left_start, left_none, next, rest_of, next_at, some_field, next_line, missed, passed}
 use Rattle.comparison.proofs.holds_lines.Goals as goal
 
-pub loop-at-init : goal.loop-at-init
-loop-at-init c = (
-  (left_start c.args.second.now c.requires.0.fields c.requires.1.fields c.requires.1.held).stand.here.within,
-  λ fs gs h k. left_start c.args.second.now fs gs k,
-)
-
 pub field_ends-ends-requires : goal.field_ends-ends-requires
 field_ends-ends-requires c =
     let t = c.args.second.now in

@@ -2,18 +2,8 @@
 -- Assumes nothing.
 use mathlib.Core.Path.{sym, ◌∙◌}
 use native.Mathlib.Omega.{arith}
-use Rattle.values.proofs.Texts.{some_bytes}
-use Rattle.values.proofs.Searching.{unseen_start, no_fields, unseen_none, candidate, rest_of, candidate_at, some_field, matched, unmatched}
+use Rattle.values.proofs.Searching.{unseen_none, candidate, rest_of, candidate_at, some_field, matched, unmatched}
 use Rattle.values.proofs.field_in.Goals as goal
-
-pub returns-then-text-ne82-clause-meant : goal.returns-then-text-ne82-clause-meant
-returns-then-text-ne82-clause-meant c v h = no_fields c.args.text.now c.args.label.now v h c.if-text-ne82.true
-
-pub loop-at-init : goal.loop-at-init
-loop-at-init c = (
-  omega (arith, some_bytes c.requires.value c.args.text.now c.requires.held),
-  λ v h. unseen_start c.args.text.now c.args.label.now v h c.if-text-ne82.false,
-)
 
 pub field_ends-ends-requires : goal.field_ends-ends-requires
 field_ends-ends-requires c =
