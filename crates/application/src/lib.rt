@@ -16,7 +16,7 @@ ghost use Rattle.application.specs.Applied.{lowered_to, applied_to};
 use amounts::Amount;
 use evaluated::Evaluated;
 use syntax::{Function, Operation};
-use values::Found;
+use text::Span;
 
 fn lower_text(text: &[u8], out: &mut [u8]) -> Evaluated
     requires { T (is_string text.now) × (32768 ≤ length out.old) }
@@ -31,17 +31,13 @@ fn lower_text(text: &[u8], out: &mut [u8]) -> Evaluated
 }
 
 // `tolower` of the string that was found in a value.
-pub fn lower(value: &[u8], found: Found, out: &mut [u8]) -> Evaluated
+pub fn lower(value: &[u8], found: Option<Span>, out: &mut [u8]) -> Evaluated
     requires { Placed value.now found × MaybeString (text_at value.now found) × (32768 ≤ length out.old) }
     ensures { Valued result (lowered_to (text_at value.now found)) out.new }
 {
     match found {
-        Found::At(s) => {
-            let a = s.start;
-            let b = s.end;
-            lower_text(&value[a..b], out)
-        }
-        Found::Missing => Evaluated::Missing,
+        Some(s) => lower_text(&value[s.start..s.end], out),
+        None => Evaluated::Missing,
     }
 }
 
@@ -130,24 +126,17 @@ fn call(f: Function, first: &[u8], second: &[u8], out: &mut [u8]) -> Evaluated
 pub fn apply(
     f: Function,
     first: &[u8],
-    a: Found,
+    a: Option<Span>,
     second: &[u8],
-    b: Found,
+    b: Option<Span>,
     out: &mut [u8],
 ) -> Evaluated
     requires placed { Placed first.now a × MaybeString (text_at first.now a) }
     requires placed_2 { Placed second.now b × MaybeString (text_at second.now b) × (32768 ≤ length out.old) }
     ensures { Valued result (applied_to (function_meant f) (text_at first.now a) (text_at second.now b)) out.new }
 {
-    let Found::At(s) = a else {
+    let (Some(s), Some(t)) = (a, b) else {
         return Evaluated::Missing;
     };
-    let Found::At(t) = b else {
-        return Evaluated::Missing;
-    };
-    let c = s.start;
-    let d = s.end;
-    let e = t.start;
-    let g = t.end;
-    call(f, &first[c..d], &second[e..g], out)
+    call(f, &first[s.start..s.end], &second[t.start..t.end], out)
 }

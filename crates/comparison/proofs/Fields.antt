@@ -17,7 +17,8 @@ use Rattle.language.proofs.Meaning.SameFields.{is_text, held_text}
 use Rattle.text.specs.Meaning.{is_not}
 use Rattle.values.specs.Places.{FieldAt, FieldsAt}
 use Rattle.values.specs.Answers.{EndsOf, text_at}
-use Rattle.values.specs.declared.Found.{Found}
+use Rattle.std.specs.Prelude.{Option as Answer}
+use Rattle.text.specs.declared.Span.{Span}
 use Rattle.values.proofs.Standing.{fields_valid, field_ends}
 use Rattle.values.proofs.Lines.{fields_head, fields_tail, nothing_here}
 use Rattle.comparison.specs.Records.{HoldsRecord}
@@ -33,9 +34,9 @@ pub record_labels : (t : Text) (fs : List Field) → HoldsRecord fs t → T (dis
 record_labels t fs h = (three (ltb 0 (length fs)) (all valid_field fs) (distinct (labels fs)) h.is_valid).2
 
 -- a field is held where the text found of its label is its text
-pub held_found : (t : Text) (fs : List Field) → HoldsRecord fs t → (g : Field) (r s : Found) → r ≡ s → text_at t r ≡ text_of fs g.label
-    → is_text (text_at t s) g.text ≡ any (same_field g) fs
-held_found t fs h g r s q e = ap (λ o. is_text o g.text) (ap (text_at t) (sym q) ∙ e) ∙ sym (held_text g fs (record_labels t fs h))
+pub held_found : (t : Text) (fs : List Field) → HoldsRecord fs t → (g : Field) (r : Answer Span) → text_at t r ≡ text_of fs g.label
+    → is_text (text_at t r) g.text ≡ any (same_field g) fs
+held_found t fs h g r e = ap (λ o. is_text o g.text) e ∙ sym (held_text g fs (record_labels t fs h))
 
 -- ---- a text is that of one record only
 

@@ -4,7 +4,7 @@ use mathlib.Core.Path.{◌≡◌, refl, sym, ap, ◌∙◌, subst}
 use Prim.Native.Nat.{ℕ, zero, suc, ◌+◌, ◌-◌, ◌≤◌, ◌<◌}
 use native.Mathlib.Omega.{arith}
 use native.Mathlib.Decide.{dec_le}
-use mathlib.Core.Bool.{true, false, not}
+use mathlib.Core.Bool.{true, not}
 use mathlib.Core.List.{List, [], ◌∷◌, ◌++◌, append-nil}
 use lib.Dec.{T, T_not, eqb, eqb_refl}
 use lib.ListN.{length, get_or, take, drop, length-append, take-append-drop, get_or-append}
@@ -33,9 +33,6 @@ head_length : (f : Field) → length (field_text f) ≡ length (field_head f) + 
 head_length f = omega (arith, field_length f, length-append f.label (9 ∷ f.text))
 
 -- ---- what the code has seen
-
-pub no_line : (t : Text) (at : ℕ) (l : Text) → false ≡ true → StandsAt t at l
-no_line t at l e = let z : ◌≡◌ {A = ℕ} 0 1 = cc in absurd (omega arith)
 
 pub line_there : (t : Text) (at : ℕ) (l : Text) → 0 < at → get_or t (at - 1) 0 ≡ 10 → at + length l ≤ length t → (take (at + length l - at) (drop at t) ≟ l) ≡ true → StandsAt t at l
 line_there t at l a b w e = record {

@@ -1,7 +1,7 @@
 // Whether two records kept as text are equal, in whatever order their fields are written (document 02, M-106).
 #![tactic(auto)]
 
-ghost use Rattle.std.specs.Prelude.{◌≡◌, true, List, ◌≤◌};
+ghost use Rattle.std.specs.Prelude.{◌≡◌, true, List};
 ghost use Rattle.language.specs.Text.{any};
 ghost use Rattle.language.specs.State.{Field};
 ghost use Rattle.language.specs.Functions.{same_field, holds_all, same_fields};
@@ -10,7 +10,7 @@ ghost use Rattle.comparison.specs.Records.{HoldsRecord, RecordText, LineOf, Some
 mod order;
 
 use text::same_bytes;
-use values::{Found, field_ends, field_in};
+use values::{field_ends, field_in};
 
 // Whether the record has a field of that label and that text.
 fn holds_field(first: &[u8], label: &[u8], text: &[u8]) -> bool
@@ -18,14 +18,9 @@ fn holds_field(first: &[u8], label: &[u8], text: &[u8]) -> bool
     ensures { (fs : List Field) → HoldsRecord fs first.now
         → result ≡ any (same_field (record { label = label.entry.now; text = text.now })) fs }
 {
-    let found = field_in(first, label);
-    match found {
-        Found::At(s) => {
-            let start = s.start;
-            let end = s.end;
-            same_bytes(&first[start..end], text)
-        }
-        Found::Missing => false,
+    match field_in(first, label) {
+        Some(s) => same_bytes(&first[s.start..s.end], text),
+        None => false,
     }
 }
 
@@ -33,48 +28,43 @@ fn holds_field(first: &[u8], label: &[u8], text: &[u8]) -> bool
 fn stands(text: &[u8], at: usize, line: &[u8]) -> bool
     ensures { result ≡ true → StandsAt text.now at line.now }
 {
-    if at == 0 {
-        return false;
-    }
-    if at > text.len() {
-        return false;
-    }
-    if text.len() - at < line.len() {
+    if at == 0 || at > text.len() || text.len() - at < line.len() {
         return false;
     }
     if text[at - 1] != b'\n' {
         return false;
     }
-    let end = at + line.len();
-    same_bytes(&text[at..end], line)
+    same_bytes(&text[at..at + line.len()], line)
 }
 
 // Whether the record has the field of that line. It is looked for where it should be, and then everywhere.
-fn holds_line(first: &[u8], places: &[u16; 4096], n: usize, line: &[u8]) -> bool
-    requires { RecordText first.now × (n ≤ 4096) × SomeLine line.now }
+fn holds_line(first: &[u8], places: &[u16], line: &[u8]) -> bool
+    requires { RecordText first.now × SomeLine line.now }
     ensures { (fs : List Field) (g : Field) → HoldsRecord fs first.now → LineOf g line.now → result ≡ any (same_field g) fs }
 {
-    let place = order::guess(first, places, n, line);
-    if stands(first, place, line) {
-        return true;
+    if let Some(place) = order::guess(first, places, line) {
+        if stands(first, place, line) {
+            return true;
+        }
     }
     let ends = field_ends(line, 0);
-    let to = ends.label;
-    let start = to + 1;
-    let end = ends.text;
-    holds_field(first, &line[2..to], &line[start..end])
+    holds_field(
+        first,
+        &line[2..ends.label],
+        &line[ends.label + 1..ends.text],
+    )
 }
 
 // Whether the first record has every field of the second. The places are those of the first one's lines.
-fn holds_lines(first: &[u8], places: &[u16; 4096], n: usize, second: &[u8]) -> bool
-    requires { RecordText first.now × (n ≤ 4096) × RecordText second.now }
+fn holds_lines(first: &[u8], places: &[u16], second: &[u8]) -> bool
+    requires { RecordText first.now × RecordText second.now }
     ensures { (fs gs : List Field) → HoldsRecord fs first.now → HoldsRecord gs second.now → result ≡ holds_all fs gs }
 {
-    let mut at: usize = 2;
+    let mut at = 2;
     while at < second.len() {
         let ends = field_ends(second, at);
         let next = ends.text + 1;
-        if !holds_line(first, places, n, &second[at..next]) {
+        if !holds_line(first, places, &second[at..next]) {
             return false;
         }
         at = next;
@@ -87,9 +77,9 @@ fn holds_all(first: &[u8], second: &[u8]) -> bool
     requires { RecordText first.now × RecordText second.now }
     ensures { (fs gs : List Field) → HoldsRecord fs first.now → HoldsRecord gs second.now → result ≡ holds_all fs gs }
 {
-    let mut places: [u16; 4096] = [0; 4096];
-    let n = order::lines_of(first, &mut places);
-    holds_lines(first, &places, n, second)
+    let mut places = [0; 4096];
+    let places = order::lines_of(first, &mut places);
+    holds_lines(first, places, second)
 }
 
 // Whether two records have the same labels with the same texts, in whatever order. The same fields make up texts of the same length, and

@@ -1,24 +1,19 @@
 -- What an operand's kind says of the element that it is.
 -- Assumes nothing.
-use mathlib.Core.Path.{◌≡◌, refl, sym, ap, ◌∙◌}
-use Prim.Native.Nat.{ℕ, ◌-◌}
+use mathlib.Core.Path.{◌≡◌, refl, sym, ap}
+use Prim.Native.Nat.{ℕ}
 use native.Mathlib.Omega.{arith}
 use mathlib.Core.Bool.{true, false}
 use mathlib.Core.Option.{Option, none, some}
-use lib.ListN.{length, drop, length-drop}
-use lib.Seq.{length-take-le}
 use Rattle.language.specs.Text.{Text}
 use Rattle.language.specs.State.{Element, string, fields, Value, single, list}
-use Rattle.language.specs.Weight.{element_weight}
 use Rattle.language.specs.Values.{as_string, as_element}
 use Rattle.language.proofs.Logic.Lists.{some_same}
 use Rattle.text.specs.declared.Span.{Span}
 use Rattle.text.specs.Meaning.{part}
-use Rattle.values.specs.Encoding.{Holds}
 use Rattle.values.specs.Answers.{kind_of, text_at, Placed}
-use Rattle.values.specs.declared.Found.{Found}
-use Rattle.values.specs.declared.Found.TheVariants.{At, Missing}
-use Rattle.values.specs.declared.Kind.TheVariants.{Text as IsText, Record as IsRecord, List as IsList}
+use Rattle.std.specs.Prelude.{Option as Answer, Some, None}
+use Rattle.values.specs.declared.Kind.TheVariants.{Text as IsText, List as IsList}
 use Rattle.equality.specs.declared.Compared.{Compared}
 use Rattle.equality.specs.declared.Compared.TheVariants as Is
 use Rattle.equality.specs.Elements.{ElementIn, is_element, found_as, string_element}
@@ -56,34 +51,21 @@ module _ (e : Element) (u : Text) where
   pub is_none : {A : Type 0} → ElementIn (some e) u Is.No → A
   is_none h = absurd (let z : ◌≡◌ {A = ℕ} 0 1 = cc in omega arith)
 
-  pub text_weight : (s : Span) → ElementIn (some e) u (Is.Text s) → s.end - s.start ≡ element_weight e
-  text_weight s h =
-      let l : length (part u s) ≡ s.end - s.start = length-take-le (s.end - s.start) (drop s.start u) (omega (arith, length-drop s.start u, h.1.0, h.1.1)) in
-      sym l ∙ ap element_weight (sym (is_text_lem s h))
-
 -- ---- of a value
 
 -- a string that was found
-pub found_element : (u : Text) (f : Found) (o : Option Text) → text_at u f ≡ o → Placed u f → ElementIn (string_element o) u (found_as f)
-found_element u (At s) o e h = (ap string_element (sym e), h)
-found_element u Missing o e h = ap string_element (sym e)
+pub found_element : (u : Text) (f : Answer Span) (o : Option Text) → text_at u f ≡ o → Placed u f → ElementIn (string_element o) u (found_as f)
+found_element u (Some s) o e h = (ap string_element (sym e), h)
+found_element u None o e h = ap string_element (sym e)
 
 module _ (v : Value) (u : Text) where
-  pub text_value : (f : Found) → IsText ≡ kind_of v → text_at u f ≡ as_string v → Placed u f → ElementIn (as_element v) u (found_as f)
+  pub text_value : (f : Answer Span) → IsText ≡ kind_of v → text_at u f ≡ as_string v → Placed u f → ElementIn (as_element v) u (found_as f)
   text_value f = go v
     where
       go : (v : Value) → IsText ≡ kind_of v → text_at u f ≡ as_string v → Placed u f → ElementIn (as_element v) u (found_as f)
       go (single (string t)) k e h = found_element u f (some t) e h
       go (single (fields fs)) k e h = absurd (let z : ◌≡◌ {A = ℕ} 0 1 = cc in omega arith)
       go (list es) k e h = absurd (let z : ◌≡◌ {A = ℕ} 0 1 = cc in omega arith)
-
-  pub record_value_lem : IsRecord ≡ kind_of v → Holds v u → ElementIn (as_element v) u Is.Record
-  record_value_lem = go v
-    where
-      go : (v : Value) → IsRecord ≡ kind_of v → Holds v u → ElementIn (as_element v) u Is.Record
-      go (single (string t)) k h = absurd (let z : ◌≡◌ {A = ℕ} 0 1 = cc in omega arith)
-      go (single (fields fs)) k h = record { fields_in = fs; is_record = refl; held = h }
-      go (list es) k h = absurd (let z : ◌≡◌ {A = ℕ} 0 1 = cc in omega arith)
 
   pub list_value : IsList ≡ kind_of v → ElementIn (as_element v) u Is.No
   list_value = go v

@@ -1,5 +1,5 @@
 -- Request M-106: the strings and records that are compared, and what a comparison comes to by them.
-use Rattle.std.specs.Prelude.{◌≡◌, Bool, true, false, List, [], ◌∷◌}
+use Rattle.std.specs.Prelude.{◌≡◌, Bool, true, false, Option as Answer, Some, None, List, [], ◌∷◌}
 use Rattle.std.proofs.Math.Option.{Option, none, some}
 use Rattle.language.specs.Text.{Text, ◌>>=◌}
 use Rattle.language.specs.Syntax.{Comparison}
@@ -9,8 +9,7 @@ use Rattle.language.specs.Values.{as_element}
 use Rattle.language.specs.Functions.{holds, answer}
 use Rattle.language.specs.Expressions.{weighed}
 use Rattle.text.specs.Meaning.{part, Within}
-use Rattle.values.specs.declared.Found.{Found}
-use Rattle.values.specs.declared.Found.TheVariants.{At, Missing}
+use Rattle.text.specs.declared.Span.{Span}
 use Rattle.comparison.specs.Records.{HoldsRecord}
 use Rattle.equality.specs.declared.Compared.{Compared}
 use Rattle.equality.specs.declared.Compared.TheVariants as Is
@@ -36,9 +35,9 @@ is_element (Is.Text s) = true
 is_element Is.Record = true
 is_element Is.No = false
 
-abbrev pub found_as : Found → Compared
-found_as (At s) = Is.Text s
-found_as Missing = Is.No
+abbrev pub found_as : Answer Span → Compared
+found_as (Some s) = Is.Text s
+found_as None = Is.No
 
 -- the element that a value is, where it is one
 abbrev pub element_of : Option Value → Option Element

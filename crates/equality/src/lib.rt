@@ -19,7 +19,7 @@ use comparison::same_record;
 use evaluated::Evaluated;
 use syntax::Comparison;
 use text::{Span, same_bytes};
-use values::{Found, Kind};
+use values::Kind;
 
 // What an operand is to a comparison: a string, which stands at a place of its source; a record, whose text the source is; or neither,
 // since it has no value or is a list.
@@ -31,12 +31,12 @@ pub enum Compared {
 }
 
 // The string that was found, or none.
-pub fn text_found(found: Found) -> Compared
+pub fn text_found(found: Option<Span>) -> Compared
     ensures { result ≡ found_as found }
 {
     match found {
-        Found::At(s) => Compared::Text(s),
-        Found::Missing => Compared::No,
+        Some(s) => Compared::Text(s),
+        None => Compared::No,
     }
 }
 
@@ -45,12 +45,8 @@ pub fn element_in(value: &[u8]) -> Compared
     requires { ValueText value.now }
     ensures { (v : Value) → Holds v value.now → ElementIn (as_element v) value.now result }
 {
-    let kind = values::kind_of(value);
-    match kind {
-        Kind::Text => {
-            let found = values::string_in(value);
-            text_found(found)
-        }
+    match values::kind_of(value) {
+        Kind::Text => text_found(values::string_in(value)),
         Kind::Record => Compared::Record,
         Kind::List => Compared::No,
     }
@@ -59,11 +55,7 @@ pub fn element_in(value: &[u8]) -> Compared
 fn is_element(k: Compared) -> bool
     ensures { result ≡ is_element k }
 {
-    match k {
-        Compared::Text(_) => true,
-        Compared::Record => true,
-        Compared::No => false,
-    }
+    !matches!(k, Compared::No)
 }
 
 fn weight_of(source: &[u8], k: Compared) -> usize
@@ -71,11 +63,7 @@ fn weight_of(source: &[u8], k: Compared) -> usize
     ensures { (e : Element) → ElementIn (some e) source.now k → result ≡ element_weight e }
 {
     match k {
-        Compared::Text(s) => {
-            let start = s.start;
-            let end = s.end;
-            end - start
-        }
+        Compared::Text(s) => s.end - s.start,
         Compared::Record => values::weigh(source),
         Compared::No => 0,
     }
@@ -87,13 +75,8 @@ fn same_text(text: &[u8], second: &[u8], b: Compared) -> bool
     ensures { (d : Element) → ElementIn (some d) second.now b → result ≡ Functions.same_element (string text.now) d }
 {
     match b {
-        Compared::Text(s) => {
-            let start = s.start;
-            let end = s.end;
-            same_bytes(text, &second[start..end])
-        }
-        Compared::Record => false,
-        Compared::No => false,
+        Compared::Text(s) => same_bytes(text, &second[s.start..s.end]),
+        Compared::Record | Compared::No => false,
     }
 }
 
@@ -115,11 +98,7 @@ fn same_element(first: &[u8], a: Compared, second: &[u8], b: Compared) -> bool
     ensures { (e d : Element) → ElementIn (some e) first.now a → ElementIn (some d) second.now b → result ≡ Functions.same_element e d }
 {
     match a {
-        Compared::Text(s) => {
-            let start = s.start;
-            let end = s.end;
-            same_text(&first[start..end], second, b)
-        }
+        Compared::Text(s) => same_text(&first[s.start..s.end], second, b),
         Compared::Record => same_fields(first, second, b),
         Compared::No => false,
     }

@@ -11,7 +11,8 @@ use Rattle.language.specs.Values.{Session, as_element, lookup, operand_value}
 use Rattle.language.specs.Functions.{compared}
 use Rattle.language.specs.Expressions.{weighed, term_value}
 use Rattle.values.specs.Answers.{text_at, Placed}
-use Rattle.values.specs.declared.Found.{Found}
+use Rattle.std.specs.Prelude.{Option as Answer}
+use Rattle.text.specs.declared.Span.{Span}
 use Rattle.evaluated.specs.Results.{field_in, string_value}
 use Rattle.equality.specs.Elements.{ElementIn, found_as, element_of, string_element, compared_to}
 use Rattle.equality.proofs.Said.{found_element}
@@ -32,7 +33,7 @@ compare_is s c o p = go (operand_value s o) (operand_value s p)
     go (some v) (some w) = compare_value c v w
 
 -- a field that was found in the value of a name, or was not
-pub dot_element : (s : Session) (x y : Name) (u : Text) (f : Found) → text_at u f ≡ field_in (lookup s x) y → Placed u f → ElementIn (element_of (operand_value s (dot x y))) u (found_as f)
+pub dot_element : (s : Session) (x y : Name) (u : Text) (f : Answer Span) → text_at u f ≡ field_in (lookup s x) y → Placed u f → ElementIn (element_of (operand_value s (dot x y))) u (found_as f)
 dot_element s x y u f e h =
     subst (λ o. ElementIn o u (found_as f)) (go (field_in (lookup s x) y) ∙ ap element_of (dot_value s x y)) (found_element u f (field_in (lookup s x) y) e h)
   where

@@ -7,7 +7,7 @@ use mathlib.Core.Bool.{Bool, true, false, not}
 use mathlib.Core.Option.{Option, none, some}
 use mathlib.Core.List.{List, [], ◌∷◌, ◌++◌}
 use lib.Dec.{T}
-use lib.ListN.{length, take, drop, set, length-append, length-map, length-take, length-drop}
+use lib.ListN.{length, take, drop, set, length-append, length-map, length-drop}
 use lib.Seq.{length-take-le, drop-append-le}
 use Rattle.language.specs.Text.{Text, all, sum, member, distinct}
 use Rattle.language.specs.Syntax.{Name}
@@ -22,13 +22,11 @@ use Rattle.text.specs.Parts.{part}
 use Rattle.store.specs.Rows.{Row, Rows, row_text, row_names}
 use Rattle.splice.proofs.Splicing.{part_take}
 use Rattle.value_text.specs.Writing.{Written}
-use Rattle.values.specs.Answers.{text_at}
-use Rattle.values.specs.declared.Found.{Found}
+use Rattle.std.specs.Prelude.{Option as Answer}
 use Rattle.value_text.proofs.Pieces.{written_take, written_length}
 use Rattle.values.proofs.Texts.{record_field}
 use Rattle.values.proofs.Lines.{field_length}
 use Rattle.evaluate.specs.Drafts.{spelling, Drafted, Extends}
-use Rattle.evaluate.specs.declared.draft.Added.{Added}
 use Rattle.evaluate.specs.declared.draft.Draft.{Draft}
 use Rattle.evaluate.proofs.Labels.{row_added}
 use Rattle.language.proofs.Logic.Lists.{map_last}
@@ -189,12 +187,5 @@ first_line out after slots n W =
 
 -- ---- a text that was found
 
-pub part_short : (t : Text) (n k : ℕ) → length t ≤ places → length (take n (drop k t)) ≤ places
-part_short t n k h = omega (arith, length-take n (drop k t), length-drop k t)
-
-pub extends_as : (fs : List Field) (x : Name) (t : Text) (r : Added) (out : Text) (slots : List ℕ) {f g : Found} → f ≡ g
-    → Extends fs x (text_at t g) r out slots → Extends fs x (text_at t f) r out slots
-extends_as fs x t r out slots e h = subst (λ (f : Found). Extends fs x (text_at t f) r out slots) (sym e) h
-
-pub extends_by : (fs : List Field) (x : Name) (r : Added) (out : Text) (slots : List ℕ) {o p : Option Text} → o ≡ p → Extends fs x o r out slots → Extends fs x p r out slots
+pub extends_by : (fs : List Field) (x : Name) (r : Answer Draft) (out : Text) (slots : List ℕ) {o p : Option Text} → o ≡ p → Extends fs x o r out slots → Extends fs x p r out slots
 extends_by fs x r out slots e h = subst (λ (o : Option Text). Extends fs x o r out slots) e h

@@ -23,7 +23,7 @@ use Rattle.evaluated.specs.Weighed.{by_weight}
 use Rattle.evaluated.specs.Results.{string_in, Written}
 use Rattle.evaluate.specs.Drafts.{spelling, Drafted, Extends}
 use Rattle.evaluate.specs.declared.draft.Draft.{Draft}
-use Rattle.evaluate.specs.declared.draft.Added.TheVariants as Is
+use Rattle.std.specs.Prelude.{Some, None}
 use Rattle.evaluated.proofs.Weighing.{weighed_light, weighed_heavy}
 use Rattle.evaluate.proofs.Spelling.{room_of}
 use Rattle.language.proofs.Logic.Lists.{map_append}
@@ -103,10 +103,10 @@ module _ (s : Session) (fs : List Field) (b : Binding) (bs : List Binding) (us :
       go (some gs) = ap (λ (c : Bool). when◌then◌else◌ {A = Option Value} c (some (single (fields ((fs ++ (f ∷ [])) ++ gs)))) none) (never gs)
 
   -- what adding the field says of the whole
-  pub not_added : (out : Text) (slots : List ℕ) → Extends fs b.label (string_in (operand_value s b.operand)) Is.No out slots → finish s fs (some (b ∷ bs, us)) ≡ none
+  pub not_added : (out : Text) (slots : List ℕ) → Extends fs b.label (string_in (operand_value s b.operand)) None out slots → finish s fs (some (b ∷ bs, us)) ≡ none
   not_added out slots x = go (string_in (operand_value s b.operand)) refl x
     where
-      go : (o : Option Text) → string_in (operand_value s b.operand) ≡ o → Extends fs b.label o Is.No out slots → finish s fs (some (b ∷ bs, us)) ≡ none
+      go : (o : Option Text) → string_in (operand_value s b.operand) ≡ o → Extends fs b.label o None out slots → finish s fs (some (b ∷ bs, us)) ≡ none
       go none e x = field_none e
       go (some t) e x = field_twice t e x
 
@@ -115,10 +115,10 @@ module _ (s : Session) (fs : List Field) (b : Binding) (bs : List Binding) (us :
     pub drafted : Drafted (fs ++ (record { label = b.label; text = text } ∷ [])) out slots d
     pub goes_on : finish s fs (some (b ∷ bs, us)) ≡ finish s (fs ++ (record { label = b.label; text = text } ∷ [])) (some (bs, us))
 
-  pub was_added : (out : Text) (slots : List ℕ) (d : Draft) → Extends fs b.label (string_in (operand_value s b.operand)) (Is.Done d) out slots → Further out slots d
+  pub was_added : (out : Text) (slots : List ℕ) (d : Draft) → Extends fs b.label (string_in (operand_value s b.operand)) (Some d) out slots → Further out slots d
   was_added out slots d x = go (string_in (operand_value s b.operand)) refl x
     where
-      go : (o : Option Text) → string_in (operand_value s b.operand) ≡ o → Extends fs b.label o (Is.Done d) out slots → Further out slots d
+      go : (o : Option Text) → string_in (operand_value s b.operand) ≡ o → Extends fs b.label o (Some d) out slots → Further out slots d
       go none e x = absurd x
       go (some t) e x = record { text = t; drafted = x; goes_on = field_next t e }
 

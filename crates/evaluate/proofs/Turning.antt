@@ -20,7 +20,7 @@ use Rattle.syntax.specs.Values.{record_at, with_field, SomeRecord}
 use Rattle.evaluated.specs.Results.{string_in}
 use Rattle.evaluate.specs.Drafts.{spelling, Drafted, SomeDraft, Extends}
 use Rattle.evaluate.specs.declared.draft.Draft.{Draft}
-use Rattle.evaluate.specs.declared.draft.Added.TheVariants as Is
+use Rattle.std.specs.Prelude.{Some, None}
 use Rattle.evaluate.proofs.Drafting.{sum_last}
 use Rattle.evaluate.proofs.Spelling.{room_of, record_room}
 use Rattle.evaluate.proofs.Fieldwise.{finish, Going, not_added, Further, was_added, all_read}
@@ -72,10 +72,10 @@ module _ (s : Session) (t : Text) (at p : ℕ) (out : Text) (slots : List ℕ) (
   rest_is = G.total ∙ ap (finish s G.written) G.here ∙ ap (λ (l : List Binding). finish s G.written (some (l, G.others))) N.is_rest
 
   module _ (out' : Text) (slots' : List ℕ) where
-    pub ends : Extends G.written b.label (string_in (operand_value s b.operand)) Is.No out' slots' → finish s [] (record_at t at) ≡ none
+    pub ends : Extends G.written b.label (string_in (operand_value s b.operand)) None out' slots' → finish s [] (record_at t at) ≡ none
     ends x = rest_is ∙ not_added s G.written b N.after G.others out' slots' x
 
-    module _ (d' : Draft) (x : Extends G.written b.label (string_in (operand_value s b.operand)) (Is.Done d') out' slots') where
+    module _ (d' : Draft) (x : Extends G.written b.label (string_in (operand_value s b.operand)) (Some d') out' slots') where
       F : Further s G.written b N.after G.others out' slots' d'
       F = was_added s G.written b N.after G.others out' slots' d' x
 

@@ -1,5 +1,5 @@
 -- A record that is written field by field. Its fields are rows of text with slots, so that a label is looked for as a name is.
-use Rattle.std.specs.Prelude.{◌≡◌, ℕ, ◌+◌, ◌*◌, ◌≤◌, List, [], ◌∷◌, ◌++◌, T, length, take}
+use Rattle.std.specs.Prelude.{Option as Answer, Some, None, ◌≡◌, ℕ, ◌+◌, ◌*◌, ◌≤◌, List, [], ◌∷◌, ◌++◌, T, length, take}
 use Rattle.std.proofs.Math.Option.{Option, none, some}
 use Rattle.language.specs.Text.{Text, all, sum, member, distinct}
 use Rattle.language.specs.Syntax.{Name}
@@ -13,8 +13,6 @@ use Rattle.store.specs.Held.{places}
 use Rattle.text.specs.Parts.{part}
 use Rattle.store.specs.Rows.{Row, Rows, row_names}
 use Rattle.evaluate.specs.declared.draft.Draft.{Draft}
-use Rattle.evaluate.specs.declared.draft.Added.{Added}
-use Rattle.evaluate.specs.declared.draft.Added.TheVariants as Is
 
 -- the bytes that fields take in a program at the least: each has its label, an equals sign, a value, and a comma or a brace
 abbrev pub spelling : List Field → ℕ
@@ -49,8 +47,8 @@ pub record Lent (out : Text) (slots : List ℕ) : Type 0 where
   pub slots_size : 4096 ≤ length slots
 
 -- what becomes of the fields fs when one is added, whose text is o where it has one
-abbrev pub Extends : List Field → Name → Option Text → Added → Text → List ℕ → Type 0
-Extends fs x (some t) (Is.Done d) out slots = Drafted (fs ++ (record { label = x; text = t } ∷ [])) out slots d
-Extends fs x (some t) Is.No out slots = T (member x (labels fs))
-Extends fs x none (Is.Done d) out slots = ⊥
-Extends fs x none Is.No out slots = Unit {0}
+abbrev pub Extends : List Field → Name → Option Text → Answer Draft → Text → List ℕ → Type 0
+Extends fs x (some t) (Some d) out slots = Drafted (fs ++ (record { label = x; text = t } ∷ [])) out slots d
+Extends fs x (some t) None out slots = T (member x (labels fs))
+Extends fs x none (Some d) out slots = ⊥
+Extends fs x none None out slots = Unit {0}

@@ -12,7 +12,7 @@ ghost use Rattle.values.specs.Answers.{text_at, Placed};
 ghost use Rattle.evaluated.specs.Results.{MaybeString};
 ghost use Rattle.evaluate.specs.Drafts.{Drafted, SomeDraft, Lent, Extends, spelling};
 
-use values::Found;
+use text::Span;
 
 // How far a record is written, how many fields it has, and what they weigh. Of fields that are too heavy only the labels are written.
 #[derive(Clone, Copy)]
@@ -20,12 +20,6 @@ pub struct Draft {
     pub end: usize,
     pub count: usize,
     pub weight: usize,
-}
-
-#[derive(Clone, Copy)]
-pub enum Added {
-    Done(Draft),
-    No,
 }
 
 // A record without fields.
@@ -67,8 +61,8 @@ fn slot_of(label: &[u8], at: usize) -> u32
     store::index::hash(label) * 131072 + at as u32
 }
 
-// Adds a field, unless its label is there already.
-fn add(out: &mut [u8], slots: &mut [u32], d: Draft, label: &[u8], text: &[u8]) -> Added
+// Adds a field, unless its label is there already: then there is none.
+fn add(out: &mut [u8], slots: &mut [u32], d: Draft, label: &[u8], text: &[u8]) -> Option<Draft>
     requires lent { Lent out.old slots.old × SomeDraft out.old slots.old d label.now }
     requires t { T (is_string text.now) × (length text.now ≤ places) }
     ensures { (fs : List Field) → Drafted fs out.old slots.old d → spelling fs + length label.now + 3 ≤ longest
@@ -77,20 +71,20 @@ fn add(out: &mut [u8], slots: &mut [u32], d: Draft, label: &[u8], text: &[u8]) -
     let end = d.end;
     let count = d.count;
     if !is_new(&out[2..end], &slots[0..count], count, label) {
-        return Added::No;
+        return None;
     }
     slots[count] = slot_of(label, end - 2);
     let weight = d.weight + 1 + label.len() + text.len();
     if 8192 < weight {
         let next = put_label(out, end, label);
-        return Added::Done(Draft {
+        return Some(Draft {
             end: next,
             count: count + 1,
             weight,
         });
     }
     let next = value_text::put_field(out, end, label, text);
-    Added::Done(Draft {
+    Some(Draft {
         end: next,
         count: count + 1,
         weight,
@@ -104,19 +98,15 @@ pub fn add_found(
     d: Draft,
     label: &[u8],
     value: &[u8],
-    found: Found,
-) -> Added
+    found: Option<Span>,
+) -> Option<Draft>
     requires lent { Lent out.old slots.old × SomeDraft out.old slots.old d label.now }
     requires placed { Placed value.now found × MaybeString (text_at value.now found) × (length value.now ≤ places) }
     ensures { (fs : List Field) → Drafted fs out.old slots.old d → spelling fs + length label.now + 3 ≤ longest
         → Extends fs label.now (text_at value.now found) result out.new slots.new }
 {
     match found {
-        Found::At(s) => {
-            let a = s.start;
-            let b = s.end;
-            add(out, slots, d, label, &value[a..b])
-        }
-        Found::Missing => Added::No,
+        Some(s) => add(out, slots, d, label, &value[s.start..s.end]),
+        None => None,
     }
 }

@@ -13,28 +13,28 @@ ghost use Rattle.evaluated.specs.Results.{Valued, string_in, field_in, string_va
 
 use evaluated::Evaluated;
 use syntax::Operand;
-use values::Found;
+use text::Span;
 
 // The string that a name's value is.
-pub fn string_of(value: &[u8]) -> Found
+pub fn string_of(value: &[u8]) -> Option<Span>
     requires { SomeRead value.now }
     ensures meant { (o : Option Value) → ReadAs o value.now → text_at value.now result ≡ string_in o }
     ensures placed { Placed value.now result }
 {
     if value.len() == 0 {
-        return Found::Missing;
+        return None;
     }
     values::string_in(value)
 }
 
 // The string that a field of a name's value is.
-pub fn field_of(value: &[u8], label: &[u8]) -> Found
+pub fn field_of(value: &[u8], label: &[u8]) -> Option<Span>
     requires { SomeRead value.now }
     ensures meant { (o : Option Value) → ReadAs o value.now → text_at value.now result ≡ field_in o label.now }
     ensures placed { Placed value.now result }
 {
     if value.len() == 0 {
-        return Found::Missing;
+        return None;
     }
     values::field_in(value, label)
 }
@@ -69,17 +69,13 @@ fn put_text(text: &[u8], out: &mut [u8]) -> Evaluated
 }
 
 // Writes the string that was found in a name's value.
-fn put_found(value: &[u8], found: Found, out: &mut [u8]) -> Evaluated
+fn put_found(value: &[u8], found: Option<Span>, out: &mut [u8]) -> Evaluated
     requires { Placed value.now found × MaybeString (text_at value.now found) × (32768 ≤ length out.old) }
     ensures { Valued result (by_weight (string_value (text_at value.now found))) out.new }
 {
     match found {
-        Found::At(s) => {
-            let a = s.start;
-            let b = s.end;
-            put_text(&value[a..b], out)
-        }
-        Found::Missing => Evaluated::Missing,
+        Some(s) => put_text(&value[s.start..s.end], out),
+        None => Evaluated::Missing,
     }
 }
 

@@ -18,7 +18,7 @@ ghost use Rattle.evaluated.specs.Weighed.{by_weight};
 ghost use Rattle.evaluated.specs.Results.{Valued, string_in};
 ghost use Rattle.evaluate.specs.Drafts.{Drafted, SomeDraft, Lent, Extends, spelling};
 
-use crate::draft::{Added, Draft};
+use crate::draft::Draft;
 use crate::source::{source, string_in};
 use evaluated::Evaluated;
 use syntax::{FieldRead, Operand};
@@ -38,7 +38,7 @@ fn add_field<'a>(
     out: &mut [u8],
     labels: &mut [u32],
     d: Draft,
-) -> Added
+) -> Option<Draft>
     requires some_scope { SomeScope shared.now slots.now count locals.now lslots.now lcount }
     requires within { Within text.now x × OperandWithin text.now v × T (valid_operand (operand_meant text.now v)) × (length text.now ≤ longest) }
     requires lent { Lent out.old labels.old × SomeDraft out.old labels.old d (part text.now x) }
@@ -93,7 +93,7 @@ pub fn put_fields<'a>(
         let added = add_field(
             shared, slots, count, locals, lslots, lcount, text, x, v, out, labels, d,
         );
-        let Added::Done(next) = added else {
+        let Some(next) = added else {
             return Evaluated::Missing;
         };
         if !more {

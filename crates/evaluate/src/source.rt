@@ -7,7 +7,7 @@ ghost use Rattle.evaluated.specs.Results.{string_in};
 ghost use Rattle.scopes.specs.Scopes.{Scope, SomeScope, SourceOf, SomeSource};
 
 use syntax::Operand;
-use values::Found;
+use text::Span;
 
 // What an operand is looked for in.
 pub fn source<'a>(
@@ -40,7 +40,7 @@ pub fn source<'a>(
 }
 
 // The string that an operand is, in what it is looked for in.
-pub fn string_in(source: &[u8], text: &[u8], v: Operand) -> Found
+pub fn string_in(source: &[u8], text: &[u8], v: Operand) -> Option<Span>
     requires { SomeSource text.now v source.now × OperandWithin text.now v }
     ensures meant { (s : Session) → SourceOf s text.now v source.now
         → text_at source.now result ≡ string_in (operand_value s (operand_meant text.now v)) }
@@ -53,6 +53,6 @@ pub fn string_in(source: &[u8], text: &[u8], v: Operand) -> Found
             let b = y.end;
             crate::operand::field_of(source, &text[a..b])
         }
-        Operand::Quoted(q) => Found::At(q),
+        Operand::Quoted(q) => Some(q),
     }
 }

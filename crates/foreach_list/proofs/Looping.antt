@@ -22,7 +22,7 @@ use Rattle.syntax.specs.declared.Expr.TheVariants as ExprOf
 use Rattle.permits.specs.Permits.{unread}
 use Rattle.values.specs.Places.{Elements, SomeElements}
 use Rattle.values.specs.Answers.{Nexts}
-use Rattle.values.specs.declared.Next.TheVariants as NextIs
+use Rattle.std.specs.Prelude.{None}
 use Rattle.values.proofs.Listing.{Stepped, at_end}
 use Rattle.lets.specs.Reaching.{texts, stack}
 use Rattle.foreach_piece.specs.declared.Draft.{Draft}
@@ -76,7 +76,7 @@ module _ (w : Way) (s : Session) (y : Name) (x : Syntax.Expr) (es : List Element
     pub some_so_far : SomeMade AsList out m
     some_so_far = record { session = s; names = names_for_each s y x R.gone; outcome = throughout (made w s y x) R.gone; made_of = R.so_far }
 
-    pub reached_end : Nexts t at R.rest NextIs.End → MadeOf AsList m s (names_for_each s y x es) (throughout (made w s y x) es) out
+    pub reached_end : Nexts t at R.rest None → MadeOf AsList m s (names_for_each s y x es) (throughout (made w s y x) es) out
     reached_end n =
         let q : R.gone ≡ es = sym (R.are ∙ ap (λ (l : List Element). R.gone ++ l) (at_end t at R.rest n) ∙ append-nil R.gone) in
         subst (λ (l : List Element). MadeOf AsList m s (names_for_each s y x l) (throughout (made w s y x) l) out) q R.so_far

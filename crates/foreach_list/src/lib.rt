@@ -22,7 +22,6 @@ use foreach_piece::{Draft, Made, Way};
 use permits::Known;
 use syntax::Expr;
 use text::Span;
-use values::Next;
 
 // A list without elements.
 fn start(out: &mut [u8]) -> Draft
@@ -125,13 +124,7 @@ pub fn make_all<'a>(
 {
     let mut at = values::first_element(elements);
     let mut so_far = Made::Done(start(out));
-    loop {
-        let next = values::next_element(elements, at);
-        let Next::Element(s) = next else {
-            return so_far;
-        };
-        let a = s.start;
-        let b = s.end;
+    while let Some(s) = values::next_element(elements, at) {
         let one = turn(
             shared,
             slots,
@@ -149,7 +142,7 @@ pub fn make_all<'a>(
             e,
             known,
             way,
-            &elements[a..b],
+            &elements[s.start..s.end],
             heads,
             lens,
             counts,
@@ -161,6 +154,7 @@ pub fn make_all<'a>(
         if is_over(so_far, known) {
             return so_far;
         }
-        at = b;
+        at = s.end;
     }
+    so_far
 }

@@ -25,13 +25,8 @@ use Rattle.values.proofs.Listing.{elements_head, elements_tail, starts_with}
 use Rattle.value_text.proofs.Pieces.{◌▸◌, rewritten}
 use Rattle.render.specs.Json.{linked, Renders}
 use Rattle.render.specs.declared.output.Moved.{Moved}
-use Rattle.render.proofs.Linking.{Linking, linking_start, linking_step, linking_done, linking_room, record_json, list_json}
+use Rattle.render.proofs.Linking.{Linking, linking_step, linking_done, linking_room, record_json, list_json}
 use Rattle.language.proofs.Parsing.Printing.{quote_length}
-
--- an element has a letter and a byte after it, at least
-pub element_within : (t : Text) (at : ℕ) (e : Element) (rest : Text) → ElementAt t at e rest → at + 2 ≤ length t
-element_within t at (string u) rest E = (past t at (83 ∷ 9 ∷ []) ((u ++ (10 ∷ [])) ++ rest) E.here).within
-element_within t at (fields fs) rest E = (past t at (82 ∷ 10 ∷ []) (joined field_text fs ++ rest) E.here).within
 
 -- ---- a string's line
 
@@ -59,11 +54,6 @@ module _ (t : Text) (at : ℕ) (e : Element) (rest : Text) (S : StringAt t at e 
 
   string_part : take (n - (at + 2)) (drop (at + 2) t) ≡ S.text
   string_part = part_is t (at + 2) n S.text (10 ∷ rest) S.here string_ends
-
-  pub string_within : n + 1 ≤ length t
-  string_within =
-      let h : Here t (at + 2 + length S.text + 1) rest = past t (at + 2 + length S.text) (10 ∷ []) rest (past t (at + 2) S.text (10 ∷ rest) S.here) in
-      omega (arith, h.within, string_ends)
 
   string_json : quote (take (n - (at + 2)) (drop (at + 2) t)) ≡ element_json e
   string_json = ap quote string_part ∙ ap element_json (sym S.is_element_lem)
@@ -122,10 +112,6 @@ pub record ElementsGoing (t : Text) (es : List Element) (before : Text) (o i p s
   pub left : List Element
   pub stand : Elements t i left
   pub linking : Linking element_json 91 es before o sep left p after
-
-pub elements_begin : (t : Text) (at : ℕ) (es : List Element) (before : Text) (o : ℕ) → o ≤ length before → Elements t at es
-    → ElementsGoing t es before o at o 91 before
-elements_begin t at es before o h E = record { left = es; stand = E; linking = linking_start element_json 91 es before o h }
 
 module _ (t : Text) (es : List Element) (before : Text) (o i p sep : ℕ) (after : Text) where
   pub elements_finish : ElementsGoing t es before o i p sep after → length t ≤ i → Written before o (linked element_json 91 es) p after

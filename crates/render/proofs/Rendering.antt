@@ -1,6 +1,6 @@
 -- What is read while JSON is written: the next field, the two sorts of element.
 -- Assumes nothing.
-use mathlib.Core.Path.{◌≡◌, refl, ap, ◌∙◌}
+use mathlib.Core.Path.{◌≡◌, ap, ◌∙◌}
 use Prim.Native.Nat.{ℕ, ◌+◌, ◌-◌, ◌≤◌, ◌<◌}
 use native.Mathlib.Omega.{arith}
 use mathlib.Core.List.{List, [], ◌∷◌, ◌++◌}
@@ -17,25 +17,11 @@ use Rattle.values.proofs.Lines.{fields_head, fields_tail, byte_here, no_line, fi
 use Rattle.value_text.proofs.Pieces.{rewritten}
 use Rattle.render.specs.Json.{linked, Renders}
 use Rattle.render.specs.declared.output.Moved.{Moved}
-use Rattle.render.proofs.Linking.{Linking, linking_start, linking_step, linking_done, linking_room, field_json_lem}
-use Rattle.language.proofs.Parsing.Printing.{quote_length}
+use Rattle.render.proofs.Linking.{Linking, linking_step, linking_done, linking_room, field_json_lem}
 
 -- ---- one field
 
 module _ (t : Text) (at : ℕ) (f : Field) (rest : Text) (r : Ends) (E : EndsOf t at f rest r) where
-  pub field_room : (o size : ℕ) → o + length (field_json f) ≤ size
-      → o + length (take (r.label - (at + 2)) (drop (at + 2) t)) + length (take (r.text - (r.label + 1)) (drop (r.label + 1) t)) + 5 ≤ size
-  field_room o size h =
-      omega (
-        arith,
-        ap length E.label_is,
-        ap length E.text_is,
-        ap length (field_json_lem f),
-        length-append (quote f.label) (58 ∷ quote f.text),
-        quote_length f.label,
-        quote_length f.text,
-      )
-
   pub field_renders : (before after : Text) (o p : ℕ)
       → Written before o (quote (take (r.label - (at + 2)) (drop (at + 2) t)) ++ ((58 ∷ []) ++ quote (take (r.text - (r.label + 1)) (drop (r.label + 1) t)))) p after
       → Renders at (length (field_text f)) before o (field_json f) (record { read = r.text + 1; wrote = p }) after
@@ -52,10 +38,6 @@ pub record FieldsGoing (t : Text) (at : ℕ) (fs : List Field) (rest : Text) (be
   pub stand : FieldsAt t i left rest
   pub total : i + length (joined field_text left) ≡ at + length (joined field_text fs)
   pub linking : Linking field_json 123 fs before o sep left p after
-
-pub fields_begin : (t : Text) (at : ℕ) (fs : List Field) (rest before : Text) (o : ℕ) → o ≤ length before → FieldsAt t at fs rest
-    → FieldsGoing t at fs rest before o at o 123 before
-fields_begin t at fs rest before o h F = record { left = fs; stand = F; total = refl; linking = linking_start field_json 123 fs before o h }
 
 module _ (t : Text) (at : ℕ) (fs : List Field) (rest before : Text) (o i p sep : ℕ) (after : Text) where
   pub fields_finish : FieldsGoing t at fs rest before o i p sep after → (i < length t → get_or t i 0 ≡ 70 → ⊥)

@@ -39,15 +39,11 @@ fn field_json(text: &[u8], at: usize, out: &mut [u8], o: usize) -> Moved
         → Renders at (length (field_text f)) out.old o (field_json f) result out.new }
 {
     let ends = field_ends(text, at);
-    let from = at + 2;
-    let to = ends.label;
-    let start = to + 1;
-    let end = ends.text;
-    let a = put_quoted(out, o, &text[from..to]);
+    let a = put_quoted(out, o, &text[at + 2..ends.label]);
     let b = put_byte(out, a, b':');
-    let c = put_quoted(out, b, &text[start..end]);
+    let c = put_quoted(out, b, &text[ends.label + 1..ends.text]);
     Moved {
-        read: end + 1,
+        read: ends.text + 1,
         wrote: c,
     }
 }
@@ -59,19 +55,13 @@ fn fields_json(text: &[u8], at: usize, out: &mut [u8], o: usize) -> Moved
         → Renders at (length (joined field_text fs)) out.old o (linked field_json 123 fs) result out.new }
 {
     let mut sep = b'{';
-    let mut i = at;
-    let mut p = o;
-    while i < text.len() {
-        if text[i] != b'F' {
-            return Moved { read: i, wrote: p };
-        }
-        let a = put_byte(out, p, sep);
-        let m = field_json(text, i, out, a);
-        i = m.read;
-        p = m.wrote;
+    let mut moved = Moved { read: at, wrote: o };
+    while moved.read < text.len() && text[moved.read] == b'F' {
+        let a = put_byte(out, moved.wrote, sep);
+        moved = field_json(text, moved.read, out, a);
         sep = b',';
     }
-    Moved { read: i, wrote: p }
+    moved
 }
 
 // The element whose first line starts at `at`.
@@ -81,19 +71,18 @@ fn element_json(text: &[u8], at: usize, out: &mut [u8], o: usize) -> Moved
         → Renders at (length (element_text e)) out.old o (element_json e) result out.new }
 {
     if text[at] == b'S' {
-        let from = at + 2;
-        let end = until(text, from, b'\n');
-        let p = put_quoted(out, o, &text[from..end]);
+        let end = until(text, at + 2, b'\n');
+        let wrote = put_quoted(out, o, &text[at + 2..end]);
         return Moved {
             read: end + 1,
-            wrote: p,
+            wrote,
         };
     }
     let m = fields_json(text, at + 2, out, o);
-    let p = put_byte(out, m.wrote, b'}');
+    let wrote = put_byte(out, m.wrote, b'}');
     Moved {
         read: m.read,
-        wrote: p,
+        wrote,
     }
 }
 
@@ -104,16 +93,13 @@ fn elements_json(text: &[u8], at: usize, out: &mut [u8], o: usize) -> usize
         → Written out.old o (linked element_json 91 es) result out.new }
 {
     let mut before = b'[';
-    let mut i = at;
-    let mut p = o;
-    while i < text.len() {
-        let a = put_byte(out, p, before);
-        let m = element_json(text, i, out, a);
-        i = m.read;
-        p = m.wrote;
+    let mut moved = Moved { read: at, wrote: o };
+    while moved.read < text.len() {
+        let a = put_byte(out, moved.wrote, before);
+        moved = element_json(text, moved.read, out, a);
         before = b',';
     }
-    p
+    moved.wrote
 }
 
 // A value's JSON, from `at` on; records in the order written.
@@ -122,8 +108,7 @@ fn json(value: &[u8], out: &mut [u8], at: usize) -> usize
     ensures { (v : S.Value) → Holds v value.now → Written out.old at (value_json v) result out.new }
 {
     if value[0] != b'L' {
-        let m = element_json(value, 0, out, at);
-        return m.wrote;
+        return element_json(value, 0, out, at).wrote;
     }
     if value.len() == 2 {
         return copy_in(out, at, b"[]");

@@ -2,7 +2,6 @@
 pub mod Texts
 pub mod Standing
 pub mod Lines
-pub mod FirstByte
 pub mod Searching
 pub mod Listing
 pub mod Weighing

@@ -7,17 +7,16 @@ use mathlib.Core.List.{List, [], ◌∷◌, ◌++◌, append_assoc}
 use lib.Dec.{T}
 use lib.ListN.{length, drop, length-append, length-drop}
 use Rattle.language.specs.Text.{Text, all, joined, front}
-use Rattle.language.specs.State.{Field, Element, string, fields, list}
+use Rattle.language.specs.State.{Field, Element, string, fields}
 use Rattle.language.specs.Encode.{field_text, element_text}
 use Rattle.language.specs.Valid.{valid_field, valid_element}
 use Rattle.language.proofs.Logic.Tests.{both}
 use Rattle.language.proofs.StateText.Lines.{Free}
 use Rattle.text.specs.Meaning.{is_not}
-use Rattle.values.specs.Encoding.{Holds}
 use Rattle.values.specs.Places.{Here, no_field, FieldsAt, ElementAt, Elements, SomeFields, SomeElement}
 use Rattle.text.specs.declared.Span.{Span}
 use Rattle.values.specs.Answers.{Taken, Nexts}
-use Rattle.values.specs.declared.Next.TheVariants as NextIs
+use Rattle.std.specs.Prelude.{Some, None}
 use Rattle.values.proofs.Standing.{stops, past, part_is, again, moved, free_newline, fields_valid}
 use Rattle.language.proofs.StateText.Clean.{string_clean}
 
@@ -78,12 +77,6 @@ no_field_lem [] = tt
 no_field_lem (string t ∷ es) = tt
 no_field_lem (fields fs ∷ es) = tt
 
-pub list_starts : (t : Text) (es : List Element) → Holds (list es) t → Elements t 2 es
-list_starts t es h = record {
-  are_valid = h.is_valid;
-  here = record { within = omega (arith, ap length h.is_text_lem); left = ap (drop 2) h.is_text_lem };
-}
-
 pub elements_head : (t : Text) (at : ℕ) (e : Element) (es : List Element) → Elements t at (e ∷ es) → ElementAt t at e (joined element_text es)
 elements_head t at e es E = record {
   is_valid = (both (valid_element e) (all valid_element es) E.are_valid).0;
@@ -108,12 +101,12 @@ pub some_element : (t : Text) (at : ℕ) (es : List Element) → Elements t at e
 some_element t at [] E n = absurd (let k : length (drop at t) ≡ 0 = ap length E.here.left in omega (arith, length-drop at t, k))
 some_element t at (e ∷ es) E n = record { element = e; rest = joined element_text es; stands = elements_head t at e es E }
 
-pub no_element : (t : Text) (at : ℕ) (es : List Element) → Elements t at es → length t ≤ at → Nexts t at es NextIs.End
+pub no_element : (t : Text) (at : ℕ) (es : List Element) → Elements t at es → length t ≤ at → Nexts t at es None
 no_element t at [] E n = tt
 no_element t at (e ∷ es) E n = let k : length (drop at t) ≡ length (joined element_text (e ∷ es)) = ap length E.here.left in omega (arith, length-drop at t, k, starts_with e es)
 
 pub an_element : (t : Text) (at : ℕ) (es : List Element) (r : ℕ) → Elements t at es → at < length t
-    → ((e : Element) (rest : Text) → ElementAt t at e rest → r ≡ at + length (element_text e)) → Nexts t at es (NextIs.Element (record { start = at; end = r }))
+    → ((e : Element) (rest : Text) → ElementAt t at e rest → r ≡ at + length (element_text e)) → Nexts t at es (Some (record { start = at; end = r }))
 an_element t at [] r E n f = let k : length (drop at t) ≡ 0 = ap length E.here.left in omega (arith, length-drop at t, k)
 an_element t at (e ∷ es) r E n f =
     let q : r ≡ at + length (element_text e) = f e (joined element_text es) (elements_head t at e es E) in
@@ -134,10 +127,10 @@ pub record Stepped (t : Text) (at : ℕ) (es : List Element) (s : Span) : Type 0
   pub elements_are : es ≡ element ∷ more
   pub taken : Taken t at element more s
 
-pub stepped : (t : Text) (at : ℕ) (es : List Element) (s : Span) → Nexts t at es (NextIs.Element s) → Stepped t at es s
+pub stepped : (t : Text) (at : ℕ) (es : List Element) (s : Span) → Nexts t at es (Some s) → Stepped t at es s
 stepped t at [] s n = absurd n
 stepped t at (e ∷ es) s n = record { element = e; more = es; elements_are = refl; taken = n }
 
-pub at_end : (t : Text) (at : ℕ) (es : List Element) → Nexts t at es NextIs.End → es ≡ []
+pub at_end : (t : Text) (at : ℕ) (es : List Element) → Nexts t at es None → es ≡ []
 at_end t at [] n = refl
 at_end t at (e ∷ es) n = absurd n

@@ -5,22 +5,17 @@ use Prim.Native.Nat.{ℕ, ◌+◌, ◌-◌, ◌≤◌, ◌<◌}
 use native.Mathlib.Omega.{arith}
 use mathlib.Core.Bool.{true, false}
 use mathlib.Core.Option.{none, some}
-use mathlib.Core.List.{List, [], ◌∷◌, ◌++◌, append-nil}
-use lib.Dec.{T}
-use lib.ListN.{length, get_or, take, drop, length-drop}
+use mathlib.Core.List.{List, [], ◌∷◌, ◌++◌}
+use lib.ListN.{length, take, drop, length-drop}
 use Rattle.language.specs.Text.{Text, when◌then◌else◌, ◌≟◌, joined}
 use Rattle.language.specs.Syntax.{Name}
-use Rattle.language.specs.State.{Field, string, fields, Value, single, list}
+use Rattle.language.specs.State.{Field, Value}
 use Rattle.language.specs.Values.{text_of}
-use Rattle.language.specs.Encode.{field_text, value_text}
-use Rattle.language.specs.Valid.{valid_value}
+use Rattle.language.specs.Encode.{field_text}
 use Rattle.text.specs.Meaning.{part}
-use Rattle.values.specs.Encoding.{Holds}
 use Rattle.values.specs.Places.{FieldAt, FieldsAt, SomeField}
 use Rattle.values.specs.Answers.{field_of, EndsOf}
 use Rattle.values.specs.declared.Ends.{Ends}
-use Rattle.values.proofs.Texts.{first_byte, first_is}
-use Rattle.values.proofs.Standing.{fields_valid}
 use Rattle.values.proofs.Lines.{fields_head, fields_tail, nothing_here, field_length}
 
 -- the fields that are still to be looked at, from place `at` on
@@ -28,31 +23,6 @@ pub record Unseen (t : Text) (y : Name) (v : Value) (at : ℕ) : Type 0 where
   pub left : List Field
   pub stand : FieldsAt t at left []
   pub answer : field_of v y ≡ text_of left y
-
-pub unseen_start : (t : Text) (y : Name) (v : Value) → Holds v t → get_or t 0 0 ≡ 82 → Unseen t y v 2
-unseen_start t y v h b = go v (sym (first_is v t h) ∙ b) h.is_valid h.is_text_lem
-  where
-    go : (v : Value) → first_byte v ≡ 82 → T (valid_value v) → t ≡ value_text v → Unseen t y v 2
-    go (single (string u)) e k q = absurd (omega arith)
-    go (single (fields fs)) e k q = record {
-      left = fs;
-      stand = record {
-        are_valid = fields_valid fs k;
-        here = record { within = omega (arith, ap length q); left = ap (drop 2) q ∙ sym (append-nil (joined field_text fs)) };
-        closed = tt;
-      };
-      answer = refl;
-    }
-    go (list es) e k q = absurd (omega arith)
-
--- no record has no field
-pub no_fields : (t : Text) (y : Name) (v : Value) → Holds v t → (get_or t 0 0 ≡ 82 → ⊥) → none ≡ field_of v y
-no_fields t y v h b = go v (first_is v t h)
-  where
-    go : (v : Value) → get_or t 0 0 ≡ first_byte v → none ≡ field_of v y
-    go (single (string u)) e = refl
-    go (single (fields fs)) e = absurd (b e)
-    go (list es) e = refl
 
 pub unseen_none : (t : Text) (y : Name) (v : Value) (at : ℕ) → Unseen t y v at → length t ≤ at → none ≡ field_of v y
 unseen_none t y v at U n = sym (U.answer ∙ go U.left U.stand)

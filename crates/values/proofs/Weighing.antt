@@ -1,14 +1,14 @@
 -- What a value weighs: its text's length without its tabs and newlines, less one.
 -- Assumes nothing.
+use Rattle.std.proofs.Common.{cond, ◌||◌, count_by}
+use Rattle.std.proofs.lemmas.List.Recursion.{is_count_by}
 use mathlib.Core.Path.{◌≡◌, refl, ap}
-use Prim.Native.Nat.{ℕ, ◌+◌, ◌<◌}
+use Prim.Native.Nat.{ℕ, ◌+◌}
 use native.Mathlib.Omega.{arith}
-use native.Mathlib.Numerals.{add-one}
 use mathlib.Core.Bool.{Bool, true, false, ◌&&◌, not}
 use mathlib.Core.List.{List, [], ◌∷◌, ◌++◌}
 use lib.Dec.{T, eqb}
-use lib.ListN.{length, get_or, drop, length-append}
-use lib.Seq.{drop-cons}
+use lib.ListN.{length, length-append}
 use Rattle.language.specs.Text.{Text, when◌then◌else◌, all, sum, joined}
 use Rattle.language.specs.State.{Field, Element, string, fields, Value, single, list}
 use Rattle.language.specs.Weight.{element_weight, value_weight}
@@ -17,7 +17,7 @@ use Rattle.language.specs.Valid.{valid_field, valid_element, valid_value}
 use Rattle.language.proofs.Logic.Tests.{both}
 use Rattle.language.proofs.StateText.Lines.{is_clean}
 use Rattle.values.specs.Encoding.{Holds}
-use Rattle.values.specs.Breaks.{break_of, breaks}
+use Rattle.values.specs.Breaks.{breaks}
 use Rattle.values.proofs.Standing.{label_clean, text_clean, fields_valid}
 use Rattle.language.proofs.StateText.Clean.{string_clean}
 
@@ -78,7 +78,12 @@ value_weighs (list es) h =
 pub weighed : (v : Value) (t : Text) → Holds v t → breaks t + 1 + value_weight v ≡ length t
 weighed v t h = omega (arith, value_weighs v h.is_valid, ap breaks h.is_text_lem, ap length h.is_text_lem)
 
--- ---- a turn of the loop that counts
+-- ---- the bytes that are counted
 
-pub break_step : (t : Text) (i : ℕ) → i < length t → breaks (drop i t) ≡ break_of (get_or t i 0) + breaks (drop (i + 1) t)
-break_step t i h = rw (add-one, drop-cons t i 0)
+pub counted : (t : Text) → breaks t ≡ count_by (λ b. eqb b 9 || eqb b 10) t
+counted = is_count_by breaks (λ b. eqb b 9 || eqb b 10) refl (λ b t. go (eqb b 9) (eqb b 10) (breaks t))
+  where
+    go : (c d : Bool) (n : ℕ) → (when c then 1 else when d then 1 else 0) + n ≡ cond (c || d) (1 + n) n
+    go true d n = refl
+    go false true n = refl
+    go false false n = omega arith

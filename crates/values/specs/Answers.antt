@@ -1,5 +1,6 @@
 -- What the answers about a value's text mean in the terms of document 01, "Values".
 use Rattle.std.specs.Prelude.{◌≡◌, ℕ, ◌+◌, ◌-◌, ◌≤◌, ◌<◌, List, [], ◌∷◌, length, take, drop}
+use Rattle.std.specs.Prelude.{Option as Answer, Some, None}
 use Rattle.std.proofs.Math.Option.{Option, none, some}
 use Rattle.language.specs.Text.{Text, ◌>>=◌}
 use Rattle.language.specs.Syntax.{Name}
@@ -11,10 +12,6 @@ use Rattle.values.specs.Encoding.{Holds}
 use Rattle.values.specs.Places.{Elements}
 use Rattle.values.specs.declared.Kind.{Kind}
 use Rattle.values.specs.declared.Kind.TheVariants.{Text as IsText, Record as IsRecord, List as IsList}
-use Rattle.values.specs.declared.Found.{Found}
-use Rattle.values.specs.declared.Found.TheVariants.{At, Missing}
-use Rattle.values.specs.declared.Next.{Next}
-use Rattle.values.specs.declared.Next.TheVariants as NextIs
 use Rattle.values.specs.declared.Ends.{Ends}
 
 abbrev pub kind_of : Value → Kind
@@ -23,13 +20,13 @@ kind_of (single (fields fs)) = IsRecord
 kind_of (list es) = IsList
 
 -- the text that was found
-abbrev pub text_at : Text → Found → Option Text
-text_at t (At s) = some (part t s)
-text_at t Missing = none
+abbrev pub text_at : Text → Answer Span → Option Text
+text_at t (Some s) = some (part t s)
+text_at t None = none
 
-abbrev pub Placed : Text → Found → Type 0
-Placed t (At s) = Within t s
-Placed t Missing = Unit
+abbrev pub Placed : Text → Answer Span → Type 0
+Placed t (Some s) = Within t s
+Placed t None = Unit
 
 -- the text of the field of that label: none where v is no record or has no such field
 abbrev pub field_of : Value → Name → Option Text
@@ -45,11 +42,11 @@ pub record Taken (t : Text) (at : ℕ) (e : Element) (es : List Element) (s : Sp
   pub held : Holds (single e) (part t s)
   pub others : Elements t s.end es
 
-abbrev pub Nexts : Text → ℕ → List Element → Next → Type 0
-Nexts t at [] NextIs.End = Unit
-Nexts t at [] (NextIs.Element s) = ⊥
-Nexts t at (e ∷ es) NextIs.End = ⊥
-Nexts t at (e ∷ es) (NextIs.Element s) = Taken t at e es s
+abbrev pub Nexts : Text → ℕ → List Element → Answer Span → Type 0
+Nexts t at [] None = Unit
+Nexts t at [] (Some s) = ⊥
+Nexts t at (e ∷ es) None = ⊥
+Nexts t at (e ∷ es) (Some s) = Taken t at e es s
 
 -- where the label and the text of the field end whose line starts at `at`
 pub record EndsOf (t : Text) (at : ℕ) (f : Field) (rest : Text) (r : Ends) : Type 0 where

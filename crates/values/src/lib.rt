@@ -1,14 +1,14 @@
 // A value kept as text: its kind, its weight, what it holds and where.
 #![tactic(auto)]
 
-ghost use Rattle.std.specs.Prelude.{◌≡◌, List, ◌+◌, ◌≤◌, length};
+ghost use Rattle.std.specs.Prelude.{◌≡◌, List, ◌+◌, ◌≤◌, ◌<◌, length};
 ghost use Rattle.language.specs.Text.{Text, joined};
 ghost use Rattle.language.specs.State.{Field, Element, Value, list};
 ghost use Rattle.language.specs.Values.{as_string};
 ghost use Rattle.language.specs.Weight.{value_weight};
 ghost use Rattle.language.specs.Encode.{field_text, element_text};
 ghost use Rattle.values.specs.Encoding.{Holds, ValueText, ListText};
-ghost use Rattle.values.specs.Breaks.{break_of};
+ghost use Rattle.values.specs.Breaks.{breaks};
 ghost use Rattle.values.specs.Places.{FieldAt, FieldsAt, ElementAt, Elements, SomeField, SomeFields, SomeElement, SomeElements};
 ghost use Rattle.values.specs.Answers.{kind_of, text_at, Placed, field_of, Nexts, EndsOf};
 
@@ -19,20 +19,6 @@ pub enum Kind {
     Text,
     Record,
     List,
-}
-
-// Where a text stands, or that there is none.
-#[derive(Clone, Copy)]
-pub enum Found {
-    At(Span),
-    Missing,
-}
-
-// The place of the next element of a list, or the list's end.
-#[derive(Clone, Copy)]
-pub enum Next {
-    Element(Span),
-    End,
 }
 
 // Where the label and the text of a field end.
@@ -46,41 +32,33 @@ pub fn kind_of(text: &[u8]) -> Kind
     requires { ValueText text.now }
     ensures { (v : Value) → Holds v text.now → result ≡ kind_of v }
 {
-    if text[0] == b'S' {
-        return Kind::Text;
+    match text[0] {
+        b'S' => Kind::Text,
+        b'R' => Kind::Record,
+        _ => Kind::List,
     }
-    if text[0] == b'R' {
-        return Kind::Record;
-    }
-    Kind::List
 }
 
-// Whether the value is a string, and where its bytes stand.
-pub fn string_in(text: &[u8]) -> Found
+// Where the bytes of a string stand, if the value is one.
+pub fn string_in(text: &[u8]) -> Option<Span>
     requires { ValueText text.now }
     ensures meant { (v : Value) → Holds v text.now → text_at text.now result ≡ as_string v }
     ensures placed { Placed text.now result }
 {
     if text[0] != b'S' {
-        return Found::Missing;
+        return None;
     }
-    Found::At(Span {
+    Some(Span {
         start: 2,
         end: text.len() - 1,
     })
 }
 
-// 1 for a byte that ends a part of a line, else 0.
-fn break_at(b: u8) -> usize
-    ensures { (result ≡ break_of b) × (result ≤ 1) }
+// How many bytes of the text end a part of a line.
+fn breaks(text: &[u8]) -> usize
+    ensures { result ≡ breaks text.now }
 {
-    if b == b'\t' {
-        return 1;
-    }
-    if b == b'\n' {
-        return 1;
-    }
-    0
+    text.iter().filter(|b| matches!(**b, b'\t' | b'\n')).count()
 }
 
 // What the value weighs: its length without tabs and newlines, less the letter of its first line.
@@ -88,19 +66,14 @@ pub fn weigh(text: &[u8]) -> usize
     requires { ValueText text.now }
     ensures { (v : Value) → Holds v text.now → result ≡ value_weight v }
 {
-    let mut n: usize = 1;
-    let mut i = 0;
-    while i < text.len() {
-        n += break_at(text[i]);
-        i += 1;
-    }
-    text.len() - n
+    text.len() - 1 - breaks(text)
 }
 
 // Where the label and the text of the field end whose line starts at `at`.
 pub fn field_ends(text: &[u8], at: usize) -> Ends
     requires { SomeField text.now at }
-    ensures { (f : Field) (rest : Text) → FieldAt text.now at f rest → EndsOf text.now at f rest result }
+    ensures ends { (f : Field) (rest : Text) → FieldAt text.now at f rest → EndsOf text.now at f rest result }
+    ensures placed { (at + 2 ≤ result.label) × (result.label < result.text) × (result.text < length text.now) }
 {
     let label = until(text, at + 2, b'\t');
     let end = until(text, label + 1, b'\n');
@@ -108,28 +81,26 @@ pub fn field_ends(text: &[u8], at: usize) -> Ends
 }
 
 // The text of the record's first field of that label.
-pub fn field_in(text: &[u8], label: &[u8]) -> Found
+pub fn field_in(text: &[u8], label: &[u8]) -> Option<Span>
     requires { ValueText text.now }
     ensures meant { (v : Value) → Holds v text.now → text_at text.now result ≡ field_of v label.now }
     ensures placed { Placed text.now result }
 {
     if text[0] != b'R' {
-        return Found::Missing;
+        return None;
     }
-    let mut at: usize = 2;
+    let mut at = 2;
     while at < text.len() {
         let ends = field_ends(text, at);
-        let from = at + 2;
-        let to = ends.label;
-        if same_bytes(&text[from..to], label) {
-            return Found::At(Span {
-                start: to + 1,
+        if same_bytes(&text[at + 2..ends.label], label) {
+            return Some(Span {
+                start: ends.label + 1,
                 end: ends.text,
             });
         }
         at = ends.text + 1;
     }
-    Found::Missing
+    None
 }
 
 // The end of the fields' lines that start at `at`.
@@ -139,10 +110,7 @@ fn fields_end(text: &[u8], at: usize) -> usize
     ensures within { result ≤ length text.now }
 {
     let mut i = at;
-    while i < text.len() {
-        if text[i] != b'F' {
-            return i;
-        }
+    while i < text.len() && text[i] == b'F' {
         i = until(text, i, b'\n') + 1;
     }
     i
@@ -167,13 +135,15 @@ pub fn first_element(text: &[u8]) -> usize
 }
 
 // The element of a list that starts at `at`, or the end of the list. The next one starts where it ends.
-pub fn next_element(text: &[u8], at: usize) -> Next
+pub fn next_element(text: &[u8], at: usize) -> Option<Span>
     requires { SomeElements text.now at }
     ensures { (es : List Element) → Elements text.now at es → Nexts text.now at es result }
 {
-    if at < text.len() {
-        let end = element_end(text, at);
-        return Next::Element(Span { start: at, end });
+    if at == text.len() {
+        return None;
     }
-    Next::End
+    Some(Span {
+        start: at,
+        end: element_end(text, at),
+    })
 }

@@ -2,7 +2,6 @@
 -- Assumes nothing.
 use mathlib.Core.Path.{sym, ◌∙◌}
 use Rattle.comparison.proofs.Sizes.{lengths_differ, same_text, one_way_round}
-use borrow.Author.Rules.{rules}
 use Rattle.comparison.proofs.same_record.Goals as goal
 
 pub returns-then-first-second : goal.returns-then-first-second

@@ -32,14 +32,14 @@ loop-s-init c =
       refl,
     )
 
-pub next_element-next-requires : goal.next_element-next-requires
-next_element-next-requires c =
+pub next_element-requires : goal.next_element-requires
+next_element-requires c =
     let T = c.requires.some_turning in
     let E = c.requires.some_list.0 in
     some_rest _ _ _ _ _ _ _ _ _ (c.loop-s.invariant.2 T.session T.expression E.elements T.turning E.held).1
 
-pub returns-in_default : goal.returns-in_default
-returns-in_default c s x es I h =
+pub returns : goal.returns
+returns c s x es I h =
     let a = c.args in
     let k = c.loop-s in
     let q = k.invariant.2 s x es I h in
@@ -53,7 +53,7 @@ slice_bounds-turn-count c =
     let T = c.requires.some_turning in
     let E = c.requires.some_list.0 in
     let R = (c.loop-s.invariant.2 T.session T.expression E.elements T.turning E.held).1 in
-    let N = stepped c.args.elements.now c.loop-s.at R.rest c.in-Element.s (c.in-Element.ensures R.rest R.here) in
+    let N = stepped c.args.elements.now c.loop-s.at R.rest c.in-Some.s (c.in-Some.ensures R.rest R.here) in
     omega (arith, N.taken.within.0, N.taken.within.1)
 
 pub slice_bounds-turn-start : goal.slice_bounds-turn-start
@@ -61,7 +61,7 @@ slice_bounds-turn-start c =
     let T = c.requires.some_turning in
     let E = c.requires.some_list.0 in
     let R = (c.loop-s.invariant.2 T.session T.expression E.elements T.turning E.held).1 in
-    let N = stepped c.args.elements.now c.loop-s.at R.rest c.in-Element.s (c.in-Element.ensures R.rest R.here) in
+    let N = stepped c.args.elements.now c.loop-s.at R.rest c.in-Some.s (c.in-Some.ensures R.rest R.here) in
     omega (arith, N.taken.within.0, N.taken.within.1)
 
 pub slice_bounds-turn-end : goal.slice_bounds-turn-end
@@ -69,7 +69,7 @@ slice_bounds-turn-end c =
     let T = c.requires.some_turning in
     let E = c.requires.some_list.0 in
     let R = (c.loop-s.invariant.2 T.session T.expression E.elements T.turning E.held).1 in
-    let N = stepped c.args.elements.now c.loop-s.at R.rest c.in-Element.s (c.in-Element.ensures R.rest R.here) in
+    let N = stepped c.args.elements.now c.loop-s.at R.rest c.in-Some.s (c.in-Some.ensures R.rest R.here) in
     omega (arith, N.taken.within.0, N.taken.within.1)
 
 pub turn-one-requires : goal.turn-one-requires
@@ -80,10 +80,10 @@ turn-one-requires c =
     let E = c.requires.some_list.0 in
     let q = L.invariant.2 T.session T.expression E.elements T.turning E.held in
     let R = q.1 in
-    let N = stepped a.elements.now L.at R.rest c.in-Element.s (c.in-Element.ensures R.rest R.here) in record {
+    let N = stepped a.elements.now L.at R.rest c.in-Some.s (c.in-Some.ensures R.rest R.here) in record {
       some_turning = still T L.scope L.local_slots q.0 L.invariant.4;
       room = same_room a.e L.scope L.local_slots L.heads L.lens L.counts L.bounds c.requires.room L.invariant.3 L.invariant.4 L.invariant.5 L.invariant.6 L.invariant.7 L.invariant.8;
-      some_element = (record { element = N.element; held = N.taken.held; light = light_element _ _ _ _ _ _ _ _ _ R c.in-Element.s N E.light }, L.invariant.0);
+      some_element = (record { element = N.element; held = N.taken.held; light = light_element _ _ _ _ _ _ _ _ _ R c.in-Some.s N E.light }, L.invariant.0);
     }
 
 pub join-so_far-requires : goal.join-so_far-requires
@@ -93,7 +93,7 @@ join-so_far-requires c =
     let E = c.requires.some_list.0 in
     let q = L.invariant.2 T.session T.expression E.elements T.turning E.held in
     let R = q.1 in
-    let N = stepped c.args.elements.now L.at R.rest c.in-Element.s (c.in-Element.ensures R.rest R.here) in (
+    let N = stepped c.args.elements.now L.at R.rest c.in-Some.s (c.in-Some.ensures R.rest R.here) in (
       some_so_far _ _ _ _ _ _ _ _ _ R,
       record { session = T.session; names = _; outcome = _; made_of = (c.turn-one.ensures T.session T.expression N.element q.0 N.taken.held).0 },
       L.invariant.1,
@@ -105,10 +105,10 @@ returns-then-is_over c s x es I h =
     let L = c.loop-s in
     let q = L.invariant.2 s x es I h in
     let R = q.1 in
-    let N = stepped a.elements.now L.at R.rest c.in-Element.s (c.in-Element.ensures R.rest R.here) in
+    let N = stepped a.elements.now L.at R.rest c.in-Some.s (c.in-Some.ensures R.rest R.here) in
     let t = c.turn-one.ensures s x N.element q.0 N.taken.held in
-    let M = reached_on a.way s (part a.text.now a.y) x es a.elements.now L.at L.out L.so_far R c.in-Element.s N c.join-so_far.new.out c.join-so_far.result (c.join-so_far.ensures s _ _ _ _ R.so_far t.0) in (
-      reached_over a.way s (part a.text.now a.y) x es a.elements.now c.in-Element.s.end c.join-so_far.new.out c.join-so_far.result M a.known I.knows (sym c.is_over.ensures ∙ c.if-is_over.true),
+    let M = reached_on a.way s (part a.text.now a.y) x es a.elements.now L.at L.out L.so_far R c.in-Some.s N c.join-so_far.new.out c.join-so_far.result (c.join-so_far.ensures s _ _ _ _ R.so_far t.0) in (
+      reached_over a.way s (part a.text.now a.y) x es a.elements.now c.in-Some.s.end c.join-so_far.new.out c.join-so_far.result M a.known I.knows (sym c.is_over.ensures ∙ c.if-is_over.true),
       t.1,
     )
 
@@ -117,7 +117,7 @@ loop-s-smaller c =
     let T = c.requires.some_turning in
     let E = c.requires.some_list.0 in
     let R = (c.loop-s.invariant.2 T.session T.expression E.elements T.turning E.held).1 in
-    let N = stepped c.args.elements.now c.loop-s.at R.rest c.in-Element.s (c.in-Element.ensures R.rest R.here) in
+    let N = stepped c.args.elements.now c.loop-s.at R.rest c.in-Some.s (c.in-Some.ensures R.rest R.here) in
     omega (arith, N.taken.within.0, N.taken.within.1, N.taken.ahead)
 
 pub loop-s-preserved : goal.loop-s-preserved
@@ -131,9 +131,9 @@ loop-s-preserved c =
       λ s x es I h.
           let q = L.invariant.2 s x es I h in
           let R = q.1 in
-          let N = stepped a.elements.now L.at R.rest c.in-Element.s (c.in-Element.ensures R.rest R.here) in
+          let N = stepped a.elements.now L.at R.rest c.in-Some.s (c.in-Some.ensures R.rest R.here) in
           let u = t.ensures s x N.element q.0 N.taken.held in
-          (u.1, reached_on a.way s (part a.text.now a.y) x es a.elements.now L.at L.out L.so_far R c.in-Element.s N j.new.out j.result (j.ensures s _ _ _ _ R.so_far u.0)),
+          (u.1, reached_on a.way s (part a.text.now a.y) x es a.elements.now L.at L.out L.so_far R c.in-Some.s N j.new.out j.result (j.ensures s _ _ _ _ R.so_far u.0)),
       omega (arith, L.invariant.3, t.auto.scope),
       omega (arith, L.invariant.4, t.auto.local_slots),
       omega (arith, L.invariant.5, t.auto.heads),

@@ -1,18 +1,9 @@
 -- `values::element_end` meets its contract. Past the first line stand the element's fields, none for a string.
 -- Assumes nothing.
-use native.Mathlib.Omega.{arith}
 use Prim.Native.Nat.{◌+◌}
 use Rattle.values.specs.Places.{SomeFields}
 use Rattle.values.proofs.Listing.{element_fields, fields_follow, some_fields, element_ends}
 use Rattle.values.proofs.element_end.Goals as goal
-
-pub until-line-requires : goal.until-line-requires
-until-line-requires c = c.requires.stands.here.within
-
-pub overflow_add-line : goal.overflow_add-line
-overflow_add-line c =
-    let follows : SomeFields c.args.text.now (c.until-line.result + 1) = some_fields c.args.text.now c.args.at c.requires.element c.requires.rest c.requires.stands c.until-line.result c.until-line.ensures.ends in
-    omega (arith, follows.stand.here.within)
 
 pub fields_end-requires : goal.fields_end-requires
 fields_end-requires c =

@@ -1,48 +1,24 @@
 -- `values::fields_end` meets its contract. The loop's invariant: what is left of the lines ends where all of them do.
 -- Assumes nothing.
 use Prim.Native.Nat.{◌+◌, ◌≤◌}
-use native.Mathlib.Omega.{arith}
 use mathlib.Core.List.{List}
 use lib.ListN.{length}
 use Rattle.language.specs.Text.{Text}
 use Rattle.language.specs.State.{Field}
 use Rattle.values.specs.Places.{FieldsAt}
-use Rattle.values.proofs.Lines.{FieldsLeft, fields_start, fields_done, fields_out, fields_step}
+use Rattle.values.proofs.Lines.{FieldsLeft, fields_done, fields_out, fields_step}
 use Rattle.values.proofs.fields_end.Goals as goal
 
-pub loop-i-init : goal.loop-i-init
-loop-i-init c = (c.requires.stand.here.within, λ fs rest F. fields_start c.args.text.now c.args.at fs rest F)
-
-pub returns-then-text-i-ne70 : goal.returns-then-text-i-ne70
-returns-then-text-i-ne70 c =
-    record {
-      ends = λ fs rest F. fields_done c.args.text.now c.args.at fs rest c.loop-i.i (c.loop-i.invariant.1 fs rest F) c.if-text-i-ne70.true;
-      within = omega arith;
-    }
-
-pub overflow_add-i : goal.overflow_add-i
-overflow_add-i c =
-    let stepped : (fs : List Field) (rest : Text) → let a = c.args in FieldsAt a.text.now a.at fs rest → FieldsLeft a.text.now a.at fs rest (c.until-i.result + 1) × (c.until-i.result + 1 ≤ length a.text.now) = λ fs rest F. let a = c.args in
-    fields_step a.text.now a.at fs rest c.loop-i.i c.until-i.result (c.loop-i.invariant.1 fs rest F) c.loop-i-test.true c.if-text-i-ne70.false c.until-i.ensures.ends in
-    omega (arith, (stepped c.requires.fields c.requires.rest c.requires.stand).1)
-
-pub loop-i-smaller : goal.loop-i-smaller
-loop-i-smaller c =
-    let stepped : (fs : List Field) (rest : Text) → let a = c.args in FieldsAt a.text.now a.at fs rest → FieldsLeft a.text.now a.at fs rest (c.until-i.result + 1) × (c.until-i.result + 1 ≤ length a.text.now) = λ fs rest F. let a = c.args in
-    fields_step a.text.now a.at fs rest c.loop-i.i c.until-i.result (c.loop-i.invariant.1 fs rest F) c.loop-i-test.true c.if-text-i-ne70.false c.until-i.ensures.ends in
-    omega (arith, c.until-i.ensures.within, (stepped c.requires.fields c.requires.rest c.requires.stand).1)
+pub returns-else-text-i-eq70-clause-ends : goal.returns-else-text-i-eq70-clause-ends
+returns-else-text-i-eq70-clause-ends c fs rest F = fields_done c.args.text.now c.args.at fs rest c.loop-i.i (c.loop-i.invariant.1 fs rest F) c.if-text-i-eq70.false
 
 pub loop-i-preserved : goal.loop-i-preserved
 loop-i-preserved c =
     let stepped : (fs : List Field) (rest : Text) → let a = c.args in FieldsAt a.text.now a.at fs rest → FieldsLeft a.text.now a.at fs rest (c.until-i.result + 1) × (c.until-i.result + 1 ≤ length a.text.now) = λ fs rest F. let a = c.args in
-    fields_step a.text.now a.at fs rest c.loop-i.i c.until-i.result (c.loop-i.invariant.1 fs rest F) c.loop-i-test.true c.if-text-i-ne70.false c.until-i.ensures.ends in (
+    fields_step a.text.now a.at fs rest c.loop-i.i c.until-i.result (c.loop-i.invariant.1 fs rest F) c.loop-i-test.true c.if-text-i-eq70.true c.until-i.ensures.ends in (
       (stepped c.requires.fields c.requires.rest c.requires.stand).1,
       λ fs rest F. (stepped fs rest F).0,
     )
 
-pub returns : goal.returns
-returns c =
-    record {
-      ends = λ fs rest F. fields_out c.args.text.now c.args.at fs rest c.loop-i.i (c.loop-i.invariant.1 fs rest F) c.loop-i-test.false;
-      within = omega arith;
-    }
+pub returns-after-loop-i-clause-ends : goal.returns-after-loop-i-clause-ends
+returns-after-loop-i-clause-ends c fs rest F = fields_out c.args.text.now c.args.at fs rest c.loop-i.i (c.loop-i.invariant.1 fs rest F) c.loop-i-test.false

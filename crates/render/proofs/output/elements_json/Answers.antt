@@ -1,32 +1,20 @@
 -- `render::output::elements_json` meets its contract. The loop's invariant: for all elements that stand in the text, what is written and what is left are linked to the whole.
 -- Assumes nothing.
-use mathlib.Core.Path.{refl}
-use Prim.Native.Nat.{◌≤◌, ◌<◌}
 use native.Mathlib.Omega.{arith}
-use mathlib.Core.List.{List}
-use lib.ListN.{length}
-use Rattle.language.specs.State.{Element}
-use Rattle.values.specs.Places.{Elements}
 use Rattle.value_text.proofs.Pieces.{written_length}
-use Rattle.render.proofs.Elements.{elements_begin, elements_finish, NextElement, next_one, one_at, one_room, one_within, one_going}
+use Rattle.render.proofs.Elements.{elements_finish, next_one, one_at, one_room, one_within, one_going}
 use Rattle.render.proofs.output.elements_json.Goals as goal
-
-pub loop-i-init : goal.loop-i-init
-loop-i-init c = (c.requires.stand.here.within, refl, λ es E. elements_begin c.args.text.now c.args.at es c.args.out.now c.args.o (omega (arith, c.requires.room)) E)
 
 pub put_byte-a-requires : goal.put_byte-a-requires
 put_byte-a-requires c =
-    let Next : (es : List Element) → Type 0 = λ es. NextElement c.args.text.now es c.args.out.now c.args.o c.loop-i.i c.loop-i.p c.loop-i.before c.loop-i.out in
-    let next : (es : List Element) → Elements c.args.text.now c.args.at es → Next es = λ es E. next_one c.args.text.now es c.args.out.now c.args.o c.loop-i.i c.loop-i.p c.loop-i.before c.loop-i.out (c.loop-i.invariant.2 es E) c.loop-i-test.true in
-    let known : Next c.requires.elements = next c.requires.elements c.requires.stand in
-    omega (arith, one_room _ _ _ _ _ _ _ _ known c.requires.room)
+    let l = c.loop-moved in
+    let N = next_one c.args.text.now c.requires.elements c.args.out.now c.args.o l.moved.read l.moved.wrote l.before l.out (l.invariant.2 c.requires.elements c.requires.stand) c.loop-moved-test.true in
+    omega (arith, one_room _ _ _ _ _ _ _ _ N c.requires.room)
 
-pub element_json-m-requires : goal.element_json-m-requires
-element_json-m-requires c =
-    let Next : (es : List Element) → Type 0 = λ es. NextElement c.args.text.now es c.args.out.now c.args.o c.loop-i.i c.loop-i.p c.loop-i.before c.loop-i.out in
-    let next : (es : List Element) → Elements c.args.text.now c.args.at es → Next es = λ es E. next_one c.args.text.now es c.args.out.now c.args.o c.loop-i.i c.loop-i.p c.loop-i.before c.loop-i.out (c.loop-i.invariant.2 es E) c.loop-i-test.true in
-    let known : Next c.requires.elements = next c.requires.elements c.requires.stand in
-    let N = known in
+pub element_json-moved-requires : goal.element_json-moved-requires
+element_json-moved-requires c =
+    let l = c.loop-moved in
+    let N = next_one c.args.text.now c.requires.elements c.args.out.now c.args.o l.moved.read l.moved.wrote l.before l.out (l.invariant.2 c.requires.elements c.requires.stand) c.loop-moved-test.true in
     record {
       element = N.element;
       rest = _;
@@ -34,30 +22,27 @@ element_json-m-requires c =
       room = omega (arith, one_room _ _ _ _ _ _ _ _ N c.requires.room, c.put_byte-a.ensures.ends, written_length c.put_byte-a.ensures);
     }
 
-pub loop-i-smaller : goal.loop-i-smaller
-loop-i-smaller c =
-    let Next : (es : List Element) → Type 0 = λ es. NextElement c.args.text.now es c.args.out.now c.args.o c.loop-i.i c.loop-i.p c.loop-i.before c.loop-i.out in
-    let next : (es : List Element) → Elements c.args.text.now c.args.at es → Next es = λ es E. next_one c.args.text.now es c.args.out.now c.args.o c.loop-i.i c.loop-i.p c.loop-i.before c.loop-i.out (c.loop-i.invariant.2 es E) c.loop-i-test.true in
-    let known : Next c.requires.elements = next c.requires.elements c.requires.stand in
-    let moves : (c.loop-i.i < c.element_json-m.result.read) × (c.element_json-m.result.read ≤ length c.args.text.now) = let N = known in
-    one_within _ _ _ _ _ _ _ _ N c.element_json-m.result.read (c.element_json-m.ensures N.element _ (one_at _ _ _ _ _ _ _ _ N)).read_to in
-    omega (arith, moves)
+pub loop-moved-smaller : goal.loop-moved-smaller
+loop-moved-smaller c =
+    let l = c.loop-moved in
+    let N = next_one c.args.text.now c.requires.elements c.args.out.now c.args.o l.moved.read l.moved.wrote l.before l.out (l.invariant.2 c.requires.elements c.requires.stand) c.loop-moved-test.true in
+    let R = c.element_json-moved.ensures N.element _ (one_at _ _ _ _ _ _ _ _ N) in
+    let within = one_within _ _ _ _ _ _ _ _ N c.element_json-moved.result.read R.read_to in
+    omega (arith, within)
 
-pub loop-i-preserved : goal.loop-i-preserved
-loop-i-preserved c =
-    let Next : (es : List Element) → Type 0 = λ es. NextElement c.args.text.now es c.args.out.now c.args.o c.loop-i.i c.loop-i.p c.loop-i.before c.loop-i.out in
-    let next : (es : List Element) → Elements c.args.text.now c.args.at es → Next es = λ es E. next_one c.args.text.now es c.args.out.now c.args.o c.loop-i.i c.loop-i.p c.loop-i.before c.loop-i.out (c.loop-i.invariant.2 es E) c.loop-i-test.true in
-    let known : Next c.requires.elements = next c.requires.elements c.requires.stand in
-    let moves : (c.loop-i.i < c.element_json-m.result.read) × (c.element_json-m.result.read ≤ length c.args.text.now) = let N = known in
-    one_within _ _ _ _ _ _ _ _ N c.element_json-m.result.read (c.element_json-m.ensures N.element _ (one_at _ _ _ _ _ _ _ _ N)).read_to in (
-      moves.1,
+pub loop-moved-preserved : goal.loop-moved-preserved
+loop-moved-preserved c =
+    let l = c.loop-moved in
+    let N = next_one c.args.text.now c.requires.elements c.args.out.now c.args.o l.moved.read l.moved.wrote l.before l.out (l.invariant.2 c.requires.elements c.requires.stand) c.loop-moved-test.true in
+    let R = c.element_json-moved.ensures N.element _ (one_at _ _ _ _ _ _ _ _ N) in (
+      (one_within _ _ _ _ _ _ _ _ N c.element_json-moved.result.read R.read_to).1,
       omega arith,
       λ es E.
-          let N = next es E in
-          one_going _ _ _ _ _ _ _ _ N _ _ _ c.element_json-m.result c.put_byte-a.ensures (c.element_json-m.ensures N.element _ (one_at _ _ _ _ _ _ _ _ N)),
+          let M = next_one c.args.text.now es c.args.out.now c.args.o l.moved.read l.moved.wrote l.before l.out (l.invariant.2 es E) c.loop-moved-test.true in
+          one_going _ _ _ _ _ _ _ _ M _ _ _ c.element_json-moved.result c.put_byte-a.ensures (c.element_json-moved.ensures M.element _ (one_at _ _ _ _ _ _ _ _ M)),
     )
 
 pub returns : goal.returns
 returns c es E =
-    let l = c.loop-i in
-    elements_finish c.args.text.now es c.args.out.now c.args.o l.i l.p l.before l.out (l.invariant.2 es E) c.loop-i-test.false
+    let l = c.loop-moved in
+    elements_finish c.args.text.now es c.args.out.now c.args.o l.moved.read l.moved.wrote l.before l.out (l.invariant.2 es E) c.loop-moved-test.false

@@ -3,31 +3,15 @@
 use mathlib.Core.Path.{ap, sym}
 use native.Mathlib.Omega.{arith}
 use mathlib.Core.List.{[]}
-use lib.ListN.{length}
 use Rattle.language.specs.Output.{value_json}
-use Rattle.values.proofs.Texts.{some_bytes}
 use Rattle.value_text.proofs.Pieces.{◌▸◌, rewritten, written_length}
-use Rattle.render.proofs.Elements.{SingleAt, single_at, ListAt, list_at, list_none, list_some, list_room}
+use Rattle.render.proofs.Elements.{single_at, ListAt, list_at, list_none, list_some, list_room}
 use Rattle.render.proofs.output.json.Goals as goal
-
-pub bounds-value-0 : goal.bounds-value-0
-bounds-value-0 c = omega (arith, some_bytes c.requires.value c.args.value.now c.requires.held)
-
-pub element_json-m-requires : goal.element_json-m-requires
-element_json-m-requires c =
-    let one : SingleAt c.requires.value c.args.value.now = single_at c.requires.value c.args.value.now c.requires.held c.if-value-ne76.true in
-    let S = one in
-    record { element = S.element; rest = []; stands = S.stands; room = omega (arith, c.requires.room, ap (λ v. length (value_json v)) S.is_value) }
 
 pub returns-then-value-ne76 : goal.returns-then-value-ne76
 returns-then-value-ne76 c v h =
     let S = single_at v c.args.value.now h c.if-value-ne76.true in
-    rewritten (ap value_json (sym S.is_value)) (c.element_json-m.ensures S.element [] S.stands).written
-
-pub copy_in-requires : goal.copy_in-requires
-copy_in-requires c =
-    let several : ListAt c.requires.value c.args.value.now = list_at c.requires.value c.args.value.now c.requires.held c.if-value-ne76.false in
-    omega (arith, c.requires.room, ap length (list_none c.requires.value c.args.value.now several c.if-value-eq2.true))
+    rewritten (ap value_json (sym S.is_value)) (c.element_json.ensures S.element [] S.stands).written
 
 pub returns-then-value-eq2 : goal.returns-then-value-eq2
 returns-then-value-eq2 c v h = rewritten (list_none v c.args.value.now (list_at v c.args.value.now h c.if-value-ne76.false) c.if-value-eq2.true) c.copy_in.ensures
