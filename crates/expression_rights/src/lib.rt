@@ -12,11 +12,11 @@ ghost use Rattle.permits.specs.Permits.{Sends, SomeSender};
 ghost use Rattle.permits.specs.Knowledge.{terms};
 ghost use Rattle.expression_rights.specs.Finding.{Finds};
 
-use expression_readers::{LetRead, let_head};
+use expression_readers::read_let;
 use permits::{Known, readable};
-use syntax::{Expr, Term, TermRead};
-use term_readers::term_at;
-use tokens::reader::Next;
+use syntax::{Expr, Term};
+use term_readers::read_term;
+use tokens::scanner::Scanner;
 
 // The expression that stands from `at` on, term by term. Lets nest as deep as a program is long, so that nothing here calls itself: `pending`
 // counts the lets whose `in` is not read yet, `done` the terms that may be read. The text says an expression there, so that no word of it is
@@ -36,13 +36,13 @@ fn lets_known(
     ensures { (s : Session) (x : Syntax.Expr) → Sends s shared.now slots.now count assertions.now n principals sender
         → expr_meant text.now (ExprOf.Let at) ≡ some x → Finds result s (terms x) }
 {
-    let mut p = at;
+    let mut scanner = Scanner { text, at };
     let mut pending: usize = 0;
     let mut done: usize = 0;
-    loop {
-        let read = term_at(text, p);
-        match read {
-            TermRead::Found(e, end) => {
+    'terms: loop {
+        let start = scanner;
+        match read_term(&mut scanner) {
+            Some(e) => {
                 if !readable(
                     shared, slots, count, assertions, n, principals, sender, text, e,
                 ) {
@@ -51,21 +51,18 @@ fn lets_known(
                 if pending == 0 {
                     return Known::All;
                 }
-                let word = tokens::reader::expect(text, end, b"in");
-                let Next::At(next) = word else {
+                let Some(()) = scanner.expect(b"in") else {
                     return Known::Nothing;
                 };
                 pending -= 1;
                 done += 1;
-                p = next;
             }
-            TermRead::No => {
-                let head = let_head(text, p);
-                let LetRead::Found(_, next) = head else {
+            None => {
+                scanner = start;
+                let Some(_) = read_let(&mut scanner) else {
                     return Known::Nothing;
                 };
                 pending += 1;
-                p = next;
             }
         }
     }
@@ -90,9 +87,10 @@ fn term_known(
     if readable(
         shared, slots, count, assertions, n, principals, sender, text, e,
     ) {
-        return Known::All;
+        Known::All
+    } else {
+        Known::Until(0)
     }
-    Known::Until(0)
 }
 
 // What the sender may read of the terms that stand in an expression.

@@ -8,17 +8,14 @@ use mathlib.Core.Option.{Option, none, some}
 use mathlib.Core.List.{List, [], ◌∷◌, ◌++◌, append_assoc}
 use Rattle.language.specs.Text.{Text, when◌then◌else◌, any}
 use Rattle.language.specs.Tokens.{Token}
-use Rattle.language.specs.Syntax.{Name, read, Binding, Term}
+use Rattle.language.specs.Syntax.{Name, read, Binding}
 use Rattle.language.specs.Values.{Session, is_shared}
-use Rattle.language.specs.Expressions.{operand_names, binding_names, term_names}
+use Rattle.language.specs.Expressions.{operand_names, binding_names}
 use Rattle.language.specs.Chains.{has}
 use Rattle.language.specs.Commands.{Need, need, met, reads}
-use Rattle.syntax.specs.declared.Term as Read
-use Rattle.syntax.specs.declared.Term.TheVariants.{Single, Lower}
-use Rattle.syntax.specs.declared.Operand as ReadOperand
-use Rattle.syntax.specs.Values.{operand_meant, OperandWithin, record_at, with_field, term_meant, SomeTerm, SomeRecord}
+use Rattle.syntax.specs.Values.{record_at, with_field, SomeRecord}
 use Rattle.permits.specs.Permits.{allowed_on, unread}
-use Rattle.syntax.proofs.Said.{single_meant, lower_meant, single_safe, lower_safe, Next, next_field}
+use Rattle.syntax.proofs.Said.{Next, next_field}
 use Rattle.language.proofs.Logic.Lists.{any_joined}
 
 -- ---- one name, and names in a row
@@ -41,19 +38,6 @@ reads_append s (x ∷ xs) ys = ap (λ (l : List Need). need s (read ∷ []) x ++
 
 pub unread_append : (s : Session) (xs ys : List Name) → unread s (xs ++ ys) ≡ (unread s xs || unread s ys)
 unread_append s xs ys = ap (any (λ n. not (met s n))) (reads_append s xs ys) ∙ any_joined (λ n. not (met s n)) (reads s xs) (reads s ys)
-
--- ---- a term that evaluates one value, as it stands or in lower case
-
-pub record OneValue (t : Text) (e : Read.Term) (v : ReadOperand.Operand) : Type 0 where
-  pub within : OperandWithin t v
-  pub evaluates : (x : Term) → term_meant t e ≡ some x → term_names x ≡ operand_names (operand_meant t v)
-
-module _ (t : Text) (e : Read.Term) (E : SomeTerm t e) (v : ReadOperand.Operand) where
-  pub of_single : e ≡ Single v → OneValue t e v
-  of_single q = record { within = (single_safe t e E v q).0; evaluates = λ x m. ap term_names (single_meant t e v x q m) }
-
-  pub of_lower : e ≡ Lower v → OneValue t e v
-  of_lower q = record { within = (lower_safe t e E v q).0; evaluates = λ x m. ap term_names (lower_meant t e v x q m) }
 
 -- ---- names, and others behind them
 

@@ -14,7 +14,8 @@ ghost use Rattle.permits.specs.Permits.{Sends, SomeSender, allowed_on, unread};
 ghost use Rattle.permits.specs.Knowledge.{past};
 
 use assertion::READ;
-use syntax::{FieldRead, Operand, Term};
+use syntax::{Operand, Term, read_field};
+use tokens::scanner::Scanner;
 
 // What is known of the terms of an expression, in the order in which they stand: that the sender may read all of them; that it may read so
 // many, and the next one not; or nothing.
@@ -31,12 +32,7 @@ pub fn behind(known: Known) -> Known
 {
     match known {
         Known::All => Known::All,
-        Known::Until(k) => {
-            if k == 0 {
-                return Known::Until(0);
-            }
-            Known::Until(k - 1)
-        }
+        Known::Until(k) => Known::Until(k.saturating_sub(1)),
         Known::Nothing => Known::Nothing,
     }
 }
@@ -80,36 +76,17 @@ fn operand_readable(
         → unread s (operand_names (operand_meant text.now v)) ≡ not result }
 {
     match v {
-        Operand::Name(x) => {
-            let a = x.start;
-            let b = x.end;
-            allowed(
-                shared,
-                slots,
-                count,
-                assertions,
-                n,
-                principals,
-                sender,
-                &text[a..b],
-                READ,
-            )
-        }
-        Operand::Field(x, _) => {
-            let a = x.start;
-            let b = x.end;
-            allowed(
-                shared,
-                slots,
-                count,
-                assertions,
-                n,
-                principals,
-                sender,
-                &text[a..b],
-                READ,
-            )
-        }
+        Operand::Name(x) | Operand::Field(x, _) => allowed(
+            shared,
+            slots,
+            count,
+            assertions,
+            n,
+            principals,
+            sender,
+            &text[x.start..x.end],
+            READ,
+        ),
         Operand::Quoted(_) => true,
     }
 }
@@ -130,22 +107,26 @@ fn fields_readable(
     ensures { (s : Session) (bs : List Binding) (us : List Token) → Sends s shared.now slots.now count assertions.now n principals sender
         → record_at text.now at ≡ some (bs, us) → unread s (binding_names bs) ≡ not result }
 {
-    let mut p = at;
-    loop {
-        let field = syntax::field_at(text, p);
-        let FieldRead::Found(_, v, more, next) = field else {
-            return true;
-        };
+    let mut scanner = Scanner { text, at };
+    while let Some(field) = read_field(&mut scanner) {
         if !operand_readable(
-            shared, slots, count, assertions, n, principals, sender, text, v,
+            shared,
+            slots,
+            count,
+            assertions,
+            n,
+            principals,
+            sender,
+            text,
+            field.value,
         ) {
             return false;
         }
-        if !more {
+        if !field.more {
             return true;
         }
-        p = next;
     }
+    true
 }
 
 // Whether the sender may read the names that both values of a call or of a comparison evaluate.
@@ -165,12 +146,9 @@ fn both_readable(
     ensures { (s : Session) → Sends s shared.now slots.now count assertions.now n principals sender
         → unread s (operand_names (operand_meant text.now first) ++ operand_names (operand_meant text.now second)) ≡ not result }
 {
-    if !operand_readable(
-        shared, slots, count, assertions, n, principals, sender, text, first,
-    ) {
-        return false;
-    }
     operand_readable(
+        shared, slots, count, assertions, n, principals, sender, text, first,
+    ) && operand_readable(
         shared, slots, count, assertions, n, principals, sender, text, second,
     )
 }
@@ -191,21 +169,16 @@ pub fn readable(
     ensures { (s : Session) (x : Syntax.Term) → Sends s shared.now slots.now count assertions.now n principals sender
         → term_meant text.now e ≡ some x → unread s (term_names x) ≡ not result }
 {
-    let v = match e {
-        Term::Single(v) => v,
-        Term::Empty => return true,
-        Term::Record(at) => return fields_readable(
+    match e {
+        Term::Single(v) | Term::Lower(v) => operand_readable(
+            shared, slots, count, assertions, n, principals, sender, text, v,
+        ),
+        Term::Empty => true,
+        Term::Record(at) => fields_readable(
             shared, slots, count, assertions, n, principals, sender, text, at,
         ),
-        Term::Lower(v) => v,
-        Term::Call(_, v, w) => return both_readable(
+        Term::Call(_, v, w) | Term::Compare(_, v, w) => both_readable(
             shared, slots, count, assertions, n, principals, sender, text, v, w,
         ),
-        Term::Compare(_, v, w) => return both_readable(
-            shared, slots, count, assertions, n, principals, sender, text, v, w,
-        ),
-    };
-    operand_readable(
-        shared, slots, count, assertions, n, principals, sender, text, v,
-    )
+    }
 }
