@@ -30,7 +30,11 @@ use Rattle.record_fields.specs.Sections.{Fails, light_one, light_all, any_text}
 use Rattle.record_fields.proofs.Follow.{Run, start, step, stuck, spoilt, finish}
 use Rattle.record_fields.proofs.Labels.{opens_here, opens_not}
 use Rattle.record_fields.proofs.Indexing.{ahead}
-use Rattle.assertion_lines.specs.Assertions.{known_names, off_assertion, good_assertions, Granting, Granted}
+use Rattle.text.specs.Parts.{part}
+use Rattle.store.specs.Rows.{Row, Rows, row_names}
+use Rattle.references.proofs.Members.{member_name, names_count}
+use Rattle.assertion_lines.specs.declared.Roll.{Roll}
+use Rattle.assertion_lines.specs.Assertions.{known_names, off_assertion, good_assertions, Enrolled, Granting, Granted}
 use Rattle.store.proofs.NameWeights.{name_light}
 
 -- ---- equal numbers are equal assertions
@@ -128,7 +132,24 @@ weighs_four f four (a ∷ l) h =
     let r = weighs_four f four l h₂ in
     omega arith
 
-module _ (ps xs : List Name) (pn : (x : Text) → T (member x ps) → T (is_name x)) (xn : (x : Text) → T (member x xs) → T (is_name x)) (few-p : length ps ≤ 4096) (few-x : length xs ≤ 4096)
+-- what the names of the principals and of the variables are: names, and few
+pub record Named (ps xs : List Name) : Type 0 where
+  pub principals : (x : Text) → T (member x ps) → T (is_name x)
+  pub vars : (x : Text) → T (member x xs) → T (is_name x)
+  pub few_principals : length ps ≤ 4096
+  pub few_vars : length xs ≤ 4096
+
+pub enrolled_names : (t : Text) (roll : Roll) (principals vars : List ℕ) → Enrolled t roll principals vars
+    → (prows vrows : List Row) → Rows prows (part t roll.principals_from roll.principals_to) roll.principals principals → Rows vrows (part t roll.vars_from roll.vars_to) roll.vars vars
+    → Named (row_names prows) (row_names vrows)
+enrolled_names t r principals vars E prows vrows G W = record {
+  principals = member_name prows t r.principals_from r.principals_to r.principals principals G;
+  vars = member_name vrows t r.vars_from r.vars_to r.vars vars W;
+  few_principals = omega (arith, names_count prows t r.principals_from r.principals_to r.principals principals G, E.principals_few);
+  few_vars = omega (arith, names_count vrows t r.vars_from r.vars_to r.vars vars W, E.vars_few);
+}
+
+module _ (ps xs : List Name) (M : Named ps xs)
     (t : Text) (at w : ℕ) (assertions : List ℕ) (i n now : ℕ) (C : Asserting ps xs t at w assertions i n now) where
   abbrev NoAssertions : Type 0
   NoAssertions = Fails (joined assertion_text) (light_all (known_names ps xs) good_assertions assertion_weight w) off_assertion t at
@@ -136,9 +157,9 @@ module _ (ps xs : List Name) (pn : (x : Text) → T (member x ps) → T (is_name
   four : (a : Assertion) → T (known_names ps xs a) → 4 ≤ assertion_weight a
   four a k =
       let (x, q, p) = three (member a.variable xs) (member a.from ps) (member a.to ps) k in
-      let l = name_length a.variable (xn a.variable x) in
-      let m = name_light a.from (pn a.from q) in
-      let o = name_light a.to (pn a.to p) in
+      let l = name_length a.variable (M.vars a.variable x) in
+      let m = name_light a.from (M.principals a.from q) in
+      let o = name_light a.to (M.principals a.to p) in
       omega (arith, l.0, m.0, o.0)
 
   pub asserting_low : w + 4 * n ≤ now
@@ -190,7 +211,7 @@ module _ (ps xs : List Name) (pn : (x : Text) → T (member x ps) → T (is_name
           let seen : T (any (eqb (numbered ps xs E.row)) (map (numbered ps xs) C.rows)) =
           subst (λ (b : Bool). T b) (sym (ap (λ (z : ℕ). any (eqb z) (map (numbered ps xs) C.rows)) (sym E.number) ∙ ap (any (eqb k)) (sym C.numbers) ∙ s)) tt in
           spoilt assertion_text (known_names ps xs) assertion_weight any_text off_assertion (λ q h. tt) assertion_clear assertion_on t at w C.rows i now C.run on E.row e after E.reads E.weighed good_assertions
-          (λ ms g. twice_spoils C.rows ms E.row (seen_stands ps xs few-p few-x E.row f C.rows C.run.all_fine seen) g)
+          (λ ms g. twice_spoils C.rows ms E.row (seen_stands ps xs M.few_principals M.few_vars E.row f C.rows C.run.all_fine seen) g)
 
       pub assertions_next : length assertions ≡ 2048 → any (eqb k) (take n assertions) ≡ false → Asserting ps xs t at w (set assertions n k) e (n + 1) after
       assertions_next h s = record {
@@ -203,5 +224,5 @@ module _ (ps xs : List Name) (pn : (x : Text) → T (member x ps) → T (is_name
         apart = new_last C.rows E.row C.apart (λ z.
             subst (λ (b : Bool). T b)
             (ap (λ (y : ℕ). any (eqb y) (map (numbered ps xs) C.rows)) (sym E.number) ∙ ap (any (eqb k)) (sym C.numbers) ∙ s)
-            (stands_seen ps xs few-p few-x E.row C.rows z));
+            (stands_seen ps xs M.few_principals M.few_vars E.row C.rows z));
       }

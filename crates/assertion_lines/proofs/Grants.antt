@@ -76,9 +76,6 @@ module _ (ps xs : List Name) (pw : (x : Text) → T (member x ps) → T (all wor
       let (x, q, p) = three (member a.variable xs) (member a.from ps) (member a.to ps) k in
       (x, q, p, leb→le (w + assertion_weight a) 8192 l)
 
-  pub assertion_tab : (get_or t (at + 1) 0 ≡ 9 → ⊥) → NoAssertion
-  assertion_tab h a r f c d = h (next_here t at _ (d ∙ assertion_text_lem a r))
-
   module _ (is-a : get_or t at 0 ≡ 65) (is-tab : get_or t (at + 1) 0 ≡ 9) where
     first : (a : Assertion) (r : Text) → drop at t ≡ assertion_text a ++ r → drop (at + 2) t ≡ a.variable ++ 9 ∷ (a.from ++ 9 ∷ (byte_of a.right ∷ 9 ∷ (a.to ++ 10 ∷ r)))
     first a r d = tail_of 9 9 _ _ (tail_of 65 65 _ _ (sym (twice t at 65 9 (omega arith) (omega arith) is-a is-tab) ∙ d ∙ assertion_text_lem a r))

@@ -1,5 +1,5 @@
 -- The assertions of a state text, by the names of the principals and of the variables; and as numbers.
-use Rattle.std.specs.Prelude.{◌≡◌, Bool, ◌&&◌, not, List, map, ℕ, ◌+◌, ◌≤◌, eqb, length, take}
+use Rattle.std.specs.Prelude.{◌≡◌, Bool, ◌&&◌, not, List, map, ℕ, ◌+◌, ◌≤◌, eqb, length, take, Option, Some, None}
 use Rattle.language.specs.Text.{Text, when◌then◌else◌, member, joined}
 use Rattle.language.specs.Syntax.{Name, Right, read, write, append, delegate}
 use Rattle.language.specs.State.{Assertion}
@@ -11,10 +11,8 @@ use Rattle.store.specs.Rows.{SomeRows}
 use Rattle.named_rights.specs.Numbers.{numbered}
 use Rattle.record_fields.specs.Sections.{Reads, Fails, Records, light_one, light_all, any_text, opens}
 use Rattle.record_fields.specs.declared.Section.{Section}
-use Rattle.record_fields.specs.declared.Section.TheVariants as Many
 use Rattle.assertion_lines.specs.declared.Roll.{Roll}
 use Rattle.assertion_lines.specs.declared.AssertionRead.{AssertionRead}
-use Rattle.assertion_lines.specs.declared.AssertionRead.TheVariants.{At, No}
 
 -- every name in it exists
 abbrev pub known_names : List Name → List Name → Assertion → Bool
@@ -44,9 +42,9 @@ pub record Granting (ps xs : List Name) (t : Text) (at w k e after : ℕ) : Type
   pub weighed : after ≡ w + assertion_weight row
   pub number : k ≡ numbered ps xs row
 
-abbrev pub AssertionMeant : List Name → List Name → Text → ℕ → ℕ → AssertionRead → Type 0
-AssertionMeant ps xs t at w (At k e after) = Granting ps xs t at w k e after
-AssertionMeant ps xs t at w No = Fails assertion_text (light_one (known_names ps xs) assertion_weight w) any_text t at
+abbrev pub AssertionMeant : List Name → List Name → Text → ℕ → ℕ → Option AssertionRead → Type 0
+AssertionMeant ps xs t at w (Some r) = Granting ps xs t at w r.number r.end r.weighed
+AssertionMeant ps xs t at w None = Fails assertion_text (light_one (known_names ps xs) assertion_weight w) any_text t at
 
 -- the principals and the variables stand where the roll says
 pub record Enrolled (t : Text) (roll : Roll) (principals vars : List ℕ) : Type 0 where
@@ -66,6 +64,6 @@ pub record Granted (ps xs : List Name) (t : Text) (at w : ℕ) (assertions : Lis
   pub numbers : take n assertions ≡ map (numbered ps xs) records.rows
   pub within : n ≤ length assertions
 
-abbrev pub AssertionsMeant : List Name → List Name → Text → ℕ → ℕ → List ℕ → Section → Type 0
-AssertionsMeant ps xs t at w assertions (Many.Good e n after) = Granted ps xs t at w assertions e n after
-AssertionsMeant ps xs t at w assertions Many.Bad = Fails (joined assertion_text) (light_all (known_names ps xs) good_assertions assertion_weight w) off_assertion t at
+abbrev pub AssertionsMeant : List Name → List Name → Text → ℕ → ℕ → List ℕ → Option Section → Type 0
+AssertionsMeant ps xs t at w assertions (Some r) = Granted ps xs t at w assertions r.end r.count r.weighed
+AssertionsMeant ps xs t at w assertions None = Fails (joined assertion_text) (light_all (known_names ps xs) good_assertions assertion_weight w) off_assertion t at

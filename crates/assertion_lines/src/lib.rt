@@ -1,7 +1,7 @@
 // The assertions of a state text, one in each line (A), read as numbers. Document 01, "State text".
 #![tactic(auto)]
 
-ghost use Rattle.std.specs.Prelude.{◌≡◌, List, ◌+◌, ◌≤◌, ◌<◌, length, take, get_or, eqb};
+ghost use Rattle.std.specs.Prelude.{◌≡◌, List, ◌+◌, ◌≤◌, ◌<◌, length, get_or, eqb, MatchOption};
 ghost use Rattle.language.specs.Text.{any};
 ghost use Rattle.text.specs.Parts.{part};
 ghost use Rattle.store.specs.Rows.{Row, Rows, row_names};
@@ -9,8 +9,8 @@ ghost use Rattle.assertion_lines.specs.Assertions.{code_of, Enrolled, AssertionM
 
 use assertion::{APPEND, DELEGATE, READ, WRITE};
 use contents::name_weight;
-use record_fields::Section;
-use references::{Known, known_at};
+use record_fields::{LIMIT, Section};
+use references::known_at;
 
 // Where the principals and the variables stand, and how many there are.
 #[derive(Clone, Copy)]
@@ -25,28 +25,23 @@ pub struct Roll {
 
 // An assertion's number, where its line ends, and what is weighed with it.
 #[derive(Clone, Copy)]
-pub enum AssertionRead {
-    At(u64, usize, usize),
-    No,
+pub struct AssertionRead {
+    pub number: u64,
+    pub end: usize,
+    pub weighed: usize,
 }
 
-// A right's number by its letter, 4 for any other byte.
-fn right_code(b: u8) -> u16
-    ensures { result ≡ code_of b }
+// A right's number by its letter.
+fn right_code(b: u8) -> Option<u16>
+    ensures { MatchOption result (code_of b ≡ 4) (λ k. (k ≡ code_of b) × (k < 4)) }
 {
-    if b == 114 {
-        return READ;
+    match b {
+        b'r' => Some(READ),
+        b'w' => Some(WRITE),
+        b'a' => Some(APPEND),
+        b'd' => Some(DELEGATE),
+        _ => None,
     }
-    if b == 119 {
-        return WRITE;
-    }
-    if b == 97 {
-        return APPEND;
-    }
-    if b == 100 {
-        return DELEGATE;
-    }
-    4
 }
 
 // One assertion's line.
@@ -57,79 +52,68 @@ fn assertion_at(
     roll: Roll,
     principals: &[u32],
     vars: &[u32],
-) -> AssertionRead
+) -> Option<AssertionRead>
     requires { Enrolled text.now roll principals.now vars.now × (get_or text.now at 0 ≡ 65) × (w ≤ 8192) }
     ensures { (prows vrows : List Row) → Rows prows (part text.now roll.principals_from roll.principals_to) roll.principals principals.now
         → Rows vrows (part text.now roll.vars_from roll.vars_to) roll.vars vars.now
         → AssertionMeant (row_names prows) (row_names vrows) text.now at w result }
 {
-    if lines::byte_at(text, at + 1) != 9 {
-        return AssertionRead::No;
+    if lines::byte_at(text, at + 1) != b'\t' {
+        return None;
     }
-    let variable = known_at(
+    let (x, m) = known_at(
         text,
         at + 2,
-        9,
+        b'\t',
         roll.vars_from,
         roll.vars_to,
         vars,
         roll.vars,
-    );
-    let Known::At(x, m) = variable else {
-        return AssertionRead::No;
-    };
-    let giver = known_at(
+    )?;
+    let (q, n) = known_at(
         text,
         m + 1,
-        9,
+        b'\t',
         roll.principals_from,
         roll.principals_to,
         principals,
         roll.principals,
-    );
-    let Known::At(q, n) = giver else {
-        return AssertionRead::No;
-    };
-    let right = right_code(lines::byte_at(text, n + 1));
-    if right == 4 {
-        return AssertionRead::No;
+    )?;
+    let right = right_code(lines::byte_at(text, n + 1))?;
+    if lines::byte_at(text, n + 2) != b'\t' {
+        return None;
     }
-    if lines::byte_at(text, n + 2) != 9 {
-        return AssertionRead::No;
-    }
-    let taker = known_at(
+    let (p, e) = known_at(
         text,
         n + 3,
-        10,
+        b'\n',
         roll.principals_from,
         roll.principals_to,
         principals,
         roll.principals,
-    );
-    let Known::At(p, e) = taker else {
-        return AssertionRead::No;
-    };
+    )?;
     let a = m + 1;
     let b = n + 3;
-    let after = w + (m - (at + 2)) + 1 + name_weight(&text[a..n]) + name_weight(&text[b..e]);
-    if after > 8192 {
-        return AssertionRead::No;
+    let weighed = w + (m - (at + 2)) + 1 + name_weight(&text[a..n]) + name_weight(&text[b..e]);
+    if weighed > LIMIT {
+        return None;
     }
-    AssertionRead::At(assertion::pack(x, q, right, p), e + 1, after)
+    Some(AssertionRead {
+        number: assertion::pack(x, q, right, p),
+        end: e + 1,
+        weighed,
+    })
 }
 
-// Whether a number is among the first n. The loop has no exit.
-fn among_first(assertions: &[u64], n: usize, number: u64) -> bool
-    requires { n ≤ length assertions.now }
-    ensures { result ≡ any (eqb number) (take n assertions.now) }
+// Whether a number is among others. The loop has no exit.
+fn is_among(assertions: &[u64], number: u64) -> bool
+    ensures { result ≡ any (eqb number) assertions.now }
 {
     let mut hit = false;
-    let mut i = 0;
-    while i < n {
-        if assertions[i] == number {
+    for assertion in assertions {
+        if *assertion == number {
             hit = true;
         }
-        i += 1;
     }
     hit
 }
@@ -143,7 +127,7 @@ pub fn assertions(
     principals: &[u32],
     vars: &[u32],
     assertions: &mut [u64],
-) -> Section
+) -> Option<Section>
     requires { Enrolled text.now roll principals.now vars.now × (at ≤ length text.now) × (w ≤ 8192) × (length assertions.old ≡ 2048) }
     ensures { (prows vrows : List Row) → Rows prows (part text.now roll.principals_from roll.principals_to) roll.principals principals.now
         → Rows vrows (part text.now roll.vars_from roll.vars_to) roll.vars vars.now
@@ -152,18 +136,19 @@ pub fn assertions(
     let mut i = at;
     let mut n = 0;
     let mut now = w;
-    while lines::byte_at(text, i) == 65 {
-        let assertion = assertion_at(text, i, now, roll, principals, vars);
-        let AssertionRead::At(number, e, after) = assertion else {
-            return Section::Bad;
-        };
-        if among_first(assertions, n, number) {
-            return Section::Bad;
+    while lines::byte_at(text, i) == b'A' {
+        let line = assertion_at(text, i, now, roll, principals, vars)?;
+        if is_among(&assertions[..n], line.number) {
+            return None;
         }
-        assertions[n] = number;
+        assertions[n] = line.number;
         n += 1;
-        i = e;
-        now = after;
+        i = line.end;
+        now = line.weighed;
     }
-    Section::Good(i, n, now)
+    Some(Section {
+        end: i,
+        count: n,
+        weighed: now,
+    })
 }

@@ -9,7 +9,7 @@ ghost use Rattle.store.specs.Held.{Principals};
 ghost use Rattle.counts.specs.Counted.{SomeCounted, Counted};
 
 use contents::count_at;
-use lines::{Number, number_at};
+use lines::number_at;
 
 // A count, and the places where its digits start and end.
 #[derive(Clone, Copy)]
@@ -26,8 +26,7 @@ pub fn count_of(text: &[u8], slots: &[u32], count: usize, number: usize) -> Coun
         → Counted ks text.now number result }
 {
     let start = count_at(text, slots, count, number);
-    let digits = number_at(text, start);
-    let Number::At(value, end) = digits else {
+    let Some((value, end)) = number_at(text, start) else {
         return Count {
             value: 0,
             start,

@@ -3,16 +3,12 @@
 use mathlib.Core.Path.{◌≡◌, refl, sym, ap, ◌∙◌}
 use Prim.Native.Nat.{ℕ, zero, suc, ◌+◌, ◌≤◌, ◌<◌}
 use native.Mathlib.Omega.{arith}
-use native.Mathlib.Numerals.{add-one}
-use mathlib.Core.Bool.{Bool, true, false, not}
+use mathlib.Core.Bool.{Bool, true, false}
 use mathlib.Core.List.{[], ◌∷◌, ◌++◌, append_assoc}
-use borrow.Author.Tests.{eq-eqb, ne_eqb}
-use lib.Dec.{eqb, leb→le, le→leb}
+use lib.Dec.{leb→le, le→leb}
 use lib.ListN.{length, get_or, drop, replicate}
-use lib.Seq.{drop-cons}
 use Rattle.language.specs.Text.{Text, when◌then◌else◌, decimal}
 use Rattle.language.specs.State.{last_count}
-use Rattle.language.specs.Encode.{head_text}
 use Rattle.language.specs.Former.{former_head}
 use Rattle.language.proofs.StateText.Clean.{decimal_number}
 use Rattle.language.proofs.StateText.Digits.{decimal_digits}
@@ -20,13 +16,10 @@ use Rattle.language.specs.Decode.{number}
 use Rattle.lines.specs.Cuts.{Digits, is_digit}
 use Rattle.lines.proofs.Cuts.{unique}
 use Rattle.record_fields.specs.Sections.{Reads, Fails, any_text}
-use Rattle.record_fields.proofs.Opening.{twice, tail_of, byte_here, next_here, inside}
-use Rattle.frame.specs.Edges.{fine_head, Top, top_text, fine_top, FormerTop, total}
+use Rattle.record_fields.proofs.Opening.{twice, tail_of, byte_here}
+use Rattle.frame.specs.Edges.{Top, top_text, fine_top, FormerTop, total}
 
 -- ---- zero bytes
-
-pub total_step : (t : Text) (i : ℕ) → i < length t → total (drop i t) ≡ get_or t i 0 + total (drop (i + 1) t)
-total_step t i h = rw (add-one, drop-cons t i 0 h)
 
 pub zero_bytes : (t : Text) → total t ≡ 0 → t ≡ replicate (length t) 0
 zero_bytes [] h = refl
@@ -43,18 +36,6 @@ bytes_zero (suc n) = let h = bytes_zero n in omega arith
 abbrev pub Seen : Bool → ℕ → ℕ → Type 0
 Seen false a b = a ≡ b
 Seen true a b = 0 < a
-
-pub seen_one : (seen : Bool) (a b x c : ℕ) → Seen seen a b → b ≡ x + c → 0 < x → Seen true a c
-seen_one false a b x c h e l = omega arith
-seen_one true a b x c h e l = h
-
-pub seen_none : (seen : Bool) (a b x c : ℕ) → Seen seen a b → b ≡ x + c → x ≤ 0 → Seen seen a c
-seen_none false a b x c h e l = omega arith
-seen_none true a b x c h e l = h
-
-pub seen_all : (seen : Bool) (a : ℕ) → Seen seen a 0 → not seen ≡ eqb a 0
-seen_all false a h = sym (eq-eqb a 0 h)
-seen_all true a h = sym (ne_eqb a 0 (λ e. omega arith))
 
 -- ---- the letter of the first line
 
@@ -73,50 +54,6 @@ one_letter true false e = absurd (omega arith)
 one_letter false true e = absurd (omega arith)
 one_letter false false e = refl
 
--- ---- the first line
-
-head_text_lem : (b : Bool) (q : Text) → head_text b ++ q ≡ letter_of b ∷ 10 ∷ q
-unfolding letter_of
-head_text_lem true q = refl
-head_text_lem false q = refl
-
-module _ (t : Text) where
-  pub head_end : (get_or t 1 0 ≡ 10 → ⊥) → Fails head_text fine_head any_text t 0
-  head_end h b q f c d = h (next_here t 0 _ (d ∙ head_text_lem b q))
-
-  pub head_letter : (get_or t 0 0 ≡ 79 → ⊥) → (get_or t 0 0 ≡ 67 → ⊥) → Fails head_text fine_head any_text t 0
-  unfolding letter_of
-  head_letter o k b q f c d = go b (byte_here t 0 _ (d ∙ head_text_lem b q))
-    where
-      go : (b : Bool) → get_or t 0 0 ≡ letter_of b → ⊥
-      go true e = o e
-      go false e = k e
-
-  module _ (is_end : get_or t 1 0 ≡ 10) where
-    head_good : (b : Bool) → get_or t 0 0 ≡ letter_of b → Reads head_text fine_head any_text t 0 b 2
-    head_good b l =
-        let low = letter_low b in
-        let within = inside t 1 (omega (arith, is_end)) in
-        let two : drop 0 t ≡ letter_of b ∷ 10 ∷ drop 2 t = twice t 0 (letter_of b) 10 low (omega arith) l is_end in
-        record {
-          low = omega arith;
-          high = omega (arith, within);
-          is_fine = tt;
-          here = two ∙ sym (head_text_lem b (drop 2 t));
-          only = λ k q f c d.
-              let e = d ∙ head_text_lem k q in
-              let m : get_or t 0 0 ≡ letter_of k = byte_here t 0 _ e in
-              (one_letter k b (sym m ∙ l), tail_of 10 10 _ _ (tail_of (letter_of k) (letter_of b) _ _ (sym e ∙ two)));
-        }
-
-    pub head_open : get_or t 0 0 ≡ 79 → Reads head_text fine_head any_text t 0 true 2
-    unfolding letter_of
-    head_open l = head_good true l
-
-    pub head_closed : get_or t 0 0 ≡ 67 → Reads head_text fine_head any_text t 0 false 2
-    unfolding letter_of
-    head_closed l = head_good false l
-
 -- ---- the former first line
 
 top_text_lem : (b : Bool) (n : ℕ) (q : Text) → former_head b n ++ q ≡ letter_of b ∷ 9 ∷ (decimal n ++ 10 ∷ q)
@@ -125,17 +62,6 @@ top_text_lem true n q = ap (λ (l : Text). 79 ∷ 9 ∷ l) (append_assoc (decima
 top_text_lem false n q = ap (λ (l : Text). 67 ∷ 9 ∷ l) (append_assoc (decimal n) (10 ∷ []) q)
 
 module _ (t : Text) where
-  pub top_tab : (get_or t 1 0 ≡ 9 → ⊥) → Fails top_text fine_top any_text t 0
-  top_tab h b q f c d = h (next_here t 0 _ (d ∙ top_text_lem b.is_open b.count q))
-
-  pub top_letter : (get_or t 0 0 ≡ 79 → ⊥) → (get_or t 0 0 ≡ 67 → ⊥) → Fails top_text fine_top any_text t 0
-  unfolding letter_of
-  top_letter o k h q f c d = go h.is_open (byte_here t 0 _ (d ∙ top_text_lem h.is_open h.count q))
-    where
-      go : (b : Bool) → get_or t 0 0 ≡ letter_of b → ⊥
-      go true e = o e
-      go false e = k e
-
   module _ (is-tab : get_or t 1 0 ≡ 9) where
     -- what follows the letter and the tab
     behind : (h : Top) (q : Text) → drop 0 t ≡ top_text h ++ q → (get_or t 0 0 ≡ letter_of h.is_open) × (drop 2 t ≡ decimal h.count ++ 10 ∷ q)

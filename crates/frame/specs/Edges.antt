@@ -1,20 +1,18 @@
 -- The first line of a state text, and the bytes after its last.
-use Rattle.std.specs.Prelude.{Bool, true, ℕ, leb, eqb}
+use Rattle.std.specs.Prelude.{Bool, true, ℕ, leb, eqb, Option, Some, None}
 use Rattle.language.specs.Text.{Text, sum}
 use Rattle.language.specs.State.{last_count}
 use Rattle.language.specs.Encode.{head_text}
 use Rattle.language.specs.Former.{former_head}
 use Rattle.record_fields.specs.Sections.{Reads, Fails, any_text}
-use Rattle.frame.specs.declared.Head.{Head}
-use Rattle.frame.specs.declared.Head.TheVariants.{At, No}
 
 -- each of the two first lines is fine
 abbrev pub fine_head : Bool → Bool
 fine_head b = true
 
-abbrev pub HeadMeant : Text → Head → Type 0
-HeadMeant t (At b e) = Reads head_text fine_head any_text t 0 b e
-HeadMeant t No = Fails head_text fine_head any_text t 0
+abbrev pub HeadMeant : Text → Option (Bool × ℕ) → Type 0
+HeadMeant t (Some (b, e)) = Reads head_text fine_head any_text t 0 b e
+HeadMeant t None = Fails head_text fine_head any_text t 0
 
 -- the former first line: open or closed, and the number of programs
 pub record Top : Type 0 where
@@ -32,9 +30,9 @@ pub record FormerTop (t : Text) (b : Bool) (e : ℕ) : Type 0 where
   pub count : ℕ
   pub reads : Reads top_text fine_top any_text t 0 (record { is_open = b; count = count }) e
 
-abbrev pub FormerHeadMeant : Text → Head → Type 0
-FormerHeadMeant t (At b e) = FormerTop t b e
-FormerHeadMeant t No = Fails top_text fine_top any_text t 0
+abbrev pub FormerHeadMeant : Text → Option (Bool × ℕ) → Type 0
+FormerHeadMeant t (Some (b, e)) = FormerTop t b e
+FormerHeadMeant t None = Fails top_text fine_top any_text t 0
 
 -- the bytes of a text, summed
 abbrev pub total : Text → ℕ

@@ -115,10 +115,6 @@ name_long w h =
     let l : leb (length w) 255 ≡ false = lt-leb (length w) 255 h in
     rw l (and_no (is_word w) (not (member w base_keywords)))
 
-pub name_start : (w : Text) → is_letter (class (get_or w 0 0)) ≡ false → is_name w ≡ false
-name_start [] h = refl
-name_start (b ∷ w) h = ap (λ (c : Bool). (c && all word_byte w) && leb (length (b ∷ w)) 255 && not (member (b ∷ w) base_keywords)) h
-
 pub name_kept : (w : Text) → 0 < length w → length w ≤ 255 → is_letter (class (get_or w 0 0)) ≡ true → T (all word_byte w) → is_name w ≡ not (member w base_keywords)
 name_kept [] n h l a = absurd (omega arith)
 name_kept (b ∷ w) n h l a =

@@ -4,15 +4,15 @@ use mathlib.Core.Path.{◌≡◌, refl, sym, ap, subst, ◌∙◌}
 use Prim.Native.Nat.{ℕ, zero, suc, ◌+◌, ◌*◌, ◌-◌, ◌/◌, ◌%◌, ◌≤◌, ◌<◌}
 use native.Mathlib.Omega.{arith}
 use native.Mathlib.Numerals.{add-one}
-use mathlib.Core.Bool.{Bool, true, false, ◌&&◌}
+use mathlib.Core.Bool.{Bool, true, false}
 use mathlib.Core.List.{[], ◌∷◌, ◌++◌}
-use lib.Dec.{T, leb, leb→le, le→leb, ltb, lit≤}
+use lib.Dec.{T, leb, leb→le, ltb, lit≤}
 use lib.ListN.{length, get_or, drop, length-append, length-drop, get_or-append}
 use lib.Seq.{drop-cons, length-take-le, get_or-take, get_or-drop}
-use borrow.Author.Tests.{le-ltb, lt-ltb, ltb-false, lt-leb}
+use borrow.Author.Tests.{le-ltb, lt-ltb, ltb-false}
 use Rattle.language.specs.Text.{Text, when◌then◌else◌, all, digits, decimal}
 use Rattle.language.specs.Decode.{number}
-use Rattle.language.proofs.Logic.Tests.{both, and, true_of, and_false}
+use Rattle.language.proofs.Logic.Tests.{both, and}
 use Rattle.language.proofs.StateText.Clean.{decimal_number, digits_length, number_append}
 use Rattle.language.proofs.StateText.Digits.{decimal_digits}
 use Rattle.lines.specs.Cuts.{is_digit, Field, Worth, Digits}
@@ -26,9 +26,6 @@ all_at p (b ∷ w) (suc i) l h = all_at p w i (omega arith) (both (p b) (all p w
 
 pub digit_range : (b : ℕ) → T (is_digit b) → (48 ≤ b) × (b ≤ 57)
 digit_range b h = let (l, u) = both (leb 48 b) (leb b 57) h in (leb→le 48 b l, leb→le b 57 u)
-
-range_digit : (b : ℕ) → 48 ≤ b → b ≤ 57 → T (is_digit b)
-range_digit b l u = and (leb 48 b) (leb b 57) (le→leb 48 b l) (le→leb b 57 u)
 
 -- ---- the value of a text
 
@@ -151,15 +148,6 @@ decimal_back (b ∷ w) h s = go (cut_last b w)
         let n : length (b ∷ w) ≡ length u + 1 = ap length e ∙ length-append u (c ∷ []) in
         let f : get_or (u ++ c ∷ []) 0 0 ≡ 48 → length (u ++ c ∷ []) ≡ 1 = λ z. sym (ap length e) ∙ s.first (ap (λ (y : Text). get_or y 0 0) e ∙ z) in
         ap (λ (y : Text). decimal (number 0 y)) e ∙ digits_back 9 u c (omega (arith, s.few)) (subst (λ (y : Text). T (all is_digit y)) e h) f ∙ sym e
-
-pub digit_low : (b : ℕ) → b < 48 → is_digit b ≡ false
-digit_low b h = ap (λ (c : Bool). c && leb b 57) (lt-leb 48 b h)
-
-pub digit_high : (b : ℕ) → 57 < b → is_digit b ≡ false
-digit_high b h = ap (λ (c : Bool). leb 48 b && c) (lt-leb b 57 h) ∙ and_false (leb 48 b)
-
-pub digit_in : (b : ℕ) → 48 ≤ b → b ≤ 57 → is_digit b ≡ true
-digit_in b l u = true_of (is_digit b) (range_digit b l u)
 
 -- ---- a field of digits that ends the line
 

@@ -1,12 +1,8 @@
 -- The fields of a line of the state text: a field is cut off where the byte that ends it stands.
-use Rattle.std.specs.Prelude.{◌≡◌, ℕ, ◌+◌, ◌≤◌, ◌<◌, Bool, ◌&&◌, ◌∷◌, ◌++◌, T, leb, length, drop}
+use Rattle.std.specs.Prelude.{◌≡◌, ℕ, ◌+◌, ◌≤◌, ◌<◌, Bool, ◌&&◌, ◌∷◌, ◌++◌, T, leb, length, drop, Option, Some, None}
 use Rattle.language.specs.Text.{Text, decimal}
 use Rattle.language.specs.State.{last_count}
 use Rattle.language.specs.Decode.{number}
-use Rattle.lines.specs.declared.Cut.{Cut}
-use Rattle.lines.specs.declared.Cut.TheVariants as Of
-use Rattle.lines.specs.declared.Number.{Number}
-use Rattle.lines.specs.declared.Number.TheVariants as Counted
 use Rattle.text.specs.Parts.{part}
 
 -- at place `at` stands a field that passes the test; it ends at e, where the byte `stop` stands
@@ -16,9 +12,9 @@ pub record Field (fine : Text → Bool) (stop : ℕ) (t : Text) (at e : ℕ) : T
   pub is_fine : T (fine (part t at e))
   pub here : drop at t ≡ part t at e ++ stop ∷ drop (e + 1) t
 
-abbrev pub CutMeant : (Text → Bool) → ℕ → Text → ℕ → Cut → Type 0
-CutMeant fine stop t at (Of.At e) = Field fine stop t at e
-CutMeant fine stop t at Of.No = (x r : Text) → T (fine x) → drop at t ≡ x ++ stop ∷ r → ⊥
+abbrev pub CutMeant : (Text → Bool) → ℕ → Text → ℕ → Option ℕ → Type 0
+CutMeant fine stop t at (Some e) = Field fine stop t at e
+CutMeant fine stop t at None = (x r : Text) → T (fine x) → drop at t ≡ x ++ stop ∷ r → ⊥
 
 abbrev pub is_digit : ℕ → Bool
 is_digit b = leb 48 b && leb b 57
@@ -35,6 +31,6 @@ pub record Digits (t : Text) (at n e : ℕ) : Type 0 where
   pub bound : n ≤ last_count
   pub here : drop at t ≡ decimal n ++ 10 ∷ drop (e + 1) t
 
-abbrev pub NumberMeant : Text → ℕ → Number → Type 0
-NumberMeant t at (Counted.At n e) = Digits t at n e
-NumberMeant t at Counted.No = (n : ℕ) (r : Text) → n ≤ last_count → drop at t ≡ decimal n ++ 10 ∷ r → ⊥
+abbrev pub NumberMeant : Text → ℕ → Option (ℕ × ℕ) → Type 0
+NumberMeant t at (Some (n, e)) = Digits t at n e
+NumberMeant t at None = (n : ℕ) (r : Text) → n ≤ last_count → drop at t ≡ decimal n ++ 10 ∷ r → ⊥

@@ -10,57 +10,32 @@ ghost use Rattle.lines.specs.Cuts.{CutMeant, NumberMeant, is_digit, Worth};
 
 use text::{Alphabet, Class};
 
-// Where a field ends.
-#[derive(Clone, Copy)]
-pub enum Cut {
-    At(usize),
-    No,
-}
-
-// A number, and where it ends.
-#[derive(Clone, Copy)]
-pub enum Number {
-    At(u64, usize),
-    No,
-}
+// The greatest count of completed programs.
+const LAST_COUNT: u64 = 4294967295;
 
 // The byte at a place, 0 past the end.
 pub fn byte_at(text: &[u8], at: usize) -> u8
     ensures { result ≡ get_or text.now at 0 }
 {
-    if at < text.len() {
-        return text[at];
-    }
-    0
+    text.get(at).copied().unwrap_or(0)
 }
 
-// A field of an alphabet's bytes that `stop` ends.
-pub fn run_cut(text: &[u8], at: usize, a: Alphabet, stop: u8) -> Cut
+// Where a field of an alphabet's bytes that `stop` ends has its end.
+pub fn run_cut(text: &[u8], at: usize, a: Alphabet, stop: u8) -> Option<usize>
     requires { (at ≤ length text.now) × (in_alphabet a stop ≡ false) }
     ensures { CutMeant (all (in_alphabet a)) stop text.now at result }
 {
     let e = text::run_end(text, at, a);
-    if e >= text.len() {
-        return Cut::No;
+    if e >= text.len() || text[e] != stop {
+        return None;
     }
-    if text[e] != stop {
-        return Cut::No;
-    }
-    Cut::At(e)
+    Some(e)
 }
 
 fn is_letter(b: u8) -> bool
     ensures { result ≡ is_letter (class b) }
 {
-    let c = text::class_of(b);
-    match c {
-        Class::Letter => true,
-        Class::Digit => false,
-        Class::Space => false,
-        Class::Newline => false,
-        Class::Mark(_) => false,
-        Class::Foreign => false,
-    }
+    matches!(text::class_of(b), Class::Letter)
 }
 
 // Whether a run of letters, digits and underscores is a name that a state may hold.
@@ -68,31 +43,22 @@ fn is_name(w: &[u8]) -> bool
     requires { T (all word_byte w.now) }
     ensures { result ≡ is_name w.now }
 {
-    if w.len() == 0 {
+    if w.is_empty() || w.len() > 255 {
         return false;
     }
-    if w.len() > 255 {
-        return false;
-    }
-    if !is_letter(w[0]) {
-        return false;
-    }
-    !keywords::is_base_keyword(w)
+    is_letter(w[0]) && !keywords::is_base_keyword(w)
 }
 
-// A name that `stop` ends.
-pub fn name_end(text: &[u8], at: usize, stop: u8) -> Cut
+// Where a name that `stop` ends has its end.
+pub fn name_end(text: &[u8], at: usize, stop: u8) -> Option<usize>
     requires { (at ≤ length text.now) × (word_byte stop ≡ false) }
     ensures { CutMeant is_name stop text.now at result }
 {
-    let cut = run_cut(text, at, Alphabet::Word, stop);
-    let Cut::At(e) = cut else {
-        return Cut::No;
-    };
+    let e = run_cut(text, at, Alphabet::Word, stop)?;
     if !is_name(&text[at..e]) {
-        return Cut::No;
+        return None;
     }
-    Cut::At(e)
+    Some(e)
 }
 
 // The end of the run of digits that starts at `at`.
@@ -100,17 +66,12 @@ fn digits_end(text: &[u8], at: usize) -> usize
     requires { at ≤ length text.now }
     ensures ends { result ≡ at + length (front is_digit (drop at text.now)) }
 {
-    let mut i = at;
-    while i < text.len() {
-        if text[i] < 48 {
+    for i in at..text.len() {
+        if !text[i].is_ascii_digit() {
             return i;
         }
-        if text[i] > 57 {
-            return i;
-        }
-        i += 1;
     }
-    i
+    text.len()
 }
 
 // What digits are worth, up to the greatest count of programs.
@@ -119,43 +80,34 @@ fn value_of(w: &[u8]) -> u64
     ensures { Worth w.now result }
 {
     let mut n: u64 = 0;
-    let mut i = 0;
-    while i < w.len() {
-        n = n * 10 + (w[i] as u64 - 48);
-        if n > 4294967295 {
+    for b in w {
+        n = n * 10 + u64::from(*b - b'0');
+        if n > LAST_COUNT {
             return n;
         }
-        i += 1;
     }
     n
 }
 
-// A decimal number without a leading zero that ends the line.
-pub fn number_at(text: &[u8], at: usize) -> Number
+// A decimal number without a leading zero that ends the line, and where it ends.
+pub fn number_at(text: &[u8], at: usize) -> Option<(u64, usize)>
     requires { at ≤ length text.now }
     ensures { NumberMeant text.now at result }
 {
     let e = digits_end(text, at);
-    if e >= text.len() {
-        return Number::No;
+    if e >= text.len() || text[e] != b'\n' {
+        return None;
     }
-    if text[e] != 10 {
-        return Number::No;
+    let size = e - at;
+    if size == 0 || size > 10 {
+        return None;
     }
-    if e == at {
-        return Number::No;
-    }
-    if e - at > 10 {
-        return Number::No;
-    }
-    if text[at] == 48 {
-        if e - at > 1 {
-            return Number::No;
-        }
+    if text[at] == b'0' && size > 1 {
+        return None;
     }
     let n = value_of(&text[at..e]);
-    if n > 4294967295 {
-        return Number::No;
+    if n > LAST_COUNT {
+        return None;
     }
-    Number::At(n, e)
+    Some((n, e))
 }

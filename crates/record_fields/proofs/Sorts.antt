@@ -51,9 +51,6 @@ line_text : (u q : Text) → string_line u ++ q ≡ u ++ 10 ∷ q
 line_text u q = append_assoc u (10 ∷ []) q
 
 module _ (t : Text) (at w : ℕ) where
-  pub string_none : ((u r : Text) → T (all string_byte u) → drop at t ≡ u ++ 10 ∷ r → ⊥) → Fails string_line (light_one is_string length w) any_text t at
-  string_none never u q f c d = never u q (both (is_string u) (leb (w + length u) 8192) f).0 (d ∙ line_text u q)
-
   module _ (e : ℕ) (f : Field (all string_byte) 10 t at e) where
     size : length (part t at e) ≡ e - at
     size = part_length t at e f.low (omega (arith, f.high))

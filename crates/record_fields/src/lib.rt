@@ -7,67 +7,55 @@ ghost use Rattle.store.specs.Rows.{Row, Rows};
 ghost use Rattle.record_fields.specs.Entering.{Entering, Entered};
 ghost use Rattle.record_fields.specs.Sections.{Safe, StringMeant, FieldMeant, FieldsMeant};
 
-use lines::Cut;
 use text::Alphabet;
 
-// A record: where it ends, and what is weighed with it.
-#[derive(Clone, Copy)]
-pub enum Item {
-    Good(usize, usize),
-    Bad,
-}
+// What a state weighs at most.
+pub const LIMIT: usize = 8192;
 
 // A record with a name: where the name ends, where the record ends, and what is weighed with it.
 #[derive(Clone, Copy)]
-pub enum Entry {
-    Good(usize, usize, usize),
-    Bad,
+pub struct Entry {
+    pub name_end: usize,
+    pub end: usize,
+    pub weighed: usize,
 }
 
 // Records one after the other: where they end, how many, and what is weighed with them.
 #[derive(Clone, Copy)]
-pub enum Section {
-    Good(usize, usize, usize),
-    Bad,
+pub struct Section {
+    pub end: usize,
+    pub count: usize,
+    pub weighed: usize,
 }
 
-// A string that ends its line.
-pub fn string_at(text: &[u8], at: usize, w: usize) -> Item
+// A string that ends its line: where its record ends, and what is weighed with it.
+pub fn string_at(text: &[u8], at: usize, w: usize) -> Option<(usize, usize)>
     requires { (at ≤ length text.now) × (w ≤ 16384) }
     ensures { StringMeant text.now at w result }
 {
-    let cut = lines::run_cut(text, at, Alphabet::Text, 10);
-    let Cut::At(e) = cut else {
-        return Item::Bad;
-    };
+    let e = lines::run_cut(text, at, Alphabet::Text, b'\n')?;
     let size = e - at;
-    if size > 8192 {
-        return Item::Bad;
+    if size > LIMIT || w + size > LIMIT {
+        return None;
     }
-    let after = w + size;
-    if after > 8192 {
-        return Item::Bad;
-    }
-    Item::Good(e + 1, after)
+    Some((e + 1, w + size))
 }
 
 // A field line.
-fn field_at(text: &[u8], at: usize, w: usize) -> Entry
+fn field_at(text: &[u8], at: usize, w: usize) -> Option<Entry>
     requires { (get_or text.now at 0 ≡ 70) × (w ≤ 8193) }
     ensures { FieldMeant text.now at w result }
 {
-    if lines::byte_at(text, at + 1) != 9 {
-        return Entry::Bad;
+    if lines::byte_at(text, at + 1) != b'\t' {
+        return None;
     }
-    let label = lines::name_end(text, at + 2, 9);
-    let Cut::At(m) = label else {
-        return Entry::Bad;
-    };
-    let string = string_at(text, m + 1, w + 1 + (m - (at + 2)));
-    let Item::Good(e, after) = string else {
-        return Entry::Bad;
-    };
-    Entry::Good(m, e, after)
+    let name_end = lines::name_end(text, at + 2, b'\t')?;
+    let (end, weighed) = string_at(text, name_end + 1, w + 1 + (name_end - (at + 2)))?;
+    Some(Entry {
+        name_end,
+        end,
+        weighed,
+    })
 }
 
 // A name that starts at i + 2 and ends at m is entered as the n-th of the records that stand from `at` up to i, if it is new.
@@ -85,27 +73,28 @@ pub fn enter(text: &[u8], at: usize, i: usize, m: usize, slots: &mut [u32], n: u
 }
 
 // Field lines with different labels. The slots of the labels go to `slots`, to tell whether one is there twice.
-pub fn fields(text: &[u8], at: usize, w: usize, slots: &mut [u32]) -> Section
+pub fn fields(text: &[u8], at: usize, w: usize, slots: &mut [u32]) -> Option<Section>
     requires { Safe text.now at w slots.old }
     ensures { FieldsMeant text.now at w result }
 {
     let mut i = at;
     let mut n = 0;
     let mut now = w;
-    while lines::byte_at(text, i) == 70 {
-        let line = field_at(text, i, now);
-        let Entry::Good(m, e, after) = line else {
-            return Section::Bad;
-        };
-        if !enter(text, at, i, m, slots, n) {
-            return Section::Bad;
+    while lines::byte_at(text, i) == b'F' {
+        let line = field_at(text, i, now)?;
+        if !enter(text, at, i, line.name_end, slots, n) {
+            return None;
         }
         n += 1;
-        i = e;
-        now = after;
+        i = line.end;
+        now = line.weighed;
     }
-    if now > 8192 {
-        return Section::Bad;
+    if now > LIMIT {
+        return None;
     }
-    Section::Good(i, n, now)
+    Some(Section {
+        end: i,
+        count: n,
+        weighed: now,
+    })
 }

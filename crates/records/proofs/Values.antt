@@ -1,12 +1,13 @@
 -- Laws of strings, records and lists as values.
 -- Assumes nothing.
-use mathlib.Core.Path.{◌≡◌, refl, sym, ap, subst, ◌∙◌}
+use mathlib.Core.Path.{◌≡◌, refl, sym, ap, ◌∙◌}
 use Prim.Native.Nat.{ℕ, ◌+◌, ◌≤◌, ◌<◌}
 use native.Mathlib.Omega.{arith}
 use mathlib.Core.Bool.{Bool, true, false, ◌&&◌, not}
 use mathlib.Core.List.{List, [], ◌∷◌, ◌++◌}
-use lib.Dec.{T, eqb, leb, leb→le, le→leb, ltb, lt→ltb, ltb→lt}
+use lib.Dec.{T, eqb, leb, leb→le, le→leb, ltb, lt→ltb}
 use lib.ListN.{length, get_or, drop}
+use Rattle.std.specs.Prelude.{Option, Some, None}
 use Rattle.language.specs.Text.{Text, all, joined, sum}
 use Rattle.language.specs.State.{Field, Element, string, fields, Value, single, list}
 use Rattle.language.specs.Weight.{element_weight, value_weight}
@@ -14,15 +15,12 @@ use Rattle.language.specs.Encode.{field_text, element_text, value_text}
 use Rattle.language.specs.Identifiers.{is_string}
 use Rattle.language.specs.Valid.{valid_field, valid_fields, valid_element, valid_value}
 use Rattle.language.proofs.Logic.Tests.{both, and, three, and_three, not_not}
-use Rattle.record_fields.specs.declared.Item.{Item}
-use Rattle.record_fields.specs.declared.Item.TheVariants.{Good, Bad}
 use Rattle.record_fields.specs.Sections.{Reads, Fails, One, Records, light_one, light_all, any_text, opens, off_field, string_line, StringMeant, field_weight, distinct_labels}
 use Rattle.records.specs.Values.{off_element, ElementMeant, ElementsMeant, ValueMeant, listed_weight}
-use Rattle.record_fields.proofs.Opening.{twice, tail_of, byte_here, next_here}
+use Rattle.record_fields.proofs.Opening.{twice, tail_of, byte_here}
 use Rattle.record_fields.proofs.Sorts.{inner_fails, inner_reads, any_weaker}
-use Rattle.record_fields.proofs.Follow.{Run, start, step, stuck, finish}
+use Rattle.record_fields.proofs.Follow.{Run, step, stuck, finish}
 use Rattle.record_fields.proofs.Labels.{opens_here, opens_not}
-use Rattle.record_fields.proofs.Indexing.{ahead}
 
 -- another test that says the same
 pub reweigh : {A : Type 0} (text : A → Text) (f g : A → Bool) (clear : Text → Bool) (t : Text) (at : ℕ) (a : A) (e : ℕ)
@@ -35,17 +33,7 @@ off_field_lem q h = (three (not (opens 83 q)) (not (opens 82 q)) (not (opens 70 
 -- ---- elements
 
 module _ (t : Text) (at w : ℕ) where
-  -- the letter is none of an element's
-  pub element_none : (get_or t at 0 ≡ 83 → ⊥) → (get_or t at 0 ≡ 82 → ⊥) → Fails element_text (light_one valid_element element_weight w) off_field t at
-  element_none s r (string u) q g c d = s (byte_here t at (element_text (string u) ++ q) d)
-  element_none s r (fields fs) q g c d = r (byte_here t at (element_text (fields fs) ++ q) d)
-
   module _ (is-s : get_or t at 0 ≡ 83) where
-    -- a string with no tab
-    pub string_tab : (get_or t (at + 1) 0 ≡ 9 → ⊥) → Fails element_text (light_one valid_element element_weight w) off_field t at
-    string_tab h (string u) q g c d = h (next_here t at (element_text (string u) ++ q) d)
-    string_tab h (fields fs) q g c d = let e = byte_here t at (element_text (fields fs) ++ q) d in omega arith
-
     module _ (is-tab : get_or t (at + 1) 0 ≡ 9) where
       string_cases : (a : Element) (q : Text) → T (light_one valid_element element_weight w a) → T (off_field q) → drop at t ≡ element_text a ++ q
           → (u : Text) × (a ≡ string u) × T (light_one is_string length w u) × (drop (at + 2) t ≡ string_line u ++ q)
@@ -53,21 +41,17 @@ module _ (t : Text) (at w : ℕ) where
           (u, refl, g, tail_of 9 9 _ _ (tail_of 83 83 _ _ (sym (twice t at 83 9 (omega arith) (omega arith) is-s is-tab) ∙ d)))
       string_cases (fields fs) q g c d = absurd (let e = byte_here t at (element_text (fields fs) ++ q) d in omega arith)
 
-      pub string_element_lem : (r : Item) → StringMeant t (at + 2) w r → ElementMeant t at w r
-      string_element_lem (Good e after) o = record {
+      pub string_element_lem : (r : Option (ℕ × ℕ)) → StringMeant t (at + 2) w r → ElementMeant t at w r
+      string_element_lem (Some (e, after)) o = record {
         row = string o.row;
         reads = inner_reads element_text (light_one valid_element element_weight w) off_field string_line (light_one is_string length w) any_text (any_weaker off_field) string t at (at + 2) string_cases
             o.row e (omega arith) o.reads o.reads.is_fine
             (twice t at 83 9 (omega arith) (omega arith) is-s is-tab ∙ ap (λ (l : Text). 83 ∷ 9 ∷ l) o.reads.here);
         weighed = o.weighed;
       }
-      string_element_lem Bad never = inner_fails element_text (light_one valid_element element_weight w) off_field string_line (light_one is_string length w) any_text (any_weaker off_field) string t at (at + 2) string_cases never
+      string_element_lem None never = inner_fails element_text (light_one valid_element element_weight w) off_field string_line (light_one is_string length w) any_text (any_weaker off_field) string t at (at + 2) string_cases never
 
   module _ (is-r : get_or t at 0 ≡ 82) where
-    pub record_newline : (get_or t (at + 1) 0 ≡ 10 → ⊥) → Fails element_text (light_one valid_element element_weight w) off_field t at
-    record_newline h (string u) q g c d = let e = byte_here t at (element_text (string u) ++ q) d in omega arith
-    record_newline h (fields fs) q g c d = h (next_here t at (element_text (fields fs) ++ q) d)
-
     module _ (is_line : get_or t (at + 1) 0 ≡ 10) where
       lighter : (fs : List Field) → T (light_one valid_element element_weight w (fields fs)) → T (light_all valid_field distinct_labels field_weight w fs)
       lighter fs g =
@@ -81,21 +65,7 @@ module _ (t : Text) (at w : ℕ) where
       record_cases (fields fs) q g c d =
           (fs, refl, lighter fs g, tail_of 10 10 _ _ (tail_of 82 82 _ _ (sym (twice t at 82 10 (omega arith) (omega arith) is-r is_line) ∙ d)))
 
-      pub record_fails : Fails (joined field_text) (light_all valid_field distinct_labels field_weight w) off_field t (at + 2) → Fails element_text (light_one valid_element element_weight w) off_field t at
-      record_fails = inner_fails element_text (light_one valid_element element_weight w) off_field (joined field_text) (light_all valid_field distinct_labels field_weight w) off_field (λ q h. h) fields t at (at + 2) record_cases
-
       module _ (e n after : ℕ) (R : Records field_text valid_field distinct_labels field_weight off_field t (at + 2) w e n after) where
-        -- a record has a field at least
-        pub record_empty : n ≡ 0 → Fails element_text (light_one valid_element element_weight w) off_field t at
-        record_empty z a q g c d =
-            let (fs, s, f, d') = record_cases a q g c d in
-            let (same, left) = R.reads.only fs q f c d' in
-            let g' : T (light_one valid_element element_weight w (fields fs)) = subst (λ (x : Element). T (light_one valid_element element_weight w x)) s g in
-            let (v, l) = both (valid_fields fs) (leb (w + element_weight (fields fs)) 8192) g' in
-            let (k, al, ds) = three (ltb 0 (length fs)) (all valid_field fs) (distinct_labels fs) v in
-            let p : 0 < length fs = ltb→lt 0 (length fs) k in
-            omega (arith, R.counted, ap length same)
-
         pub record_element : (n ≡ 0 → ⊥) → One element_text valid_element element_weight off_field t at w e after
         record_element z =
             let (a, d, l) = three (all valid_field R.rows) (distinct_labels R.rows) (leb (w + sum field_weight R.rows) 8192) R.reads.is_fine in
@@ -138,10 +108,6 @@ element_on : (e : Element) (q : Text) → T (off_element (element_text e ++ q)) 
 element_on (string u) q h = h
 element_on (fields fs) q h = h
 
-element_some : (e : Element) → 0 < length (element_text e)
-element_some (string u) = omega arith
-element_some (fields fs) = omega arith
-
 -- what the loop over the elements knows
 pub record Listing (t : Text) (at w i now : ℕ) : Type 0 where
   pub rows : List Element
@@ -149,9 +115,6 @@ pub record Listing (t : Text) (at w i now : ℕ) : Type 0 where
 
 all_true : List Element → Bool
 all_true es = true
-
-pub listing_start : (t : Text) (at w : ℕ) → at ≤ length t → Listing t at w at w
-listing_start t at w h = record { rows = []; run = start element_text valid_element listed_weight off_field off_element off_field_lem element_clear element_on t at w h }
 
 module _ (t : Text) (at w i now : ℕ) (L : Listing t at w i now) where
   listed : (e : Element) → T (light_one valid_element listed_weight now e) → T (light_one valid_element element_weight (now + 1) e)
@@ -165,12 +128,6 @@ module _ (t : Text) (at w i now : ℕ) (L : Listing t at w i now) where
   without es h =
       let (a, l) = both (all valid_element es) (leb (w + sum listed_weight es) 8192) h in
       and_three (all valid_element es) true (leb (w + sum listed_weight es) 8192) a tt l
-
-  pub listing_low : w ≤ now
-  listing_low = omega (arith, L.run.weighed)
-
-  pub listing_high : i ≤ length t
-  listing_high = L.run.high
 
   pub elements_good : T (off_element (drop i t)) → now ≤ 8192 → One (joined element_text) (all valid_element) (sum listed_weight) off_element t at w i now
   unfolding all_true
@@ -193,9 +150,6 @@ module _ (t : Text) (at w i now : ℕ) (L : Listing t at w i now) where
       fine_one =
           let (v, l) = both (valid_element O.row) (leb (now + 1 + element_weight O.row) 8192) O.reads.is_fine in
           (v, leb→le (now + 1 + element_weight O.row) 8192 l)
-
-      pub element_ahead : i < e
-      element_ahead = ahead t (element_text O.row) i e O.reads.here (element_some O.row) O.reads.low O.reads.high
 
       pub element_light : after ≤ 8192
       element_light = let (v, l) = fine_one in omega (arith, O.weighed)
@@ -225,21 +179,16 @@ module _ (t : Text) (at w : ℕ) where
     single_cases (single e) q g c d = (e, refl, g, d ∙ ap (λ (x : Text). x ++ q) (single_text e))
     single_cases (list es) q g c d = absurd (no_list (byte_here t at (value_text (list es) ++ q) d))
 
-    pub element_value : (r : Item) → ElementMeant t at w r → ValueMeant t at w r
-    element_value (Good e after) o = record {
+    pub element_value : (r : Option (ℕ × ℕ)) → ElementMeant t at w r → ValueMeant t at w r
+    element_value (Some (e, after)) o = record {
       row = single o.row;
       reads = inner_reads value_text (light_one valid_value value_weight w) off_element element_text (light_one valid_element element_weight w) off_field off_field_lem single t at at single_cases
           o.row e (omega arith) o.reads o.reads.is_fine (o.reads.here ∙ ap (λ (x : Text). x ++ drop e t) (sym (single_text o.row)));
       weighed = o.weighed;
     }
-    element_value Bad never = inner_fails value_text (light_one valid_value value_weight w) off_element element_text (light_one valid_element element_weight w) off_field off_field_lem single t at at single_cases never
+    element_value None never = inner_fails value_text (light_one valid_value value_weight w) off_element element_text (light_one valid_element element_weight w) off_field off_field_lem single t at at single_cases never
 
   module _ (is-l : get_or t at 0 ≡ 76) where
-    pub list_newline : (get_or t (at + 1) 0 ≡ 10 → ⊥) → Fails value_text (light_one valid_value value_weight w) off_element t at
-    list_newline h (single (string u)) q g c d = let e = byte_here t at (value_text (single (string u)) ++ q) d in omega arith
-    list_newline h (single (fields fs)) q g c d = let e = byte_here t at (value_text (single (fields fs)) ++ q) d in omega arith
-    list_newline h (list es) q g c d = h (next_here t at (value_text (list es) ++ q) d)
-
     module _ (is_line : get_or t (at + 1) 0 ≡ 10) where
       list_cases : (v : Value) (q : Text) → T (light_one valid_value value_weight w v) → T (off_element q) → drop at t ≡ value_text v ++ q
           → (es : List Element) × (v ≡ list es) × T (light_one (all valid_element) (sum listed_weight) w es) × (drop (at + 2) t ≡ joined element_text es ++ q)
@@ -247,12 +196,12 @@ module _ (t : Text) (at w : ℕ) where
       list_cases (single (fields fs)) q g c d = absurd (let e = byte_here t at (value_text (single (fields fs)) ++ q) d in omega arith)
       list_cases (list es) q g c d = (es, refl, g, tail_of 10 10 _ _ (tail_of 76 76 _ _ (sym (twice t at 76 10 (omega arith) (omega arith) is-l is_line) ∙ d)))
 
-      pub list_value : (r : Item) → ElementsMeant t (at + 2) w r → ValueMeant t at w r
-      list_value (Good e after) o = record {
+      pub list_value : (r : Option (ℕ × ℕ)) → ElementsMeant t (at + 2) w r → ValueMeant t at w r
+      list_value (Some (e, after)) o = record {
         row = list o.row;
         reads = inner_reads value_text (light_one valid_value value_weight w) off_element (joined element_text) (light_one (all valid_element) (sum listed_weight) w) off_element (λ q h. h) list t at (at + 2) list_cases
             o.row e (omega arith) o.reads o.reads.is_fine
             (twice t at 76 10 (omega arith) (omega arith) is-l is_line ∙ ap (λ (l : Text). 76 ∷ 10 ∷ l) o.reads.here);
         weighed = o.weighed;
       }
-      list_value Bad never = inner_fails value_text (light_one valid_value value_weight w) off_element (joined element_text) (light_one (all valid_element) (sum listed_weight) w) off_element (λ q h. h) list t at (at + 2) list_cases never
+      list_value None never = inner_fails value_text (light_one valid_value value_weight w) off_element (joined element_text) (light_one (all valid_element) (sum listed_weight) w) off_element (λ q h. h) list t at (at + 2) list_cases never

@@ -23,8 +23,7 @@ use Rattle.language.specs.Weight.{name_weight}
 use Rattle.language.proofs.StateText.Clean.{name_length, name_word}
 use Rattle.record_fields.proofs.Indexing.{is_there, is_new, member_place}
 use Rattle.store.proofs.NameWeights.{name_light}
-use Rattle.record_fields.specs.Sections.{Fails, any_text}
-use Rattle.record_fields.proofs.Opening.{part_length, twice, tail_of, byte_here, next_here}
+use Rattle.record_fields.proofs.Opening.{part_length, twice, tail_of}
 use Rattle.references.specs.Known.{Member, Delegating}
 
 names_all : (rows : List Row) → T (all (λ r. is_name r.name) rows) → T (all is_name (row_names rows))
@@ -74,21 +73,9 @@ line_text : (x q : Text) → delegator_text x ++ q ≡ 68 ∷ 9 ∷ (x ++ 10 ∷
 line_text x q = ap (λ (l : Text). 68 ∷ 9 ∷ l) (append_assoc x (10 ∷ []) q)
 
 module _ (rows : List Row) (t : Text) (at : ℕ) where
-  abbrev NoDelegator : Type 0
-  NoDelegator = Fails delegator_text (λ x. member x (row_names rows)) any_text t at
-
-  pub delegator_letter : (get_or t at 0 ≡ 68 → ⊥) → NoDelegator
-  delegator_letter h x q f c d = h (byte_here t at (68 ∷ 9 ∷ (x ++ 10 ∷ q)) (d ∙ line_text x q))
-
-  pub delegator_tab : (get_or t (at + 1) 0 ≡ 9 → ⊥) → NoDelegator
-  delegator_tab h x q f c d = h (next_here t at (68 ∷ 9 ∷ (x ++ 10 ∷ q)) (d ∙ line_text x q))
-
   module _ (is-d : get_or t at 0 ≡ 68) (is-tab : get_or t (at + 1) 0 ≡ 9) where
     behind : (x q : Text) → drop at t ≡ delegator_text x ++ q → drop (at + 2) t ≡ x ++ 10 ∷ q
     behind x q d = tail_of 9 9 _ _ (tail_of 68 68 _ _ (sym (twice t at 68 9 (omega arith) (omega arith) is-d is-tab) ∙ d ∙ line_text x q))
-
-    pub delegator_unknown : ((x r : Text) → T (member x (row_names rows)) → drop (at + 2) t ≡ x ++ 10 ∷ r → ⊥) → NoDelegator
-    delegator_unknown never x q f c d = never x q f (behind x q d)
 
     pub delegator_good : ((x : Text) → T (member x (row_names rows)) → T (all word_byte x)) → (k e : ℕ) → Member (row_names rows) 10 t (at + 2) k e → Delegating (row_names rows) t at k (e + 1)
     delegator_good word k e M =

@@ -1,11 +1,7 @@
-use Prim.Native.Nat.{◌-◌, ◌≤◌}
-use lib.ListN.{length, drop}
+use Rattle.std.proofs.Common.{drop}
 use Rattle.frame.specs.Edges.{total}
 use Rattle.frame.proofs.Limits.{Seen}
 use Rattle.frame.proofs.zeros_from.Given as goal
 
-abbrev pub invariant-loop-i : goal.invariant-loop-i
-invariant-loop-i l = (l.at ≤ l.i) × (l.i ≤ length l.text) × Seen l.seen (total (drop l.at l.text)) (total (drop l.i l.text))
-
-abbrev pub decreases-loop-i : goal.decreases-loop-i
-decreases-loop-i l = length l.text - l.i
+abbrev pub invariant-loop-b : goal.invariant-loop-b
+invariant-loop-b l = Seen l.seen (total l.rest) (total (drop l.b-index l.rest))

@@ -1,12 +1,7 @@
-use mathlib.Core.Path.{◌≡◌}
-use Prim.Native.Nat.{◌+◌, ◌-◌, ◌≤◌}
-use lib.ListN.{length, drop}
+use Rattle.std.proofs.Common.{◌≡◌, ◌+◌, length, drop}
 use Rattle.language.specs.Text.{front}
 use Rattle.lines.specs.Cuts.{is_digit}
 use Rattle.lines.proofs.digits_end.Given as goal
 
 abbrev pub invariant-loop-i : goal.invariant-loop-i
-invariant-loop-i l = (l.at ≤ l.i) × (l.i ≤ length l.text) × (l.i + length (front is_digit (drop l.i l.text)) ≡ l.at + length (front is_digit (drop l.at l.text)))
-
-abbrev pub decreases-loop-i : goal.decreases-loop-i
-decreases-loop-i l = length l.text - l.i
+invariant-loop-i l = l.i + length (front is_digit (drop l.i l.text)) ≡ l.at + length (front is_digit (drop l.at l.text))

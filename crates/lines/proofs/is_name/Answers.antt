@@ -1,25 +1,17 @@
-use native.Mathlib.Omega.{arith}
-use mathlib.Core.Path.{◌≡◌, sym, ap, ◌∙◌}
-use Rattle.lines.proofs.Cuts.{name_empty, name_long, name_start, name_kept}
-use borrow.Author.Tests.{not-true, not-false}
+use Rattle.std.proofs.Common.{◌≡◌, length, get_or, true, sym, ap, ◌∙◌, not, arith}
+use borrow.Author.Tests.{eqb-true, eqb-false}
 use Rattle.language.specs.Bytes.{class, is_letter}
-use mathlib.Core.Bool.{true, not}
-use lib.ListN.{get_or}
+use Rattle.lines.proofs.Cuts.{name_empty, name_long, name_kept}
 use Rattle.lines.proofs.is_name.Goals as goal
+use Rattle.lines.proofs.is_name.Goals.{then-is_empty-via-then-is_empty, then-is_empty-via-else-is_empty+then-w-gt255}
 
-pub returns-then-w-eq0 : goal.returns-then-w-eq0
-returns-then-w-eq0 c = sym (name_empty c.args.w.now c.if-w-eq0.true)
-
-pub returns-then-w-gt255 : goal.returns-then-w-gt255
-returns-then-w-gt255 c = sym (name_long c.args.w.now c.if-w-gt255.true)
-
-pub returns-then-not-is_letter : goal.returns-then-not-is_letter
-returns-then-not-is_letter c =
+pub returns-then-is_empty : goal.returns-then-is_empty
+returns-then-is_empty c =
     let w = c.args.w.now in
-    sym (name_start w (sym c.is_letter.ensures ∙ not-true _ c.if-not-is_letter.true-raw))
+    elim c.then-is_empty.branch [ then-is_empty-via-then-is_empty v ↦ sym (name_empty w (eqb-true (length w) 0 (sym c.is_empty.ensures ∙ v.if-is_empty.true))) | then-is_empty-via-else-is_empty+then-w-gt255 v ↦ sym (name_long w v.if-w-gt255.true) ]
 
-pub returns : goal.returns
-returns c =
+pub returns-then-is_letter : goal.returns-then-is_letter
+returns-then-is_letter c =
     let w = c.args.w.now in
-    let l : is_letter (class (get_or w 0 0)) ≡ true = sym c.is_letter.ensures ∙ not-false _ c.if-not-is_letter.false-raw in
-    ap not c.is_base_keyword.ensures ∙ sym (name_kept w (omega arith) (omega arith) l c.requires)
+    let l : is_letter (class (get_or w 0 0)) ≡ true = sym c.is_letter.ensures ∙ c.if-is_letter.true in
+    ap not c.is_base_keyword.ensures ∙ sym (name_kept w (omega (arith, eqb-false (length w) 0 (sym c.is_empty.ensures ∙ c.if-is_empty.false))) (omega arith) l c.requires)
