@@ -13,7 +13,6 @@ use Rattle.forms.specs.Forms.{of_expr, assign_form, delegation_form}
 use Rattle.command_readers.specs.Commands.{about_principals}
 use Rattle.text.proofs.Words.{same_true}
 use Rattle.tokens.proofs.Reading.{sign_none, or_else_none}
-use Rattle.forms.proofs.Phrases.{of_expr_lem}
 
 -- a command with an expression, as k makes it
 pub of_command : (o : Option Expr) (k : Expr → Command) (us : List Token) → ((o >>= λ v. some (k v)) >>= λ c. some (c, us)) ≡ of_expr o k us
@@ -43,41 +42,11 @@ module _ (us : List Token) where
   pub filtereach_is : any_command (sign (bytes "filtereach") ∷ us) ≡ filtereach_form (sign (bytes "filtereach") ∷ us)
   filtereach_is = or_else_none (filtereach_form (sign (bytes "filtereach") ∷ us))
 
-  -- the two commands that start with `set`
-  pub set_is : (x : Name) → any_command (sign (bytes "set") ∷ ident x ∷ us) ≡ assign_form (bytes "=") set (ident x ∷ us)
-  set_is x = or_else_none (assign_form (bytes "=") set (ident x ∷ us))
-
   pub set_delegation_is : (w : Text) → (w ≟ bytes "delegation") ≡ true → any_command (sign (bytes "set") ∷ sign w ∷ us) ≡ delegation_form set_delegation us
   set_delegation_is w q =
       ap (λ (v : Text). any_command (sign (bytes "set") ∷ sign v ∷ us)) (same_true w (bytes "delegation") q) ∙ or_else_none (delegation_form set_delegation us)
 
-  pub no_set : (w : Text) → (w ≟ bytes "delegation") ≡ false → any_command (sign (bytes "set") ∷ sign w ∷ us) ≡ none
-  no_set w q = rw q
-
--- no sign, or another one
-pub no_sign_command : (ts : List Token) → any_sign ts ≡ none → any_command ts ≡ none
-no_sign_command ts e =
-    rw (
-      sign_none (bytes "create") ts e,
-      sign_none (bytes "change") ts e,
-      sign_none (bytes "set") ts e,
-      sign_none (bytes "append") ts e,
-      sign_none (bytes "local") ts e,
-      sign_none (bytes "foreach") ts e,
-      sign_none (bytes "filtereach") ts e,
-      sign_none (bytes "delete") ts e,
-      sign_none (bytes "default") ts e,
-    )
-
 module _ (w : Text) (us : List Token) where
-  pub no_command :
-      (w ≟ bytes "create") ≡ false
-      → (w ≟ bytes "change") ≡ false
-      → (w ≟ bytes "delete") ≡ false
-      → (w ≟ bytes "default") ≡ false
-      → about_principals (sign w ∷ us) ≡ none
-  no_command c h d g = rw (c, h, d, g)
-
   pub principals_only :
       (w ≟ bytes "set") ≡ false
       → (w ≟ bytes "append") ≡ false
@@ -86,22 +55,3 @@ module _ (w : Text) (us : List Token) where
       → (w ≟ bytes "filtereach") ≡ false
       → any_command (sign w ∷ us) ≡ about_principals (sign w ∷ us)
   principals_only s a l f h = rw (s, a, l, f, h)
-
--- ---- endings
-module _ (ts : List Token) where
-  pub exit_is : {us : List Token} → the "exit" ts ≡ some (tt, us) → any_ending ts ≡ some (exit, us)
-  exit_is e = rw e
-
-  pub no_ending : the "exit" ts ≡ none → the "return" ts ≡ none → any_ending ts ≡ none
-  no_ending e f = rw (e, f)
-
-  pub no_return : {us : List Token} → the "exit" ts ≡ none → the "return" ts ≡ some (tt, us) → any_expression us ≡ none → any_ending ts ≡ none
-  no_return e f g = rw (e, f, g)
-
-  pub return_is :
-      (ws : List Token) {us : List Token} (o : Option Expr)
-      → the "exit" ts ≡ none
-      → the "return" ts ≡ some (tt, us)
-      → any_expression us ≡ (o >>= λ x. some (x, ws))
-      → any_ending ts ≡ of_expr o return ws
-  return_is ws o e f g = rw (e, f, g) (of_expr_lem o return ws)

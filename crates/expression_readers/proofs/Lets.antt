@@ -170,21 +170,3 @@ term_read t e ts us h q = go (term_meant t e) (term_there t e h) q
         → Options.◌>>=◌ (Options.◌>>=◌ o (λ x. some (term x))) (λ x. some (x, us)) ≡ any_expression ts
     go none p q = absurd (let z : ◌≡◌ {A = ℕ} 0 1 = cc in omega arith)
     go (some x) p q = sym (term_first ts q)
-
--- of the expression that was read the end is known
-abbrev ended : Option (Expr × List Token) → Option (Unit {0} × List Token)
-ended o = then_read o (λ _. give tt)
-
-pub end_there : (o : Option (Expr × List Token)) {us : List Token} → ended o ≡ some (tt, us) → present o ≡ true
-end_there none e = no_some e
-end_there (some r) e = refl
-
-pub end_read : (o : Option (Expr × List Token)) {us : List Token} → ended o ≡ some (tt, us) → Options.◌>>=◌ (Options.◌>>=◌ o (λ r. some r.0)) (λ x. some (x, us)) ≡ o
-end_read none e = refl
-end_read (some r) {us} e =
-    let p : ◌≡◌ {A = Unit {0} × List Token} (tt, r.1) (tt, us) = cc in
-    sym (ap (λ (q : Unit {0} × List Token). some (r.0, q.1)) p)
-
-pub no_end : (o : Option (Expr × List Token)) → ended o ≡ none → o ≡ none
-no_end none e = refl
-no_end (some r) e = no_some (sym e)

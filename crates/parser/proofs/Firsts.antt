@@ -70,9 +70,3 @@ module _ (t : Text) (at s n : ℕ) (later : at ≤ s) (past : s + line_length t 
               placed = omega (arith, K.1);
               all = from_here (ending_body (line_from t s) (written_from t n) k (e ∙ q) z);
             }
-
-    pub no_stars : is_empty (written_from t n) ≡ false → body_from t at ≡ none
-    no_stars z = from_here (ending_more (line_from t s) (written_from t n) inner z)
-
-    pub neither : ending_line (line_from t s) ≡ none → body_from t at ≡ none
-    neither e = from_here (neither_body (line_from t s) (written_from t n) inner e)

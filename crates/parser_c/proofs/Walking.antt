@@ -1,29 +1,25 @@
 -- The walk over a program's commands, as far as it has come: which kinds are listed, and which commands are left.
-use mathlib.Core.Path.{◌≡◌, refl, sym, ap, subst, ◌∙◌}
+use mathlib.Core.Path.{◌≡◌, refl, sym, ap, ◌∙◌}
 use Prim.Native.Nat.{ℕ, suc, ◌+◌, ◌≤◌, ◌<◌}
 use native.Mathlib.Numerals.{add-one}
 use native.Mathlib.Omega.{arith}
 use mathlib.Core.Option.{Option, none, some, some_inj}
 use mathlib.Core.List.{List, [], ◌∷◌, ◌++◌, map, append_assoc, append-nil, map-append}
-use mathlib.Core.Bool.{true, false}
-use Rattle.language.specs.Grammar.{Opening}
-use Rattle.language.specs.Programs.{parse}
 use lib.ListN.{length, drop, set as put, get_or, length-append, length-map, length-drop}
 use lib.Seq.{drop-cons, set_at}
-use Rattle.language.specs.Text.{Text, ◌>>=◌, present}
+use Rattle.language.specs.Text.{Text, ◌>>=◌}
 use Rattle.text.specs.Meaning.{part}
 use Rattle.language.specs.Syntax as Syntax
 use Rattle.std.proofs.Common as Code
 use Rattle.std.proofs.Common.{Some, None}
-use Rattle.parser.specs.Bodies.{body_from, with_body, rest_from, First}
-use Rattle.tokens.proofs.Reading.{no_some}
+use Rattle.parser.specs.Bodies.{body_from, rest_from, First}
 use Rattle.command_readers.specs.Commands.{command_meant}
 use Rattle.syntax.specs.Values.{expr_meant}
 use Rattle.command_readers.specs.declared.Command.{Command}
 use Rattle.command_readers.specs.declared.Command.TheVariants.{Administer, Variable}
 use Rattle.command_readers.specs.declared.Administration.TheVariants.{CreatePrincipal, ChangePassword, SetDelegation, DeleteDelegation, DefaultDelegator, Exit}
 use Rattle.command_readers.specs.declared.VariableCommand.TheVariants.{Set, Append, Local, Foreach, Filtereach, Return}
-use Rattle.parser_c.specs.Kinds.{kind_of, code, SomeCommands, Listed, not_parsed, Answers}
+use Rattle.parser_c.specs.Kinds.{kind_of, code, SomeCommands, Listed}
 
 the : {d c : Syntax.Command} → some d ≡ some c → d ≡ c
 the e = cc
@@ -91,10 +87,6 @@ module _ (t : Text) (at : ℕ) (old now : Text) (p n : ℕ) (short : length t �
       ap length g.kinds ∙ length-append (map kind_of g.passed) (drop n old)
       ∙ omega (arith, length-map g.passed kind_of, length-drop n old, g.count)
 
-  -- a command is left
-  pub not_broken : {A : Type 0} → body_from t p ≡ none → A
-  not_broken e = no_some (sym e ∙ g.left)
-
   module _ (k : Command) (rest : Code.Option ℕ) (f : First t p k rest) where
     next : Split g.rest f.command (rest_from t rest)
     next = split g.rest f.command (rest_from t rest) (sym g.left ∙ f.all)
@@ -105,9 +97,6 @@ module _ (t : Text) (at : ℕ) (old now : Text) (p n : ℕ) (short : length t �
         room_left : (rest : Code.Option ℕ) → First t p k rest → p < length t
         room_left (Some m) f = omega (arith, f.placed.0, f.placed.1)
         room_left None f = omega (arith, f.placed)
-
-    pub write_fits : n < length now
-    write_fits = omega (arith, fits, below)
 
     listed : put now n (code k) ≡ map kind_of (g.passed ++ (f.command ∷ [])) ++ drop (n + 1) old
     listed =
@@ -145,24 +134,3 @@ module _ (t : Text) (at : ℕ) (old now : Text) (p n : ℕ) (short : length t �
       record { count = count_one k None f ∙ ap length (sym same); kinds = listed k None f ∙ ap (λ l. map kind_of l ++ drop (n + 1) old) (sym same) }
 
 -- ---- the whole text
--- there are commands from `at` on, where the text is a program
-pub some_commands : (t : Text) (at : ℕ) → at ≤ length t → present (body_from t at) ≡ true → SomeCommands t at
-some_commands t at h e = go (body_from t at) refl e
-  where
-    go : (o : Option (List Syntax.Command)) → body_from t at ≡ o → present o ≡ true → SomeCommands t at
-    go none q e = absurd (let z : ◌≡◌ {A = ℕ} 0 1 = cc in omega arith)
-    go (some cs) q e = record { commands = cs; are = q; within = h }
-
-pub no_commands : (t : Text) (p : Opening) (o : Option (List Syntax.Command)) → parse t ≡ with_body p o → present o ≡ false → parse t ≡ none
-no_commands t p none e h = e
-no_commands t p (some cs) e h = absurd (let z : ◌≡◌ {A = ℕ} 0 1 = cc in omega arith)
-
-pub parsed_as : (t : Text) (p : Opening) (o : Option (List Syntax.Command)) {cs : List Syntax.Command} → parse t ≡ with_body p o → o ≡ some cs
-    → parse t ≡ some (record { sender = p.sender; password = p.password; commands = cs })
-parsed_as t p o e h = e ∙ ap (with_body p) h
-
-pub answers_some : (t : Text) {old new : Text} {r : ℕ} (p : Syntax.Program) → parse t ≡ some p → Listed p.commands old new r → Answers (parse t) old new r
-answers_some t {old} {new} {r} p e h = subst (λ (o : Option Syntax.Program). Answers o old new r) (sym e) h
-
-pub answers_none : (t old : Text) → parse t ≡ none → Answers (parse t) old old not_parsed
-answers_none t old e = subst (λ (o : Option Syntax.Program). Answers o old old not_parsed) (sym e) (refl, refl)

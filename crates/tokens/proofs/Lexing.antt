@@ -9,14 +9,11 @@ use native.Mathlib.Numerals.{add-one}
 use borrow.Author.Tests.{le-leb, lt-leb, eq-eqb, ne_eqb}
 use lib.ListN.{length, get_or, drop, drop_of_length-le}
 use lib.Seq.{drop-cons, drop-drop}
-use Rattle.language.specs.Text.{Text, when◌then◌else◌, bytes, member, front}
-use Rattle.language.specs.Bytes.{◌is◌, ◌∈◌, between, Class, class, letter, digit, space, newline, mark, foreign, marks, word_byte, string_byte, comment_byte}
+use Rattle.language.specs.Text.{when◌then◌else◌, bytes, member, front}
+use Rattle.language.specs.Bytes.{◌is◌, ◌∈◌, between, class, letter, digit, space, newline, mark, foreign, marks, word_byte, string_byte, comment_byte}
 use Rattle.language.specs.Identifiers.{keywords}
 use Rattle.language.specs.Tokens.{Token, token, bad, sign, ident, text, wrong, tokens, lex, lead, lexeme, word, quoted_by, comment, pair}
 use Rattle.text.proofs.Runs.{take_run, run_part, past_run}
-use Rattle.tokens.specs.Tokens.{Placed}
-use Rattle.tokens.specs.declared.token.Token as Read
-use Rattle.tokens.specs.declared.token.Token.TheVariants as Variants
 use Rattle.text.specs.Parts.{part}
 
 pub tokens_skip : (xs : List ℕ) (k : ℕ) → tokens xs k ≡ lex (drop k xs)
@@ -27,9 +24,6 @@ tokens_skip (x ∷ xs) (suc k) = tokens_skip xs k
 
 pub lex_cons : (b : ℕ) (bs : List ℕ) → lex (b ∷ bs) ≡ lead (lexeme (class b) b bs) (tokens bs)
 lex_cons b bs = refl
-
-pub lex_none : (t : List ℕ) (i : ℕ) → length t ≤ i → lex (drop i t) ≡ []
-lex_none t i h = rw (drop_of_length-le t {i = i} h)
 
 module _ (t : List ℕ) (i : ℕ) (h : i < length t) where
   pub lex_at : lex (drop i t) ≡ lead (lexeme (class (get_or t i 0)) (get_or t i 0) (drop (i + 1) t)) (tokens (drop (i + 1) t))
@@ -65,21 +59,6 @@ module _ (t : List ℕ) (i : ℕ) (h : i < length t) where
     pub word_long : class (get_or t i 0) ≡ letter → member (part t i e) keywords ≡ false → 255 < e - i → lex (drop i t) ≡ wrong ∷ []
     word_long l k s = word_lex l ∙ rw (k, lt-leb (length (part t i e)) 255 (omega (arith, word_length)))
 
-  -- ---- the classes of one byte
-  pub wrong_at : (k : Class) → class (get_or t i 0) ≡ k → lexeme k (get_or t i 0) (drop (i + 1) t) ≡ bad → lex (drop i t) ≡ wrong ∷ []
-  wrong_at k l q = lex_at ∙ rw (l, q)
-
-  pub digit_lex : class (get_or t i 0) ≡ digit → lex (drop i t) ≡ wrong ∷ []
-  digit_lex l = wrong_at digit l refl
-
-  pub foreign_lex : class (get_or t i 0) ≡ foreign → lex (drop i t) ≡ wrong ∷ []
-  foreign_lex l = wrong_at foreign l refl
-
-  pub newline_lex : class (get_or t i 0) ≡ newline → lex (drop i t) ≡ []
-  newline_lex l = lex_at ∙ rw l
-
-  pub space_lex : class (get_or t i 0) ≡ space → lex (drop i t) ≡ lex (drop (i + 1) t)
-  space_lex l = lex_at ∙ rw l
 
   -- ---- strings
   module _ (e : ℕ) (at_end : e ≡ i + 1 + length (front string_byte (drop (i + 1) t))) (l : class (get_or t i 0) ≡ mark 34) where
@@ -166,10 +145,3 @@ class_mark b m q = go (between "a" "z" b || between "A" "Z" b) (between "0" "9" 
     go false false false true k e = cc
     go false false false false true e = cc
     go false false false false false e = cc
-
-pub placed_from : (t : Text) (at i : ℕ) (r : Read.Token) (n : ℕ) → at ≤ i → Placed t i r n → Placed t at r n
-placed_from t at i Variants.End n h p = tt
-placed_from t at i (Variants.Sign s) n h p = omega arith
-placed_from t at i (Variants.Name s) n h p = omega arith
-placed_from t at i (Variants.Quoted s) n h p = omega arith
-placed_from t at i Variants.Wrong n h p = tt

@@ -5,13 +5,11 @@ use mathlib.Core.Option.{Option, none, some}
 use mathlib.Core.List.{List, [], ◌∷◌}
 use Prim.Native.Nat.{ℕ}
 use native.Mathlib.Omega.{arith}
-use lib.ListN.{drop}
 use mathlib.Core.Bool.{Bool, true, false}
 use Rattle.language.specs.Text.{Text, when◌then◌else◌, ◌≟◌, ◌or_else◌}
 use Rattle.text.proofs.Words.{same_true}
 use Rattle.language.specs.Tokens as Tokens
-use Rattle.language.specs.Syntax.{name, dot}
-use Rattle.language.specs.Grammar.{the_sign, the, any_name, field_or_variable}
+use Rattle.language.specs.Grammar.{the_sign}
 use Rattle.tokens.specs.Readers.{any_sign}
 
 pub no_some : {A : Type 0} {a : A} {B : Type 0} → ◌≡◌ {A = Option A} none (some a) → B
@@ -45,14 +43,6 @@ sign_is (Tokens.ident v ∷ ts) e = no_some e
 sign_is (Tokens.text v ∷ ts) e = no_some e
 sign_is (Tokens.wrong ∷ ts) e = no_some e
 
--- ---- the keyword or mark v that was read, compared with w
-module _ (w : Text) (ts : List Tokens.Token) {v : Text} {us : List Tokens.Token} (e : any_sign ts ≡ some (v, us)) where
-  pub sign_same : (v ≟ w) ≡ true → the_sign w ts ≡ some (tt, us)
-  sign_same q = ap (the_sign w) (sign_is ts e) ∙ rw q
-
-  pub sign_other : (v ≟ w) ≡ false → the_sign w ts ≡ none
-  sign_other q = ap (the_sign w) (sign_is ts e) ∙ rw q
-
 -- the keyword or mark that was read stands there
 pub the_is : (w : Text) (ts : List Tokens.Token) {us : List Tokens.Token} → the_sign w ts ≡ some (tt, us) → ts ≡ Tokens.sign w ∷ us
 the_is w [] e = no_some e
@@ -71,17 +61,6 @@ the_is w (Tokens.wrong ∷ ts) e = no_some e
 pub or_else_none : {A : Type 0} (o : Option A) → (o or_else none) ≡ o
 or_else_none none = refl
 or_else_none (some a) = refl
-
--- ---- the three ways of `field_or_variable`
-module _ (w : Text) (ts : List Tokens.Token) where
-  pub read_field : {us vs : List Tokens.Token} {y : Text} → the "." ts ≡ some (tt, us) → any_name us ≡ some (y, vs) → field_or_variable w ts ≡ some (dot w y, vs)
-  read_field d n = rw (d, n)
-
-  pub no_field_lem : {us : List Tokens.Token} → the "." ts ≡ some (tt, us) → any_name us ≡ none → field_or_variable w ts ≡ some (name w, ts)
-  no_field_lem d n = rw (d, n)
-
-  pub no_dot : the "." ts ≡ none → field_or_variable w ts ≡ some (name w, ts)
-  no_dot d = rw d
 
 -- a keyword or mark that is w
 pub spelled : {ts us : List Tokens.Token} {v : Text} (w : Text) → ts ≡ Tokens.sign v ∷ us → (v ≟ w) ≡ true → ts ≡ Tokens.sign w ∷ us

@@ -17,6 +17,9 @@ pub enum Token {
     Wrong,
 }
 
+// A name has this many bytes at most.
+const LONGEST_NAME: usize = 255;
+
 // A token that starts with a letter: the whole run of letters, digits and underscores.
 fn word_at(text: &[u8], at: usize) -> (Token, usize)
     requires at_in_bounds { at < length text.now }
@@ -30,7 +33,7 @@ fn word_at(text: &[u8], at: usize) -> (Token, usize)
     if keywords::is_keyword(&text[at..end]) {
         return (Token::Sign(word), end);
     }
-    if end - at <= 255 {
+    if end - at <= LONGEST_NAME {
         (Token::Name(word), end)
     } else {
         (Token::Wrong, end)

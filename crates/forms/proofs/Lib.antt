@@ -1,2 +1,0 @@
--- Laws of what several commands have in common.
-pub mod Phrases
