@@ -6,13 +6,13 @@ use mathlib.Core.Logic.{◌⊎◌, inl, inr, ⊎_elim}
 use Prim.Native.Nat.{ℕ, ◌+◌, ◌*◌, ◌≤◌, ◌<◌}
 use native.Mathlib.Decide.{ℕ_discrete, dec_le}
 use native.Mathlib.Omega.{arith}
-use lib.ListN.{length, get_or, set, take, replicate, length-set, length-replicate, get_or-replicate}
+use lib.ListN.{length, get_or, set, take, length-set}
 use lib.Seq.{get_or-set_same, get_or-set_other, take-set-le}
 use borrow.Author.Tests.{eq-eqb, ne_eqb}
 use Rattle.assertion.specs.Packed.{Assertion}
-use Rattle.search_steps.specs.Steps.{◌∈◌, unreached}
+use Rattle.search_steps.specs.Steps.{◌∈◌}
 use Rattle.board.specs.Board.{at, board_size, Bucket, Ends, entered, Filed, first_from, following, last_from, Linked, next_round, nothing}
-use Rattle.board.proofs.Linking.{blank_take, linked_same, bucket_same, ends_in, bucket_last}
+use Rattle.board.proofs.Linking.{linked_same, bucket_same, ends_in, bucket_last}
 
 -- ---- the cells that an entry changes
 
@@ -148,23 +148,6 @@ module _ (n : ℕ) (ys : List Assertion) (k : ℕ) (b b' : List ℕ) where
           inr (omega (arith, lt (last_from n b q) (ends_in (j ∷ ks) (last_from n b q) z)), subst (λ (x : ℕ). Ends (j ∷ ks) x) (sym kept) z)
 
 -- ---- the board on the way
-
-pub filed_start : (n : ℕ) (ys : List Assertion) (b : List ℕ) → b ≡ replicate (board_size n (length ys)) unreached → Filed n ys 0 b
-filed_start n ys b e =
-    let m : ℕ = board_size n (length ys) in
-    let cell : (x : ℕ) → x < m → get_or b x 0 ≡ unreached = λ x h. ap (λ (l : List ℕ). get_or l x 0) e ∙ get_or-replicate m x unreached 0 h in
-    record {
-      sized = ap length e ∙ length-replicate m unreached;
-      marks = ap (take n) e ∙ blank_take n m (omega arith);
-      round = cell (3 * n) (omega arith);
-      buckets = λ q h. record {
-        places = [];
-        linked = cell (n + q) (omega arith);
-        ends = inl refl;
-        those = λ j i. absurd (Memᴰ.not-nil i);
-        all = λ j i _. absurd (omega arith);
-      };
-    }
 
 -- one assertion more, which is from q
 pub filed_next : (n : ℕ) (ys : List Assertion) (k q : ℕ) (b b' : List ℕ) → length ys ≤ 2048 → k < length ys → (at ys k).from ≡ q

@@ -5,7 +5,7 @@
 --     3 n              the first assertion of the round to come, or `nothing`
 --     from 3 n + 1 on  for each assertion the one that is gone over after it, or `nothing`
 -- A round goes over those assertions only that lead on from somebody who was reached in the round before.
-use Rattle.std.specs.Prelude.{◌≡◌, List, [], ◌∷◌, ◌⊎◌, Bool, true, cond, ℕ, ◌+◌, ◌*◌, ◌≤◌, ◌<◌, length, get_or, set, take, replicate, eqb}
+use Rattle.std.specs.Prelude.{◌≡◌, List, [], ◌∷◌, ◌⊎◌, Bool, true, cond, ℕ, ◌+◌, ◌*◌, ◌<◌, length, get_or, set, take, replicate, eqb}
 use Rattle.assertion.specs.Packed.{Assertion}
 use Rattle.board.specs.declared.Reached.{Reached}
 use Rattle.board.specs.declared.Reached.TheVariants.{Nobody, Somebody, Principal}

@@ -1,5 +1,5 @@
--- What the steps of a round say of a board, in terms of its list: anyone's step, a push, and an assertion's step.
-use mathlib.Core.Path.{◌≡◌, refl, sym, ap, subst, ◌∙◌}
+-- What an assertion's step says of a board, in terms of its list.
+use mathlib.Core.Path.{◌≡◌, sym, ap, subst, ◌∙◌}
 use mathlib.Core.List.{List, ◌++◌}
 use mathlib.Core.Logic.{◌⊎◌, inl, inr, ⊎_elim}
 use Prim.Native.Nat.{ℕ, ◌+◌, ◌*◌, ◌≤◌, ◌<◌}
@@ -9,32 +9,9 @@ use Rattle.board.specs.declared.Reached.TheVariants.{Nobody, Somebody, Principal
 use native.Mathlib.Omega.{arith}
 use lib.ListN.{length, get_or, set, take, drop, take-append-drop, length-set}
 use lib.Seq.{length-take-le, get_or-take, set-append_left, get_or-set_other}
-use borrow.Author.Tests.{eq-eqb, ne_eqb}
 use Rattle.search_steps.specs.Steps.{unreached, marked, left, Marks}
 use Rattle.search_steps.proofs.Marking.{Hit, marked_cases, left_set, reaches}
-use Rattle.board.specs.Board.{board_size, first_from, last_from, next_round, nothing, pushed, Reaches, Spread, Stepped}
-
--- ---- anyone's step
-
-pub spread_shut : (d p : ℕ) (b : List ℕ) → (get_or b 1 0 ≡ d → ⊥) → Spread d p b b false
-spread_shut d p b ne = record { opens = λ e. absurd cc; shuts = λ _. (ne, refl) }
-
-pub spread_opens : (d p : ℕ) (b : List ℕ) → get_or b 1 0 ≡ d → Spread d p b (set b p (d + 1)) true
-spread_opens d p b e = record { opens = λ _. (e, refl); shuts = λ ne. absurd (ne refl) }
-
--- ---- a push
-
-pub push_none : (n t : ℕ) (b : List ℕ) → first_from n b t ≡ nothing → b ≡ pushed n t b
-push_none n t b e = simp (eq-eqb (first_from n b t) nothing e)
-
-pub push_some : (n t : ℕ) (b : List ℕ) → (first_from n b t ≡ nothing → ⊥)
-    → set (set b (3 * n + 1 + last_from n b t) (next_round n b)) (3 * n) (first_from n b t) ≡ pushed n t b
-push_some n t b ne = simp (ne_eqb (first_from n b t) nothing ne)
-
--- where there are some from t, the last one has a cell
-pub last_in : (n t m : ℕ) (b : List ℕ) → (first_from n b t ≡ nothing → ⊥)
-    → (first_from n b t ≡ nothing) ⊎ (board_size n (last_from n b t) < m) → board_size n (last_from n b t) < m
-last_in n t m b ne o = ⊎_elim (λ e. absurd (ne e)) (λ h. h) o
+use Rattle.board.specs.Board.{board_size, first_from, last_from, nothing, pushed, Reaches, Stepped}
 
 -- ---- the marks, lent and back
 

@@ -1,14 +1,13 @@
 -- The search over numbers: worked cases of document 01 (Chains, and its wrong turns) and of request M-103, computed from the definitions. Numbers for
 -- names: admin 0, anyone 1, then a, b, c and e; the variable q is 0 and x is 1; the rights are numbered in the order r, w, a, d. Of the request's
 -- cases the two chains of 49 steps are replayed only.
-use Rattle.std.specs.Prelude.{◌≡◌, refl, ℕ, zero, suc, List, [], ◌∷◌, ◌++◌, map}
+use Rattle.std.specs.Prelude.{Option, Some, None, ◌≡◌, refl, ℕ, zero, suc, List, [], ◌∷◌, ◌++◌, map}
 use Prim.Native.String.{String}
 use Rattle.std.proofs.Common.{arith}
 use Rattle.assertion.specs.Packed.{Assertion, pack, fields}
 use Rattle.search_steps.specs.Steps.{delegations, marked, left}
 use Rattle.chains.specs.Chain.{Asked, Shortest, Searched, asked}
 use Rattle.chains.specs.Rounds.{begun_of, longest_of, shortest_of, searched, start, one_round}
-use Rattle.std.specs.Prelude.{Option, Some, None}
 use Rattle.chains.proofs.Answers.{computed_right, computed_searched}
 
 -- what a search says, and the rounds that it begins
