@@ -13,7 +13,6 @@ ghost use Rattle.values.specs.Answers.{text_at, Placed};
 ghost use Rattle.evaluated.specs.Results.{Valued, MaybeString};
 ghost use Rattle.application.specs.Applied.{lowered_to, applied_to};
 
-use amounts::Amount;
 use evaluated::Evaluated;
 use syntax::{Function, Operation};
 use text::Span;
@@ -75,7 +74,7 @@ fn concat(first: &[u8], second: &[u8], out: &mut [u8]) -> Evaluated
 }
 
 // What an operation makes of two amounts.
-fn reckon(o: Operation, a: i64, b: i64) -> Amount
+fn reckon(o: Operation, a: i64, b: i64) -> Option<i64>
     requires { (nat_abs a ≤ greatest) × (nat_abs b ≤ greatest) }
     ensures { amount_meant result ≡ reckoned (operation_meant o) a b }
 {
@@ -93,15 +92,15 @@ fn priced(o: Operation, first: &[u8], second: &[u8], out: &mut [u8]) -> Evaluate
     ensures { Valued result (applied_to (Syntax.arithmetic (operation_meant o)) (some first.now) (some second.now)) out.new }
 {
     let one = prices::price_in(first);
-    let Amount::Of(a) = one else {
+    let Some(a) = one else {
         return Evaluated::Missing;
     };
     let other = prices::price_in(second);
-    let Amount::Of(b) = other else {
+    let Some(b) = other else {
         return Evaluated::Missing;
     };
     let result = reckon(o, a, b);
-    let Amount::Of(c) = result else {
+    let Some(c) = result else {
         return Evaluated::Missing;
     };
     let len = functions::put_amount(out, c);

@@ -32,35 +32,35 @@ kept_range a h = subst (λ (b : ℤ). nat_abs b ≤ greatest) (sym (amount_again
 
 pub returns-in_default-other : goal.returns-in_default-other
 returns-in_default-other c =
-    let first_price : price c.args.first.now ≡ some c.in-Of.a = sym c.price_in-one.ensures ∙ ap amount_meant c.in-Of.is in
+    let first_price : price c.args.first.now ≡ some c.in-Some.a = sym c.price_in-one.ensures ∙ ap amount_meant c.in-Some.is in
     no_second_price (operation_meant c.args.o) c.args.first.now c.args.second.now first_price (sym c.price_in-other.ensures ∙ ap amount_meant c.in_default-other.is)
 
 pub reckon-result-requires : goal.reckon-result-requires
 reckon-result-requires c =
-    let first_price : price c.args.first.now ≡ some c.in-Of.a = sym c.price_in-one.ensures ∙ ap amount_meant c.in-Of.is in
-    let second_price : price c.args.second.now ≡ some c.in-Of-other.b = sym c.price_in-other.ensures ∙ ap amount_meant c.in-Of-other.is in
-    (kept_range c.in-Of.a (price_in_range c.args.first.now c.in-Of.a first_price), kept_range c.in-Of-other.b (price_in_range c.args.second.now c.in-Of-other.b second_price))
+    let first_price : price c.args.first.now ≡ some c.in-Some.a = sym c.price_in-one.ensures ∙ ap amount_meant c.in-Some.is in
+    let second_price : price c.args.second.now ≡ some c.in-Some-other.b = sym c.price_in-other.ensures ∙ ap amount_meant c.in-Some-other.is in
+    (kept_range c.in-Some.a (price_in_range c.args.first.now c.in-Some.a first_price), kept_range c.in-Some-other.b (price_in_range c.args.second.now c.in-Some-other.b second_price))
 
 pub returns-in_default-result : goal.returns-in_default-result
 returns-in_default-result c =
     let o = operation_meant c.args.o in
-    let first_price : price c.args.first.now ≡ some c.in-Of.a = sym c.price_in-one.ensures ∙ ap amount_meant c.in-Of.is in
-    let second_price : price c.args.second.now ≡ some c.in-Of-other.b = sym c.price_in-other.ensures ∙ ap amount_meant c.in-Of-other.is in
-    let reckoned_is : amount_meant c.reckon-result.result ≡ reckoned o c.in-Of.a c.in-Of-other.b =
+    let first_price : price c.args.first.now ≡ some c.in-Some.a = sym c.price_in-one.ensures ∙ ap amount_meant c.in-Some.is in
+    let second_price : price c.args.second.now ≡ some c.in-Some-other.b = sym c.price_in-other.ensures ∙ ap amount_meant c.in-Some-other.is in
+    let reckoned_is : amount_meant c.reckon-result.result ≡ reckoned o c.in-Some.a c.in-Some-other.b =
     c.reckon-result.ensures
-    ∙ (λ i. reckoned o (amount_again c.in-Of.a (price_in_range c.args.first.now c.in-Of.a first_price) i) (amount_again c.in-Of-other.b (price_in_range c.args.second.now c.in-Of-other.b second_price) i)) in
+    ∙ (λ i. reckoned o (amount_again c.in-Some.a (price_in_range c.args.first.now c.in-Some.a first_price) i) (amount_again c.in-Some-other.b (price_in_range c.args.second.now c.in-Some-other.b second_price) i)) in
     no_result o c.args.first.now c.args.second.now first_price second_price (sym reckoned_is ∙ ap amount_meant c.in_default-result.is)
 
 pub put_amount-len-requires : goal.put_amount-len-requires
 put_amount-len-requires c =
     let o = operation_meant c.args.o in
-    let first_price : price c.args.first.now ≡ some c.in-Of.a = sym c.price_in-one.ensures ∙ ap amount_meant c.in-Of.is in
-    let second_price : price c.args.second.now ≡ some c.in-Of-other.b = sym c.price_in-other.ensures ∙ ap amount_meant c.in-Of-other.is in
-    let reckoned_is : amount_meant c.reckon-result.result ≡ reckoned o c.in-Of.a c.in-Of-other.b =
+    let first_price : price c.args.first.now ≡ some c.in-Some.a = sym c.price_in-one.ensures ∙ ap amount_meant c.in-Some.is in
+    let second_price : price c.args.second.now ≡ some c.in-Some-other.b = sym c.price_in-other.ensures ∙ ap amount_meant c.in-Some-other.is in
+    let reckoned_is : amount_meant c.reckon-result.result ≡ reckoned o c.in-Some.a c.in-Some-other.b =
     c.reckon-result.ensures
-    ∙ (λ i. reckoned o (amount_again c.in-Of.a (price_in_range c.args.first.now c.in-Of.a first_price) i) (amount_again c.in-Of-other.b (price_in_range c.args.second.now c.in-Of-other.b second_price) i)) in
-    let is_result : reckoned o c.in-Of.a c.in-Of-other.b ≡ some c.in-Of-result.c = sym reckoned_is ∙ ap amount_meant c.in-Of-result.is in
-    (kept_range c.in-Of-result.c (result_range o c.args.first.now c.args.second.now first_price second_price is_result), omega (arith, c.requires))
+    ∙ (λ i. reckoned o (amount_again c.in-Some.a (price_in_range c.args.first.now c.in-Some.a first_price) i) (amount_again c.in-Some-other.b (price_in_range c.args.second.now c.in-Some-other.b second_price) i)) in
+    let is_result : reckoned o c.in-Some.a c.in-Some-other.b ≡ some c.in-Some-result.c = sym reckoned_is ∙ ap amount_meant c.in-Some-result.is in
+    (kept_range c.in-Some-result.c (result_range o c.args.first.now c.args.second.now first_price second_price is_result), omega (arith, c.requires))
 
 -- how long the text is
 text_length : (a : ℤ) → length (element_text (string (price_text a))) ≡ length (price_text a) + 3
@@ -72,24 +72,24 @@ written amount h n e = e ∙ ap (λ (a : ℤ). length (element_text (string (pri
 pub overflow_sub-result : goal.overflow_sub-result
 overflow_sub-result c =
     let o = operation_meant c.args.o in
-    let first_price : price c.args.first.now ≡ some c.in-Of.a = sym c.price_in-one.ensures ∙ ap amount_meant c.in-Of.is in
-    let second_price : price c.args.second.now ≡ some c.in-Of-other.b = sym c.price_in-other.ensures ∙ ap amount_meant c.in-Of-other.is in
-    let reckoned_is : amount_meant c.reckon-result.result ≡ reckoned o c.in-Of.a c.in-Of-other.b =
+    let first_price : price c.args.first.now ≡ some c.in-Some.a = sym c.price_in-one.ensures ∙ ap amount_meant c.in-Some.is in
+    let second_price : price c.args.second.now ≡ some c.in-Some-other.b = sym c.price_in-other.ensures ∙ ap amount_meant c.in-Some-other.is in
+    let reckoned_is : amount_meant c.reckon-result.result ≡ reckoned o c.in-Some.a c.in-Some-other.b =
     c.reckon-result.ensures
-    ∙ (λ i. reckoned o (amount_again c.in-Of.a (price_in_range c.args.first.now c.in-Of.a first_price) i) (amount_again c.in-Of-other.b (price_in_range c.args.second.now c.in-Of-other.b second_price) i)) in
-    let is_result : reckoned o c.in-Of.a c.in-Of-other.b ≡ some c.in-Of-result.c = sym reckoned_is ∙ ap amount_meant c.in-Of-result.is in
-    omega (arith, written c.in-Of-result.c (result_range o c.args.first.now c.args.second.now first_price second_price is_result) c.put_amount-len.result (c.put_amount-len.ensures.ends ∙ zero-add _))
+    ∙ (λ i. reckoned o (amount_again c.in-Some.a (price_in_range c.args.first.now c.in-Some.a first_price) i) (amount_again c.in-Some-other.b (price_in_range c.args.second.now c.in-Some-other.b second_price) i)) in
+    let is_result : reckoned o c.in-Some.a c.in-Some-other.b ≡ some c.in-Some-result.c = sym reckoned_is ∙ ap amount_meant c.in-Some-result.is in
+    omega (arith, written c.in-Some-result.c (result_range o c.args.first.now c.args.second.now first_price second_price is_result) c.put_amount-len.result (c.put_amount-len.ensures.ends ∙ zero-add _))
 
 pub returns : goal.returns
 returns c =
     let o = operation_meant c.args.o in
-    let amount = c.in-Of-result.c in
-    let first_price : price c.args.first.now ≡ some c.in-Of.a = sym c.price_in-one.ensures ∙ ap amount_meant c.in-Of.is in
-    let second_price : price c.args.second.now ≡ some c.in-Of-other.b = sym c.price_in-other.ensures ∙ ap amount_meant c.in-Of-other.is in
-    let reckoned_is : amount_meant c.reckon-result.result ≡ reckoned o c.in-Of.a c.in-Of-other.b =
+    let amount = c.in-Some-result.c in
+    let first_price : price c.args.first.now ≡ some c.in-Some.a = sym c.price_in-one.ensures ∙ ap amount_meant c.in-Some.is in
+    let second_price : price c.args.second.now ≡ some c.in-Some-other.b = sym c.price_in-other.ensures ∙ ap amount_meant c.in-Some-other.is in
+    let reckoned_is : amount_meant c.reckon-result.result ≡ reckoned o c.in-Some.a c.in-Some-other.b =
     c.reckon-result.ensures
-    ∙ (λ i. reckoned o (amount_again c.in-Of.a (price_in_range c.args.first.now c.in-Of.a first_price) i) (amount_again c.in-Of-other.b (price_in_range c.args.second.now c.in-Of-other.b second_price) i)) in
-    let is_result : reckoned o c.in-Of.a c.in-Of-other.b ≡ some amount = sym reckoned_is ∙ ap amount_meant c.in-Of-result.is in
+    ∙ (λ i. reckoned o (amount_again c.in-Some.a (price_in_range c.args.first.now c.in-Some.a first_price) i) (amount_again c.in-Some-other.b (price_in_range c.args.second.now c.in-Some-other.b second_price) i)) in
+    let is_result : reckoned o c.in-Some.a c.in-Some-other.b ≡ some amount = sym reckoned_is ∙ ap amount_meant c.in-Some-result.is in
     let h = result_range o c.args.first.now c.args.second.now first_price second_price is_result in
     let n : c.put_amount-len.result ≡ length (price_text amount) + 3 = written amount h c.put_amount-len.result (c.put_amount-len.ensures.ends ∙ zero-add _) in
     let l : length (price_text amount) ≤ 11 = price_length amount h in
