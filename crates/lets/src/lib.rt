@@ -25,14 +25,14 @@ ghost use Rattle.lets.specs.Giving.{AtTerm, Given, SomeGiven, SomeEntered, SomeL
 
 use binding::{Bound, bind};
 use evaluated::Answered;
-use expression_readers::{LetRead, let_head};
+use expression_readers::read_let;
 use frames::push;
 use permits::{Known, behind};
 use place::{Place, Step};
 use sinking::sink;
-use syntax::{Term, TermRead};
-use term_readers::term_at;
-use tokens::reader::Next;
+use syntax::Term;
+use term_readers::read_term;
+use tokens::scanner::Scanner;
 
 // The first expression of the innermost `let` has a value: its name is bound to that, and its second expression is next. `at` is the place
 // past the value's term, before `in`; `known` is what is known of the terms from there on.
@@ -91,12 +91,12 @@ fn returned(
             d,
         )),
         Bound::Done(len, n, bound) => {
-            let word = tokens::reader::expect(text, at, b"in");
-            let Next::At(p) = word else {
+            let mut scanner = Scanner { text, at };
+            let Some(()) = scanner.expect(b"in") else {
                 return Step::Done(Answered::Missing);
             };
             Step::On(Place {
-                p,
+                p: scanner.at,
                 depth: d,
                 len,
                 count: n,
@@ -120,19 +120,15 @@ fn enter(
     ensures { (s : Session) (x : Syntax.Expr) (b : Texts) (base number : ℕ) → Reached s x text.now b (stack heads.old lens.old counts.old bounds.old) base number at
         → (out : Text) → Stepped result s x text.now b (stack heads.new lens.new counts.new bounds.new) base number at.p out }
 {
-    let head = let_head(text, at.p);
-    let LetRead::Found(_, n) = head else {
+    let mut scanner = Scanner { text, at: at.p };
+    let Some(_) = read_let(&mut scanner) else {
         return Step::Done(Answered::Missing);
     };
     push(heads, lens, counts, bounds, at);
-    let known = at.known;
     Step::On(Place {
-        p: n,
+        p: scanner.at,
         depth: at.depth + 1,
-        len: at.len,
-        count: at.count,
-        bound: at.bound,
-        known,
+        ..at
     })
 }
 
@@ -258,9 +254,9 @@ fn step<'a>(
         → Stepped result s x text.now (texts shared.now slots.now count scope.new local_slots.new)
         (stack heads.new lens.new counts.new bounds.new) base number at.p out.new }
 {
-    let read = term_at(text, at.p);
-    match read {
-        TermRead::Found(e, end) => leave(
+    let mut scanner = Scanner { text, at: at.p };
+    match read_term(&mut scanner) {
+        Some(e) => leave(
             shared,
             slots,
             count,
@@ -272,7 +268,7 @@ fn step<'a>(
             sender,
             text,
             e,
-            end,
+            scanner.at,
             heads,
             lens,
             counts,
@@ -281,7 +277,7 @@ fn step<'a>(
             out,
             labels,
         ),
-        TermRead::No => enter(text, heads, lens, counts, bounds, at),
+        None => enter(text, heads, lens, counts, bounds, at),
     }
 }
 
