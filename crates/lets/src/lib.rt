@@ -28,8 +28,9 @@ use evaluated::Answered;
 use expression_readers::read_let;
 use frames::push;
 use permits::{Known, behind};
-use place::{Place, Step};
+use place::Place;
 use sinking::sink;
+use std::ops::ControlFlow;
 use syntax::Term;
 use term_readers::read_term;
 use tokens::scanner::Scanner;
@@ -52,7 +53,7 @@ fn returned(
     known: Known,
     value: &[u8],
     weight: usize,
-) -> Step
+) -> ControlFlow<Answered, Place>
     requires { SomeGiven text.now (texts shared.now slots.now count scope.old local_slots.old) (stack heads.now lens.now counts.now bounds.now) depth at known value.now weight }
     ensures { (s : Session) (x : Syntax.Expr) (base number : ℕ)
         → Given s x text.now (texts shared.now slots.now count scope.old local_slots.old)
@@ -77,8 +78,8 @@ fn returned(
         weight,
     );
     match b {
-        Bound::Defined => Step::Done(Answered::Missing),
-        Bound::Heavy => Step::Done(sink(
+        Bound::Defined => ControlFlow::Break(Answered::Missing),
+        Bound::Heavy => ControlFlow::Break(sink(
             shared,
             slots,
             count,
@@ -93,9 +94,9 @@ fn returned(
         Bound::Done(len, n, bound) => {
             let mut scanner = Scanner { text, at };
             let Some(()) = scanner.expect(b"in") else {
-                return Step::Done(Answered::Missing);
+                return ControlFlow::Break(Answered::Missing);
             };
-            Step::On(Place {
+            ControlFlow::Continue(Place {
                 p: scanner.at,
                 depth: d,
                 len,
@@ -115,17 +116,17 @@ fn enter(
     counts: &mut [u16],
     bounds: &mut [u16],
     at: Place,
-) -> Step
+) -> ControlFlow<Answered, Place>
     requires { SomeEntered text.now (stack heads.old lens.old counts.old bounds.old) at }
     ensures { (s : Session) (x : Syntax.Expr) (b : Texts) (base number : ℕ) → Reached s x text.now b (stack heads.old lens.old counts.old bounds.old) base number at
         → (out : Text) → Stepped result s x text.now b (stack heads.new lens.new counts.new bounds.new) base number at.p out }
 {
     let mut scanner = Scanner { text, at: at.p };
     let Some(_) = read_let(&mut scanner) else {
-        return Step::Done(Answered::Missing);
+        return ControlFlow::Break(Answered::Missing);
     };
     push(heads, lens, counts, bounds, at);
-    Step::On(Place {
+    ControlFlow::Continue(Place {
         p: scanner.at,
         depth: at.depth + 1,
         ..at
@@ -153,7 +154,7 @@ fn leave<'a>(
     at: Place,
     out: &mut [u8],
     labels: &mut [u32],
-) -> Step
+) -> ControlFlow<Answered, Place>
     requires some_left { SomeLeft text.now (texts shared.now slots.now count scope.old local_slots.old) (stack heads.now lens.now counts.now bounds.now) at assertions.now n principals sender }
     requires at_term { AtTerm text.now at.p e end × (length text.now ≤ longest) × Lent out.old labels.old }
     ensures { (s : Session) (x : Syntax.Expr) (base number : ℕ)
@@ -185,9 +186,9 @@ fn leave<'a>(
         labels,
     );
     match r {
-        Answered::Denied => Step::Done(Answered::Denied),
-        Answered::Missing => Step::Done(Answered::Missing),
-        Answered::Heavy => Step::Done(sink(
+        Answered::Denied => ControlFlow::Break(Answered::Denied),
+        Answered::Missing => ControlFlow::Break(Answered::Missing),
+        Answered::Heavy => ControlFlow::Break(sink(
             shared,
             slots,
             count,
@@ -201,7 +202,7 @@ fn leave<'a>(
         )),
         Answered::Value { len, weight } => {
             if depth == 0 {
-                return Step::Done(Answered::Value { len, weight });
+                return ControlFlow::Break(Answered::Value { len, weight });
             }
             returned(
                 shared,
@@ -243,7 +244,7 @@ fn step<'a>(
     at: Place,
     out: &mut [u8],
     labels: &mut [u32],
-) -> Step
+) -> ControlFlow<Answered, Place>
     requires some_left { SomeLeft text.now (texts shared.now slots.now count scope.old local_slots.old) (stack heads.old lens.old counts.old bounds.old) at assertions.now n principals sender }
     requires text_len_bound { (length text.now ≤ longest) × Lent out.old labels.old }
     ensures { (s : Session) (x : Syntax.Expr) (base number : ℕ)
@@ -342,8 +343,8 @@ pub fn answer<'a>(
             labels,
         );
         match next {
-            Step::On(further) => place = further,
-            Step::Done(r) => return r,
+            ControlFlow::Continue(further) => place = further,
+            ControlFlow::Break(r) => return r,
         }
     }
 }
