@@ -21,8 +21,9 @@ ghost use Rattle.evaluate.specs.Drafts.{Drafted, SomeDraft, Lent, Extends, spell
 use crate::draft::Draft;
 use crate::source::{source, string_in};
 use evaluated::Evaluated;
-use syntax::{FieldRead, Operand};
+use syntax::{Operand, read_field};
 use text::Span;
+use tokens::scanner::Scanner;
 
 // Adds the field of a program's label and operand.
 fn add_field<'a>(
@@ -84,22 +85,29 @@ pub fn put_fields<'a>(
         → record_at text.now at ≡ some (bs, us) → Valued result (term_value s (Syntax.fields bs)) out.new }
 {
     let mut d = crate::draft::start(out, labels);
-    let mut p = at;
-    loop {
-        let field = syntax::field_at(text, p);
-        let FieldRead::Found(x, v, more, n) = field else {
-            return Evaluated::Missing;
-        };
+    let mut scanner = Scanner { text, at };
+    while let Some(field) = read_field(&mut scanner) {
         let added = add_field(
-            shared, slots, count, locals, lslots, lcount, text, x, v, out, labels, d,
+            shared,
+            slots,
+            count,
+            locals,
+            lslots,
+            lcount,
+            text,
+            field.label,
+            field.value,
+            out,
+            labels,
+            d,
         );
         let Some(next) = added else {
             return Evaluated::Missing;
         };
-        if !more {
+        if !field.more {
             return finished(next);
         }
         d = next;
-        p = n;
     }
+    Evaluated::Missing
 }

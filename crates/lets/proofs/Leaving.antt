@@ -31,8 +31,7 @@ use Rattle.lets.specs.Reaching.{Texts, Stack, Holding, Reached, Sized, Stepped, 
 use Rattle.lets.specs.Standing.{AllStanding}
 use Rattle.lets.specs.Giving.{AtTerm, Given}
 use Rattle.lets.specs.declared.place.Place.{Place}
-use Rattle.lets.specs.declared.place.Step.{Step}
-use Rattle.lets.specs.declared.place.Step.TheVariants as StepIs
+use Rattle.std.proofs.Common.{ControlFlow, Continue, Break}
 use Rattle.lets.proofs.Passing.{Passed, passed_as, tells_fails, tells_sinks, tells_value, unread_any}
 use Rattle.lets.proofs.Nesting.{standing_each}
 use Rattle.lets.proofs.Counting.{follows_takes}
@@ -47,10 +46,10 @@ term_at t p e n A = go (term_meant t e) refl (term_there t e A.placed.0) A.meant
     go (some y) m q h = record { term_read = y; meant = m; here = sym h }
 
 -- a step that starts earlier
-pub step_later : (r : Step) (s : Session) (x : Expr) (t : Text) (b : Texts) (k : Stack) (base number p q : ℕ) (out : Text) → p ≤ q
+pub step_later : (r : ControlFlow Answered Place) (s : Session) (x : Expr) (t : Text) (b : Texts) (k : Stack) (base number p q : ℕ) (out : Text) → p ≤ q
     → Stepped r s x t b k base number q out → Stepped r s x t b k base number p out
-step_later (StepIs.On at) s x t b k base number p q out h (R, l) = (R, omega (arith, h, l))
-step_later (StepIs.Done r) s x t b k base number p q out h S = S
+step_later (Continue at) s x t b k base number p q out h (R, l) = (R, omega (arith, h, l))
+step_later (Break r) s x t b k base number p q out h S = S
 
 module _ {s : Session} {x : Expr} {t : Text} {b : Texts} {k : Stack} {base number : ℕ} {at : Place} (R : Reached s x t b k base number at) where
   pub reached_base : Holding s s.locals b base number

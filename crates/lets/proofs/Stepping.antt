@@ -23,7 +23,7 @@ use Rattle.syntax.specs.Values.{term_meant}
 use Rattle.syntax.proofs.Fuel.{sign_shorter}
 use Rattle.syntax.proofs.Lets.{lets_not_longer}
 use Rattle.expression_readers.specs.Heads.{let_head}
-use Rattle.expression_readers.proofs.Lets.{inside_let, term_first, let_first, nothing_first}
+use Rattle.expression_readers.proofs.Lets.{inside_let, term_first, let_first}
 use Rattle.permits.specs.Permits.{unread}
 use Rattle.permits.specs.Knowledge.{terms_then, Knows}
 use Rattle.permits.proofs.Readers.{first_unread, second_decides}
@@ -106,9 +106,6 @@ let_at y us here others e = go₁ (any_expression us) refl e
 
 module _ {s : Session} {x : Expr} {t : Text} {b : Texts} {k : Stack} {base number : ℕ} {at : Place} (R : Reached s x t b k base number at)
     (no_term : any_term (lex (drop at.p t)) ≡ none) where
-  pub head_there : let_head (lex (drop at.p t)) ≡ none → ⊥
-  head_there e = no_some (sym (nothing_first (lex (drop at.p t)) no_term e) ∙ R.reads)
-
   module _ (y : Name) (n : ℕ) (e : let_head (lex (drop at.p t)) ≡ some (y, lex (drop n t))) where
     pub L : LetAt y (lex (drop n t)) R.here R.others
     L = let_at y (lex (drop n t)) R.here R.others (sym (let_first (lex (drop at.p t)) no_term e) ∙ R.reads)

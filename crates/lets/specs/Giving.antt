@@ -1,5 +1,5 @@
 -- A term that was read, and a value for the name of the innermost `let`.
-use Rattle.std.specs.Prelude.{◌≡◌, ℕ, ◌+◌, ◌*◌, ◌≤◌, List, ◌∷◌, T, length, take, drop}
+use Rattle.std.specs.Prelude.{◌≡◌, ℕ, ◌+◌, ◌*◌, ◌≤◌, List, ◌∷◌, T, length, take, drop, Some}
 use Rattle.std.proofs.Math.Option.{none, some}
 use Rattle.language.specs.Text.{Text}
 use Rattle.language.specs.Tokens.{Token, lex}
@@ -13,8 +13,8 @@ use Rattle.language.specs.Outcomes.{gives}
 use Rattle.language.specs.Values.{Session}
 use Rattle.language.specs.Expressions.{unbound, value_within, names_within}
 use Rattle.syntax.specs.declared.Term as Read
-use Rattle.syntax.specs.declared.TermRead.TheVariants as TermIs
-use Rattle.syntax.specs.Values.{term_read_meant, TermPlaced}
+use Rattle.tokens.specs.Readers.{ReadPlaced}
+use Rattle.syntax.specs.Values.{term_read_meant, TermWithin}
 use Rattle.language.proofs.Parsing.ValidPrograms.{valid_expr}
 use Rattle.permits.specs.Permits.{Sends, unread}
 use Rattle.permits.specs.declared.Known.{Known}
@@ -27,8 +27,8 @@ use Rattle.lets.specs.declared.place.Place.{Place}
 
 -- the term that stands from place p on, and ends before n
 pub record AtTerm (t : Text) (p : ℕ) (e : Read.Term) (n : ℕ) : Type 0 where
-  pub meant : term_read_meant t (TermIs.Found e n) ≡ any_term (lex (drop p t))
-  pub placed : TermPlaced t p (TermIs.Found e n)
+  pub meant : term_read_meant t (Some e) n ≡ any_term (lex (drop p t))
+  pub placed : ReadPlaced TermWithin t p (Some e) n
 
 -- the innermost frame has its value, and what is asked for is what the frames make of that
 pub record Given (s : Session) (x : Expr) (t : Text) (b : Texts) (k : Stack) (base number depth at : ℕ) (known : Known) (src : Text) (weight : ℕ) : Type 0 where

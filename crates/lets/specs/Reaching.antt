@@ -1,5 +1,6 @@
 -- How far the evaluation of an expression with `let` has come.
 use Rattle.std.specs.Prelude.{◌≡◌, ℕ, ◌+◌, ◌*◌, ◌≤◌, ◌<◌, List, [], ◌∷◌, ◌++◌, T, length, take, drop}
+use Rattle.std.proofs.Common.{ControlFlow, Continue, Break}
 use Rattle.std.proofs.Math.Option.{some}
 use Rattle.language.specs.Text.{Text}
 use Rattle.language.specs.Tokens.{Token, lex}
@@ -20,8 +21,6 @@ use Rattle.evaluated.specs.declared.Answered.TheVariants as Is
 use Rattle.term_answer.specs.Telling.{Tells}
 use Rattle.lets.specs.Frames.{Frame, environment, opening, unwound, unwound_names, terms_of, Follows, FramesAt, Nested, Roomy, AllRoomy}
 use Rattle.lets.specs.declared.place.Place.{Place}
-use Rattle.lets.specs.declared.place.Step.{Step}
-use Rattle.lets.specs.declared.place.Step.TheVariants as StepIs
 use Rattle.lets.specs.declared.binding.Bound.{Bound}
 use Rattle.lets.specs.declared.binding.Bound.TheVariants as BoundIs
 
@@ -91,9 +90,9 @@ pub record Sized (b : Texts) (k : Stack) (base number : ℕ) : Type 0 where
   pub slots_small : length b.local_slots ≤ 32768
   pub deep : Deep k
 
-abbrev pub Stepped : Step → Session → Expr → Text → Texts → Stack → ℕ → ℕ → ℕ → Text → Type 0
-Stepped (StepIs.On at) s x t b k base number p out = Reached s x t b k base number at × (p < at.p)
-Stepped (StepIs.Done r) s x t b k base number p out = Tells r s (names_within (unbound s) x) (value_within (unbound s) x) out × Holding s s.locals b base number
+abbrev pub Stepped : ControlFlow Answered Place → Session → Expr → Text → Texts → Stack → ℕ → ℕ → ℕ → Text → Type 0
+Stepped (Continue at) s x t b k base number p out = Reached s x t b k base number at × (p < at.p)
+Stepped (Break r) s x t b k base number p out = Tells r s (names_within (unbound s) x) (value_within (unbound s) x) out × Holding s s.locals b base number
 
 -- what binding the name of the innermost frame to a value leaves
 pub record Opened (s : Session) (k : Frame) (v : Value) (b : Texts) (base number len n bound : ℕ) : Type 0 where

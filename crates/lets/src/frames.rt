@@ -11,8 +11,9 @@ ghost use Rattle.lets.specs.Reaching.{texts};
 ghost use Rattle.lets.specs.Standing.{SomeHead, SomeFrame, Framed, Standing, SomeStanding, taken};
 
 use crate::place::Place;
-use expression_readers::{LetRead, let_head};
+use expression_readers::read_let;
 use text::Span;
+use tokens::scanner::Scanner;
 
 // One frame more.
 pub fn push(heads: &mut [u16], lens: &mut [u32], counts: &mut [u16], bounds: &mut [u16], at: Place)
@@ -49,11 +50,8 @@ fn name_at(text: &[u8], at: usize) -> Span
     ensures within { Within text.now result }
     ensures named { (x : Name) (us : List Token) → let_head (lex (drop at text.now)) ≡ some (x, us) → part text.now result ≡ x }
 {
-    let head = let_head(text, at);
-    match head {
-        LetRead::Found(x, _) => x,
-        LetRead::No => Span { start: 0, end: 0 },
-    }
+    let mut scanner = Scanner { text, at };
+    read_let(&mut scanner).unwrap_or(Span { start: 0, end: 0 })
 }
 
 // The name of a frame's `let`.

@@ -25,14 +25,15 @@ ghost use Rattle.lets.specs.Giving.{AtTerm, Given, SomeGiven, SomeEntered, SomeL
 
 use binding::{Bound, bind};
 use evaluated::Answered;
-use expression_readers::{LetRead, let_head};
+use expression_readers::read_let;
 use frames::push;
 use permits::{Known, behind};
-use place::{Place, Step};
+use place::Place;
 use sinking::sink;
-use syntax::{Term, TermRead};
-use term_readers::term_at;
-use tokens::reader::Next;
+use std::ops::ControlFlow;
+use syntax::Term;
+use term_readers::read_term;
+use tokens::scanner::Scanner;
 
 // The first expression of the innermost `let` has a value: its name is bound to that, and its second expression is next. `at` is the place
 // past the value's term, before `in`; `known` is what is known of the terms from there on.
@@ -52,7 +53,7 @@ fn returned(
     known: Known,
     value: &[u8],
     weight: usize,
-) -> Step
+) -> ControlFlow<Answered, Place>
     requires { SomeGiven text.now (texts shared.now slots.now count scope.old local_slots.old) (stack heads.now lens.now counts.now bounds.now) depth at known value.now weight }
     ensures { (s : Session) (x : Syntax.Expr) (base number : ℕ)
         → Given s x text.now (texts shared.now slots.now count scope.old local_slots.old)
@@ -77,8 +78,8 @@ fn returned(
         weight,
     );
     match b {
-        Bound::Defined => Step::Done(Answered::Missing),
-        Bound::Heavy => Step::Done(sink(
+        Bound::Defined => ControlFlow::Break(Answered::Missing),
+        Bound::Heavy => ControlFlow::Break(sink(
             shared,
             slots,
             count,
@@ -91,12 +92,12 @@ fn returned(
             d,
         )),
         Bound::Done(len, n, bound) => {
-            let word = tokens::reader::expect(text, at, b"in");
-            let Next::At(p) = word else {
-                return Step::Done(Answered::Missing);
+            let mut scanner = Scanner { text, at };
+            let Some(()) = scanner.expect(b"in") else {
+                return ControlFlow::Break(Answered::Missing);
             };
-            Step::On(Place {
-                p,
+            ControlFlow::Continue(Place {
+                p: scanner.at,
                 depth: d,
                 len,
                 count: n,
@@ -115,24 +116,20 @@ fn enter(
     counts: &mut [u16],
     bounds: &mut [u16],
     at: Place,
-) -> Step
+) -> ControlFlow<Answered, Place>
     requires { SomeEntered text.now (stack heads.old lens.old counts.old bounds.old) at }
     ensures { (s : Session) (x : Syntax.Expr) (b : Texts) (base number : ℕ) → Reached s x text.now b (stack heads.old lens.old counts.old bounds.old) base number at
         → (out : Text) → Stepped result s x text.now b (stack heads.new lens.new counts.new bounds.new) base number at.p out }
 {
-    let head = let_head(text, at.p);
-    let LetRead::Found(_, n) = head else {
-        return Step::Done(Answered::Missing);
+    let mut scanner = Scanner { text, at: at.p };
+    let Some(_) = read_let(&mut scanner) else {
+        return ControlFlow::Break(Answered::Missing);
     };
     push(heads, lens, counts, bounds, at);
-    let known = at.known;
-    Step::On(Place {
-        p: n,
+    ControlFlow::Continue(Place {
+        p: scanner.at,
         depth: at.depth + 1,
-        len: at.len,
-        count: at.count,
-        bound: at.bound,
-        known,
+        ..at
     })
 }
 
@@ -157,7 +154,7 @@ fn leave<'a>(
     at: Place,
     out: &mut [u8],
     labels: &mut [u32],
-) -> Step
+) -> ControlFlow<Answered, Place>
     requires some_left { SomeLeft text.now (texts shared.now slots.now count scope.old local_slots.old) (stack heads.now lens.now counts.now bounds.now) at assertions.now n principals sender }
     requires at_term { AtTerm text.now at.p e end × (length text.now ≤ longest) × Lent out.old labels.old }
     ensures { (s : Session) (x : Syntax.Expr) (base number : ℕ)
@@ -189,9 +186,9 @@ fn leave<'a>(
         labels,
     );
     match r {
-        Answered::Denied => Step::Done(Answered::Denied),
-        Answered::Missing => Step::Done(Answered::Missing),
-        Answered::Heavy => Step::Done(sink(
+        Answered::Denied => ControlFlow::Break(Answered::Denied),
+        Answered::Missing => ControlFlow::Break(Answered::Missing),
+        Answered::Heavy => ControlFlow::Break(sink(
             shared,
             slots,
             count,
@@ -205,7 +202,7 @@ fn leave<'a>(
         )),
         Answered::Value { len, weight } => {
             if depth == 0 {
-                return Step::Done(Answered::Value { len, weight });
+                return ControlFlow::Break(Answered::Value { len, weight });
             }
             returned(
                 shared,
@@ -247,7 +244,7 @@ fn step<'a>(
     at: Place,
     out: &mut [u8],
     labels: &mut [u32],
-) -> Step
+) -> ControlFlow<Answered, Place>
     requires some_left { SomeLeft text.now (texts shared.now slots.now count scope.old local_slots.old) (stack heads.old lens.old counts.old bounds.old) at assertions.now n principals sender }
     requires text_len_bound { (length text.now ≤ longest) × Lent out.old labels.old }
     ensures { (s : Session) (x : Syntax.Expr) (base number : ℕ)
@@ -258,9 +255,9 @@ fn step<'a>(
         → Stepped result s x text.now (texts shared.now slots.now count scope.new local_slots.new)
         (stack heads.new lens.new counts.new bounds.new) base number at.p out.new }
 {
-    let read = term_at(text, at.p);
-    match read {
-        TermRead::Found(e, end) => leave(
+    let mut scanner = Scanner { text, at: at.p };
+    match read_term(&mut scanner) {
+        Some(e) => leave(
             shared,
             slots,
             count,
@@ -272,7 +269,7 @@ fn step<'a>(
             sender,
             text,
             e,
-            end,
+            scanner.at,
             heads,
             lens,
             counts,
@@ -281,7 +278,7 @@ fn step<'a>(
             out,
             labels,
         ),
-        TermRead::No => enter(text, heads, lens, counts, bounds, at),
+        None => enter(text, heads, lens, counts, bounds, at),
     }
 }
 
@@ -346,8 +343,8 @@ pub fn answer<'a>(
             labels,
         );
         match next {
-            Step::On(further) => place = further,
-            Step::Done(r) => return r,
+            ControlFlow::Continue(further) => place = further,
+            ControlFlow::Break(r) => return r,
         }
     }
 }

@@ -1,5 +1,4 @@
-// How far an evaluation has come, and what a step of it leads to.
-use evaluated::Answered;
+// How far an evaluation has come.
 use permits::Known;
 
 // The place in the program's text, how many frames there are, where the locals end with the names of `let` behind them, how many they are,
@@ -12,10 +11,4 @@ pub struct Place {
     pub count: usize,
     pub bound: usize,
     pub known: Known,
-}
-
-#[derive(Clone, Copy)]
-pub enum Step {
-    On(Place),
-    Done(Answered),
 }
