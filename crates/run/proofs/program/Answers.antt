@@ -7,7 +7,6 @@ use Rattle.validate.specs.Checked.{Understood, CheckedMeant}
 use Rattle.std.specs.Prelude.{Option}
 use Rattle.validate.specs.declared.Parts.{Parts}
 use Rattle.run.proofs.Refusals.{run_output, run_state, run_work, run_form, run_closed, run_done}
-use borrow.Author.Rules.{rules}
 use Rattle.run.proofs.program.Goals as goal
 
 pub returns-then-output-ne65536 : goal.returns-then-output-ne65536

@@ -6,7 +6,6 @@ use Rattle.validate.specs.Checked.{Understood, CheckedMeant}
 use Rattle.std.specs.Prelude.{Option}
 use Rattle.validate.specs.declared.Parts.{Parts}
 use Rattle.sheet.proofs.Refusals.{sheet_output, sheet_size, sheet_form, sheet_on_lem}
-use borrow.Author.Rules.{rules}
 use Rattle.sheet.proofs.variable.Goals as goal
 
 pub returns-then-output-ne65536 : goal.returns-then-output-ne65536

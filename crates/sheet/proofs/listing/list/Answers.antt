@@ -8,7 +8,6 @@ use Rattle.store.specs.declared.index.Found.TheVariants.{At}
 use Rattle.validate.specs.Checked.{Understood}
 use Rattle.validate.proofs.States.{store, vars_rows, are_vars}
 use Rattle.sheet.proofs.Printing.{not_listed, tables, listable, listed_is}
-use borrow.Author.Rules.{rules}
 use Rattle.sheet.proofs.listing.list.Goals as goal
 
 pub find-place-requires : goal.find-place-requires

@@ -8,7 +8,6 @@ use Rattle.named_rights.specs.Numbers.{length_marked}
 use Prim.Native.Nat.{◌≤◌}
 use lib.ListN.{length}
 use Rattle.sheet.proofs.Printing.{marks_back, asks_lent}
-use borrow.Author.Rules.{rules}
 use Rattle.sheet.proofs.listing.mark.Goals as goal
 
 pub slice_bounds-lengths-end-2 : goal.slice_bounds-lengths-end-2

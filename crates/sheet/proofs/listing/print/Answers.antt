@@ -13,7 +13,6 @@ use Rattle.value_text.proofs.Pieces.{written_length}
 use Rattle.sheet_page.specs.Marks.{Marked}
 use Rattle.sheet.specs.Listing.{SheetTables}
 use Rattle.sheet.proofs.Printing.{asks_all, printed}
-use borrow.Author.Rules.{rules}
 use Rattle.sheet.proofs.listing.print.Goals as goal
 
 -- the marks that are lent are as many as the principals
