@@ -7,11 +7,6 @@ use Rattle.language.specs.Calls.{ready, BringBuffers}
 use Rattle.validate.specs.Checked.{FormerUnderstood, FormerMeant}
 use Rattle.bring.proofs.Brought.{weighs, few, light_before, brought, bringing}
 use Rattle.bring.proofs.Refused.{former_size, state_size, not_formed, too_heavy, brought_over}
-use borrow.Author.Rules.{rules}
-use Rattle.bring.proofs.state.Reads as reads
-use Rattle.bring.proofs.state.Lts as lts
-use Rattle.bring.proofs.rewrite.put_state.Reads as put-state-reads
-use Rattle.validate.proofs.check_former.Reads as check-former-reads
 use Rattle.bring.proofs.state.Goals as goal
 
 pub returns-then-former-ne65536 : goal.returns-then-former-ne65536
