@@ -9,7 +9,6 @@ ghost use Rattle.language.specs.Calls.{ask_call};
 ghost use Rattle.answers.specs.Answers.{replied};
 
 use answers::Answer;
-use validate::Checked;
 
 // Whether a principal has a right on a shared variable, and by how long a chain. The right is given by its letter.
 pub fn right(state: &[u8], name: &[u8], variable: &[u8], right: u8) -> Answer
@@ -22,7 +21,7 @@ pub fn right(state: &[u8], name: &[u8], variable: &[u8], right: u8) -> Answer
     let mut vars = [0u32; 4096];
     let mut assertions = [0u64; 2048];
     let checked = validate::check(state, &mut principals, &mut vars, &mut assertions);
-    let Checked::Good(parts) = checked else {
+    let Some(parts) = checked else {
         return Answer::Wrong(4);
     };
     question::decide(

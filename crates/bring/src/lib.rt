@@ -9,7 +9,6 @@ ghost use Rattle.language.specs.Calls.{bring_call};
 ghost use Rattle.answers.specs.Answers.{replied};
 
 use answers::Answer;
-use validate::Checked;
 
 // Brings the state of the former buffer over into the other. Every principal's count starts from 0, and weighs 10.
 pub fn state(former: &[u8], state: &mut [u8]) -> Answer
@@ -26,7 +25,7 @@ pub fn state(former: &[u8], state: &mut [u8]) -> Answer
     let mut vars = [0u32; 4096];
     let mut assertions = [0u64; 2048];
     let checked = validate::check_former(former, &mut principals, &mut vars, &mut assertions);
-    let Checked::Good(parts) = checked else {
+    let Some(parts) = checked else {
         return Answer::Wrong(10);
     };
     if parts.weight + 10 * parts.principals > 8192 {

@@ -3,7 +3,7 @@
 use mathlib.Core.Path.{◌≡◌, refl, sym, ap, subst, ◌∙◌}
 use Prim.Native.Nat.{ℕ, ◌+◌, ◌-◌, ◌≤◌, ◌<◌}
 use native.Mathlib.Omega.{arith}
-use mathlib.Core.Bool.{Bool, true, false, ◌&&◌, not}
+use mathlib.Core.Bool.{Bool, true, false, ◌&&◌}
 use mathlib.Core.Option.{Option, none, some}
 use mathlib.Core.List.{[], ◌∷◌, ◌++◌, append_assoc}
 use lib.Dec.{T, eqb, leb, leb→le, le→leb, eqb→eq}
@@ -17,30 +17,16 @@ use Rattle.language.specs.Identifiers.{is_name, is_string}
 use Rattle.language.specs.Valid.{valid_password, has_password}
 use Rattle.language.specs.Decode.{number}
 use Rattle.language.specs.Former.{Form, current, former, principal_in, principal_weight_in, valid_principal_in}
-use Rattle.language.proofs.Logic.Tests.{both, and, three, and_three, not_not}
+use Rattle.language.proofs.Logic.Tests.{both, and, three, and_three}
 use Rattle.language.proofs.StateText.Clean.{decimal_number}
 use Rattle.language.proofs.StateText.Digits.{decimal_digits}
-use Rattle.text.specs.Meaning.{in_alphabet}
-use Rattle.text.specs.declared.Alphabet.TheVariants.{Text as Text'}
 use Rattle.text.specs.Parts.{part}
 use Rattle.lines.specs.Cuts.{Field, Digits, is_digit}
 use Rattle.lines.proofs.Cuts.{unique, only, name_only}
-use Rattle.record_fields.specs.Sections.{Reads, Fails, light_one, One, Entitled, any_text, opens}
+use Rattle.record_fields.specs.Sections.{Reads, Fails, light_one, One, Entitled, any_text}
 use Rattle.record_fields.proofs.Opening.{twice, tail_of, byte_here, next_here, part_length}
 use Rattle.record_fields.proofs.Sorts.{inner_fails, inner_reads, any_weaker}
-use Rattle.record_fields.proofs.Labels.{opens_here, opens_not}
-use Rattle.principal_lines.specs.Principals.{stop_of, tail_text, fine_count, Secret, secret_text, fine_secret, secret_weight, base_of, off_principal, in_place}
-
--- ---- the letter
-
-module _ (t : Text) (at : ℕ) where
-  pub principal_p : get_or t at 0 ≡ 80 → true ≡ not (off_principal (drop at t))
-  principal_p e = sym (ap (λ (b : Bool). not (not b && not (opens 78 (drop at t)))) (opens_here t at 80 e))
-
-  pub principal_n : (get_or t at 0 ≡ 80 → ⊥) → eqb (get_or t at 0) 78 ≡ not (off_principal (drop at t))
-  principal_n h =
-      let d : opens 78 (drop at t) ≡ eqb (get_or t at 0) 78 = ap (λ (b : ℕ). eqb b 78) (sym (byte_here t at (drop at t) refl)) in
-      sym (ap (λ (b : Bool). not (not b && not (opens 78 (drop at t)))) (opens_not t at 80 h) ∙ not_not (opens 78 (drop at t)) ∙ d)
+use Rattle.principal_lines.specs.Principals.{stop_of, tail_text, fine_count, Secret, secret_text, fine_secret, secret_weight, base_of, in_place}
 
 -- ---- what a principal's line holds
 
@@ -76,9 +62,6 @@ module _ (t : Text) (at : ℕ) where
   tail_text_lem : (n : ℕ) (q : Text) → tail_text current n ++ q ≡ decimal n ++ 10 ∷ q
   tail_text_lem n q = append_assoc (decimal n) (10 ∷ []) q
 
-  pub tail_none : ((n : ℕ) (r : Text) → n ≤ last_count → drop at t ≡ decimal n ++ 10 ∷ r → ⊥) → Fails (tail_text current) (fine_count current) any_text t at
-  tail_none never n q f c d = never n q (leb→le n 4294967295 f) (d ∙ tail_text_lem n q)
-
   pub tail_read : (n e : ℕ) → Digits t at n e → Reads (tail_text current) (fine_count current) any_text t at n (e + 1)
   tail_read n e D = record {
     low = omega (arith, D.low);
@@ -91,24 +74,11 @@ module _ (t : Text) (at : ℕ) where
         (sym (decimal_number m bound) ∙ ap (number 0) same ∙ decimal_number n D.bound, left);
   }
 
-  pub tail_former : at ≤ length t → Reads (tail_text former) (fine_count former) any_text t at 0 at
-  tail_former h = record {
-    low = omega arith;
-    high = h;
-    is_fine = tt;
-    here = refl;
-    only = λ m q f c d. (eqb→eq m 0 f, sym d);
-  }
-
 -- ---- the password
 
 stop_string : (f : Form) → string_byte (stop_of f) ≡ false
 stop_string current = refl
 stop_string former = refl
-
-pub stop_text : (f : Form) → in_alphabet Text' (stop_of f) ≡ false
-stop_text current = refl
-stop_text former = refl
 
 pub stop_word : (f : Form) → word_byte (stop_of f) ≡ false
 stop_word current = refl
@@ -130,9 +100,6 @@ module _ (f : Form) (t : Text) (at w : ℕ) where
       let (v, l) = both (fine_secret f s) (leb (w + length s.password) 8192) g in
       let (a, b) = both (is_string s.password) (fine_count f s.count) v in
       (a, b, leb→le (w + length s.password) 8192 l)
-
-  pub secret_none : ((u r : Text) → T (all string_byte u) → drop at t ≡ u ++ stop_of f ∷ r → ⊥) → NoSecret
-  secret_none never s q g c d = never s.password _ (secret_is s g).0 (d ∙ secret_text_lem s q)
 
   module _ (m : ℕ) (F : Field (all string_byte) (stop_of f) t at m) where
     size : length (part t at m) ≡ m - at
@@ -359,10 +326,6 @@ module _ (f : Form) (t : Text) (at w : ℕ) where
 
 -- ---- places
 
-and_yes : (b : Bool) → b ≡ (b && true)
-and_yes true = refl
-and_yes false = refl
-
 and_no : (b : Bool) → false ≡ (b && false)
 and_no true = refl
 and_no false = refl
@@ -371,17 +334,8 @@ module _ (n : ℕ) (x : Text) (has : Bool) where
   first_place : n ≡ 0 → in_place n x has ≡ ((x ≟ admin) && has)
   first_place e = ap (λ (b : Bool). when b then (x ≟ admin) && has else when eqb n 1 then x ≟ anyone else has) (eq-eqb n 0 e)
 
-  pub place_admin : n ≡ 0 → has ≡ true → (x ≟ admin) ≡ in_place n x has
-  place_admin e h = and_yes (x ≟ admin) ∙ ap (λ (b : Bool). (x ≟ admin) && b) (sym h) ∙ sym (first_place e)
-
-  pub place_refused : n ≡ 0 → has ≡ false → false ≡ in_place n x has
-  place_refused e h = and_no (x ≟ admin) ∙ ap (λ (b : Bool). (x ≟ admin) && b) (sym h) ∙ sym (first_place e)
-
   later : (n ≡ 0 → ⊥) → in_place n x has ≡ (when eqb n 1 then x ≟ anyone else has)
   later z = ap (λ (b : Bool). when b then (x ≟ admin) && has else when eqb n 1 then x ≟ anyone else has) (ne_eqb n 0 z)
-
-  pub place_anyone : (n ≡ 0 → ⊥) → n ≡ 1 → (x ≟ anyone) ≡ in_place n x has
-  place_anyone z e = sym (later z ∙ ap (λ (b : Bool). when b then x ≟ anyone else has) (eq-eqb n 1 e))
 
   pub place_other : (n ≡ 0 → ⊥) → (n ≡ 1 → ⊥) → has ≡ in_place n x has
   place_other z o = sym (later z ∙ ap (λ (b : Bool). when b then x ≟ anyone else has) (ne_eqb n 1 o))

@@ -1,5 +1,5 @@
 -- The principals of a state text: admin first, with a password, then anyone, then others with passwords.
-use Rattle.std.specs.Prelude.{ℕ, suc, Bool, true, ◌&&◌, not, List, [], ◌∷◌, ◌++◌, map, eqb, leb, length}
+use Rattle.std.specs.Prelude.{ℕ, suc, Bool, true, ◌&&◌, not, List, [], ◌∷◌, ◌++◌, map, eqb, leb, length, Option, Some, None}
 use Rattle.language.specs.Text.{Text, when◌then◌else◌, ◌≟◌, distinct, decimal}
 use Rattle.language.specs.Syntax.{Name}
 use Rattle.language.specs.State.{Principal, last_count, admin, anyone}
@@ -7,10 +7,7 @@ use Rattle.language.specs.Identifiers.{is_string}
 use Rattle.language.specs.Encode.{tab, newline}
 use Rattle.language.specs.Valid.{valid_order, has_password}
 use Rattle.language.specs.Former.{Form, current, former, principal_in, principal_weight_in, valid_principal_in}
-use Rattle.lines.specs.declared.Cut.{Cut}
-use Rattle.lines.specs.declared.Cut.TheVariants as Of
 use Rattle.record_fields.specs.Sections.{Reads, Fails, ItemMeant, EntryMeant, any_text, opens}
-use Rattle.record_fields.specs.declared.Item.{Item}
 use Rattle.record_fields.specs.declared.Entry.{Entry}
 use Rattle.record_fields.specs.declared.Section.{Section}
 use Rattle.principal_lines.specs.Listed.{ListedMeant}
@@ -37,9 +34,9 @@ abbrev pub fine_count : Form → ℕ → Bool
 fine_count current n = leb n last_count
 fine_count former n = eqb n 0
 
-abbrev pub TailMeant : Form → Text → ℕ → Cut → Type 0
-TailMeant f t at (Of.At e) = (n : ℕ) × Reads (tail_text f) (fine_count f) any_text t at n e
-TailMeant f t at Of.No = Fails (tail_text f) (fine_count f) any_text t at
+abbrev pub TailMeant : Form → Text → ℕ → Option ℕ → Type 0
+TailMeant f t at (Some e) = (n : ℕ) × Reads (tail_text f) (fine_count f) any_text t at n e
+TailMeant f t at None = Fails (tail_text f) (fine_count f) any_text t at
 
 -- a password, and the count behind it
 pub record Secret : Type 0 where
@@ -55,7 +52,7 @@ fine_secret f s = is_string s.password && fine_count f s.count
 abbrev pub secret_weight : Secret → ℕ
 secret_weight s = length s.password
 
-abbrev pub SecretMeant : Form → Text → ℕ → ℕ → Item → Type 0
+abbrev pub SecretMeant : Form → Text → ℕ → ℕ → Option (ℕ × ℕ) → Type 0
 SecretMeant f = ItemMeant (secret_text f) (fine_secret f) secret_weight any_text
 
 -- ---- a principal
@@ -69,7 +66,7 @@ abbrev pub least_of : Form → ℕ
 least_of current = 12
 least_of former = 2
 
-abbrev pub PrincipalMeant : Form → Text → ℕ → ℕ → Entry → Type 0
+abbrev pub PrincipalMeant : Form → Text → ℕ → ℕ → Option Entry → Type 0
 PrincipalMeant f = EntryMeant (λ (k : Principal). k.name) (principal_in f) (valid_principal_in f) (principal_weight_in f) any_text
 
 -- neither P nor N
@@ -87,5 +84,5 @@ orderly n (k ∷ ks) = in_place n k.name (has_password k) && orderly (suc n) ks
 abbrev pub good_principals : List Principal → Bool
 good_principals ks = valid_order ks && distinct (map (λ k. k.name) ks)
 
-abbrev pub PrincipalsMeant : Form → Text → ℕ → List ℕ → Section → Type 0
+abbrev pub PrincipalsMeant : Form → Text → ℕ → List ℕ → Option Section → Type 0
 PrincipalsMeant f t at slots = ListedMeant (λ (k : Principal). k.name) (principal_in f) (valid_principal_in f) good_principals (principal_weight_in f) off_principal t at 0 slots

@@ -5,8 +5,7 @@ ghost use Rattle.std.specs.Prelude.{◌≡◌, not, ◌+◌, ◌*◌, ◌≤◌,
 ghost use Rattle.principal_lines.specs.Principals.{form_meant, stop_of, base_of, least_of, TailMeant, SecretMeant, PrincipalMeant, PrincipalsMeant, off_principal, in_place};
 
 use contents::name_weight;
-use lines::{Cut, Number};
-use record_fields::{Entry, Item, Section};
+use record_fields::{Entry, LIMIT, Section};
 use text::Alphabet;
 
 // The lines of now, in which a principal's line ends with its count; and those before them, in which it ends with its name or password.
@@ -21,8 +20,8 @@ fn stop(form: Form) -> u8
     ensures { result ≡ stop_of (form_meant form) }
 {
     match form {
-        Form::Current => 9,
-        Form::Former => 10,
+        Form::Current => b'\t',
+        Form::Former => b'\n',
     }
 }
 
@@ -36,135 +35,106 @@ fn base(form: Form) -> usize
     }
 }
 
-// What follows that byte up to the line's end: the count, or nothing.
-fn tail_at(text: &[u8], at: usize, form: Form) -> Cut
+// What follows that byte up to the line's end: the count, or nothing. Where the line ends.
+fn tail_at(text: &[u8], at: usize, form: Form) -> Option<usize>
     requires { at ≤ length text.now }
     ensures { TailMeant (form_meant form) text.now at result }
 {
     match form {
         Form::Current => {
-            let count = lines::number_at(text, at);
-            let Number::At(_, e) = count else {
-                return Cut::No;
-            };
-            Cut::At(e + 1)
+            let (_, e) = lines::number_at(text, at)?;
+            Some(e + 1)
         }
-        Form::Former => Cut::At(at),
+        Form::Former => Some(at),
     }
 }
 
-// A password, and what follows it up to the line's end.
-fn secret_at(text: &[u8], at: usize, form: Form, w: usize) -> Item
+// A password, and what follows it up to the line's end: where that is, and what is weighed with it.
+fn secret_at(text: &[u8], at: usize, form: Form, w: usize) -> Option<(usize, usize)>
     requires { (at ≤ length text.now) × (w ≤ 16384) }
     ensures { SecretMeant (form_meant form) text.now at w result }
 {
-    let cut = lines::run_cut(text, at, Alphabet::Text, stop(form));
-    let Cut::At(m) = cut else {
-        return Item::Bad;
-    };
+    let m = lines::run_cut(text, at, Alphabet::Text, stop(form))?;
     let size = m - at;
-    if size > 8192 {
-        return Item::Bad;
+    if size > LIMIT || w + size > LIMIT {
+        return None;
     }
-    let after = w + size;
-    if after > 8192 {
-        return Item::Bad;
-    }
-    let tail = tail_at(text, m + 1, form);
-    let Cut::At(e) = tail else {
-        return Item::Bad;
-    };
-    Item::Good(e, after)
+    let e = tail_at(text, m + 1, form)?;
+    Some((e, w + size))
 }
 
 // A principal with a password.
-fn keyed_at(text: &[u8], at: usize, form: Form, w: usize) -> Entry
+fn keyed_at(text: &[u8], at: usize, form: Form, w: usize) -> Option<Entry>
     requires { (get_or text.now at 0 ≡ 80) × (get_or text.now (at + 1) 0 ≡ 9) × (w ≤ 8192) }
     ensures { PrincipalMeant (form_meant form) text.now at w result }
 {
     let from = at + 2;
-    let name = lines::name_end(text, from, 9);
-    let Cut::At(m) = name else {
-        return Entry::Bad;
-    };
-    let before = w + base(form) + name_weight(&text[from..m]);
-    let secret = secret_at(text, m + 1, form, before);
-    let Item::Good(e, after) = secret else {
-        return Entry::Bad;
-    };
-    Entry::Good(m, e, after)
+    let name_end = lines::name_end(text, from, b'\t')?;
+    let before = w + base(form) + name_weight(&text[from..name_end]);
+    let (end, weighed) = secret_at(text, name_end + 1, form, before)?;
+    Some(Entry {
+        name_end,
+        end,
+        weighed,
+    })
 }
 
 // A principal that has no password.
-fn plain_at(text: &[u8], at: usize, form: Form, w: usize) -> Entry
+fn plain_at(text: &[u8], at: usize, form: Form, w: usize) -> Option<Entry>
     requires { (get_or text.now at 0 ≡ 78) × (get_or text.now (at + 1) 0 ≡ 9) × (w ≤ 8192) }
     ensures { PrincipalMeant (form_meant form) text.now at w result }
 {
     let from = at + 2;
-    let name = lines::name_end(text, from, stop(form));
-    let Cut::At(m) = name else {
-        return Entry::Bad;
-    };
-    let after = w + base(form) + name_weight(&text[from..m]);
-    if after > 8192 {
-        return Entry::Bad;
+    let name_end = lines::name_end(text, from, stop(form))?;
+    let weighed = w + base(form) + name_weight(&text[from..name_end]);
+    if weighed > LIMIT {
+        return None;
     }
-    let tail = tail_at(text, m + 1, form);
-    let Cut::At(e) = tail else {
-        return Entry::Bad;
-    };
-    Entry::Good(m, e, after)
+    let end = tail_at(text, name_end + 1, form)?;
+    Some(Entry {
+        name_end,
+        end,
+        weighed,
+    })
 }
 
-fn principal_at(text: &[u8], at: usize, form: Form, w: usize) -> Entry
+fn principal_at(text: &[u8], at: usize, form: Form, w: usize) -> Option<Entry>
     requires { (at ≤ length text.now) × (w ≤ 8192) }
     ensures { PrincipalMeant (form_meant form) text.now at w result }
 {
+    if lines::byte_at(text, at + 1) != b'\t' {
+        return None;
+    }
     let first = lines::byte_at(text, at);
-    if first == 80 {
-        if lines::byte_at(text, at + 1) != 9 {
-            return Entry::Bad;
-        }
-        return keyed_at(text, at, form, w);
+    if first == b'P' {
+        keyed_at(text, at, form, w)
+    } else if first == b'N' {
+        plain_at(text, at, form, w)
+    } else {
+        None
     }
-    if first != 78 {
-        return Entry::Bad;
-    }
-    if lines::byte_at(text, at + 1) != 9 {
-        return Entry::Bad;
-    }
-    plain_at(text, at, form, w)
 }
 
 // Whether a principal's line starts here.
 fn goes_on(text: &[u8], at: usize) -> bool
     ensures { result ≡ not (off_principal (drop at text.now)) }
 {
-    let first = lines::byte_at(text, at);
-    if first == 80 {
-        return true;
-    }
-    first == 78
+    matches!(lines::byte_at(text, at), b'P' | b'N')
 }
 
 // Whether the n-th principal may have this name, with a password or without.
 fn in_place(name: &[u8], has: bool, n: usize) -> bool
     ensures { result ≡ in_place n name.now has }
 {
-    if n == 0 {
-        if has {
-            return text::same_bytes(name, b"admin");
-        }
-        return false;
+    match n {
+        0 => has && text::same_bytes(name, b"admin"),
+        1 => text::same_bytes(name, b"anyone"),
+        _ => has,
     }
-    if n == 1 {
-        return text::same_bytes(name, b"anyone");
-    }
-    has
 }
 
 // The principals: admin first, anyone second, all names different. By the weight there are no more than the slots are for.
-pub fn principals(text: &[u8], at: usize, form: Form, slots: &mut [u32]) -> Section
+pub fn principals(text: &[u8], at: usize, form: Form, slots: &mut [u32]) -> Option<Section>
     requires { (at ≤ length text.now) × (length text.now ≤ 65536) × (8192 ≤ least_of (form_meant form) * length slots.old) }
     ensures { PrincipalsMeant (form_meant form) text.now at slots.new result }
 {
@@ -172,23 +142,24 @@ pub fn principals(text: &[u8], at: usize, form: Form, slots: &mut [u32]) -> Sect
     let mut n = 0;
     let mut now = 0;
     while goes_on(text, i) {
-        let line = principal_at(text, i, form, now);
-        let Entry::Good(m, e, after) = line else {
-            return Section::Bad;
-        };
+        let line = principal_at(text, i, form, now)?;
         let from = i + 2;
-        if !in_place(&text[from..m], text[i] == 80, n) {
-            return Section::Bad;
+        if !in_place(&text[from..line.name_end], text[i] == b'P', n) {
+            return None;
         }
-        if !record_fields::enter(text, at, i, m, slots, n) {
-            return Section::Bad;
+        if !record_fields::enter(text, at, i, line.name_end, slots, n) {
+            return None;
         }
         n += 1;
-        i = e;
-        now = after;
+        i = line.end;
+        now = line.weighed;
     }
     if n < 2 {
-        return Section::Bad;
+        return None;
     }
-    Section::Good(i, n, now)
+    Some(Section {
+        end: i,
+        count: n,
+        weighed: now,
+    })
 }

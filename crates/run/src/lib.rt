@@ -7,7 +7,6 @@ ghost use Rattle.language.specs.Calls.{run_call};
 ghost use Rattle.answers.specs.Answers.{replied};
 
 use answers::Answer;
-use validate::Checked;
 
 // Runs a program on the state. The output gets its lines; the work buffer is room for it, and is zero afterwards.
 pub fn program(state: &mut [u8], work: &mut [u8], output: &mut [u8], program: &[u8]) -> Answer
@@ -28,8 +27,8 @@ pub fn program(state: &mut [u8], work: &mut [u8], output: &mut [u8], program: &[
     let mut assertions = [0u64; 2048];
     let checked = validate::check(state, &mut principals, &mut vars, &mut assertions);
     match checked {
-        Checked::Bad => Answer::Wrong(4),
-        Checked::Good(parts) => {
+        None => Answer::Wrong(4),
+        Some(parts) => {
             if !parts.open {
                 return Answer::Wrong(5);
             }

@@ -9,7 +9,6 @@ ghost use Rattle.language.specs.Calls.{sheet_call};
 ghost use Rattle.answers.specs.Answers.{replied};
 
 use answers::Answer;
-use validate::Checked;
 
 // Prints a line for each principal into the output, then zeros. The state is only read.
 pub fn variable(state: &[u8], output: &mut [u8], variable: &[u8]) -> Answer
@@ -26,7 +25,7 @@ pub fn variable(state: &[u8], output: &mut [u8], variable: &[u8]) -> Answer
     let mut vars = [0u32; 4096];
     let mut assertions = [0u64; 2048];
     let checked = validate::check(state, &mut principals, &mut vars, &mut assertions);
-    let Checked::Good(parts) = checked else {
+    let Some(parts) = checked else {
         return Answer::Wrong(4);
     };
     listing::list(

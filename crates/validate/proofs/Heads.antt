@@ -3,6 +3,8 @@
 use mathlib.Core.Path.{◌≡◌, refl, sym, ap, subst, ◌∙◌}
 use mathlib.Core.Bool.{Bool, ◌&&◌}
 use mathlib.Core.Option.{Option, none, some}
+use Rattle.std.specs.Prelude as Code
+use Rattle.std.specs.Prelude.{Some, None}
 use mathlib.Core.List.{List, ◌++◌, append_assoc}
 use Prim.Native.Nat.{ℕ, ◌+◌, ◌-◌}
 use native.Mathlib.Omega.{arith}
@@ -26,8 +28,6 @@ use Rattle.frame.proofs.Limits.{zero_bytes, bytes_zero}
 use Rattle.validate.specs.Checked.{Understood, CheckedMeant, FormerUnderstood, FormerMeant}
 use Rattle.validate.specs.Body.{body_text, same_flag, fine_body, Stands, BodyMeant}
 use Rattle.validate.specs.declared.Parts.{Parts}
-use Rattle.validate.specs.declared.Checked.{Checked}
-use Rattle.validate.specs.declared.Checked.TheVariants.{Bad, Good}
 use Rattle.validate.proofs.Whole.{same_flag_lem, flag_same}
 
 zeros_zero : (n : ℕ) → T (is_zero (replicate n 0))
@@ -94,9 +94,9 @@ module _ (t : Text) where
           represents = S.represents;
         }
 
-    pub headed_body : length t ≡ 65536 → (slots-p slots_v assertions : List ℕ) (r : Checked) → BodyMeant current t e o slots-p slots_v assertions r → CheckedMeant t slots-p slots_v assertions r
-    headed_body size slots-p slots_v assertions Bad h = bad_body h
-    headed_body size slots-p slots_v assertions (Good p) h = good_body size slots-p slots_v assertions p h
+    pub headed_body : length t ≡ 65536 → (slots-p slots_v assertions : List ℕ) (r : Code.Option Parts) → BodyMeant current t e o slots-p slots_v assertions r → CheckedMeant t slots-p slots_v assertions r
+    headed_body size slots-p slots_v assertions None h = bad_body h
+    headed_body size slots-p slots_v assertions (Some p) h = good_body size slots-p slots_v assertions p h
 
 -- ---- the former lines
 
@@ -157,6 +157,6 @@ module _ (t : Text) where
           rest = S.rest;
         }
 
-    pub headed_former : length t ≡ 65536 → (slots-p slots_v assertions : List ℕ) (r : Checked) → BodyMeant former t e o slots-p slots_v assertions r → FormerMeant t slots-p slots_v assertions r
-    headed_former size slots-p slots_v assertions Bad h = bad_former_body h
-    headed_former size slots-p slots_v assertions (Good p) h = good_former_body size slots-p slots_v assertions p h
+    pub headed_former : length t ≡ 65536 → (slots-p slots_v assertions : List ℕ) (r : Code.Option Parts) → BodyMeant former t e o slots-p slots_v assertions r → FormerMeant t slots-p slots_v assertions r
+    headed_former size slots-p slots_v assertions None h = bad_former_body h
+    headed_former size slots-p slots_v assertions (Some p) h = good_former_body size slots-p slots_v assertions p h

@@ -1,5 +1,5 @@
 -- What stands behind the first line of a state text, in the lines of now or in the former ones.
-use Rattle.std.specs.Prelude.{◌≡◌, Bool, true, false, ◌&&◌, not, List, ◌++◌, ℕ, ◌*◌, ◌≤◌, leb, length, drop}
+use Rattle.std.specs.Prelude.{◌≡◌, Bool, true, false, ◌&&◌, not, List, ◌++◌, ℕ, ◌*◌, ◌≤◌, leb, length, drop, Option, Some, None}
 use Rattle.language.specs.Text.{Text, all, joined}
 use Rattle.language.specs.State.{Store}
 use Rattle.language.specs.Weight.{limit}
@@ -10,8 +10,6 @@ use Rattle.principal_lines.specs.Principals.{least_of}
 use Rattle.frame.specs.Edges.{is_zero}
 use Rattle.validate.specs.Checked.{RepresentsIn, rest_text}
 use Rattle.validate.specs.declared.Parts.{Parts}
-use Rattle.validate.specs.declared.Checked.{Checked}
-use Rattle.validate.specs.declared.Checked.TheVariants.{Bad, Good}
 
 abbrev pub body_text : Form → Store → Text
 body_text f s = joined (principal_in f) s.principals ++ rest_text s
@@ -41,6 +39,6 @@ pub record Stands (f : Form) (t : Text) (from : ℕ) (o : Bool) (slots-p slots_v
   pub rest_order : p.principals_to ≤ p.used
   pub rest : drop p.principals_to t ≡ rest_text state ++ drop p.used t
 
-abbrev pub BodyMeant : Form → Text → ℕ → Bool → List ℕ → List ℕ → List ℕ → Checked → Type 0
-BodyMeant f t from o slots-p slots_v packed Bad = Fails (body_text f) (fine_body f o) is_zero t from
-BodyMeant f t from o slots-p slots_v packed (Good p) = Stands f t from o slots-p slots_v packed p
+abbrev pub BodyMeant : Form → Text → ℕ → Bool → List ℕ → List ℕ → List ℕ → Option Parts → Type 0
+BodyMeant f t from o slots-p slots_v packed None = Fails (body_text f) (fine_body f o) is_zero t from
+BodyMeant f t from o slots-p slots_v packed (Some p) = Stands f t from o slots-p slots_v packed p

@@ -1,5 +1,5 @@
 -- What a check of a state's buffer answers: the state that it holds, where its parts stand, and the tables of slots and numbers.
-use Rattle.std.specs.Prelude.{◌≡◌, List, ◌++◌, ℕ, ◌-◌, ◌≤◌, length, drop, replicate}
+use Rattle.std.specs.Prelude.{◌≡◌, List, ◌++◌, ℕ, ◌-◌, ◌≤◌, length, drop, replicate, Option, Some, None}
 use Rattle.std.proofs.Math.Option.{none, some}
 use Rattle.language.specs.Text.{Text}
 use Rattle.language.specs.State.{Store}
@@ -11,8 +11,6 @@ use Rattle.text.specs.Parts.{part}
 use Rattle.store.specs.Held.{PrincipalsIn, Variables}
 use Rattle.named_rights.specs.Numbers.{principals_of, Standing}
 use Rattle.validate.specs.declared.Parts.{Parts}
-use Rattle.validate.specs.declared.Checked.{Checked}
-use Rattle.validate.specs.declared.Checked.TheVariants.{Bad, Good}
 
 -- the parts p and the tables say the state s, whose text is t, in the lines of now or in the former ones
 pub record RepresentsIn (f : Form) (t : Text) (slots-p slots_v packed : List ℕ) (p : Parts) (s : Store) : Type 0 where
@@ -37,9 +35,9 @@ pub record Understood (t : Text) (slots-p slots_v assertions : List ℕ) (p : Pa
   pub decoded : decode t ≡ some state
   pub represents : Represents t slots-p slots_v assertions p state
 
-abbrev pub CheckedMeant : Text → List ℕ → List ℕ → List ℕ → Checked → Type 0
-CheckedMeant t slots-p slots_v assertions Bad = decode t ≡ none
-CheckedMeant t slots-p slots_v assertions (Good p) = Understood t slots-p slots_v assertions p
+abbrev pub CheckedMeant : Text → List ℕ → List ℕ → List ℕ → Option Parts → Type 0
+CheckedMeant t slots-p slots_v assertions None = decode t ≡ none
+CheckedMeant t slots-p slots_v assertions (Some p) = Understood t slots-p slots_v assertions p
 
 -- what stands behind the principals, the same in the lines of now and in the former ones
 abbrev pub rest_text : Store → Text
@@ -53,6 +51,6 @@ pub record FormerUnderstood (t : Text) (slots-p slots_v assertions : List ℕ) (
   pub rest_order : p.principals_to ≤ p.used
   pub rest : drop p.principals_to t ≡ rest_text state ++ drop p.used t
 
-abbrev pub FormerMeant : Text → List ℕ → List ℕ → List ℕ → Checked → Type 0
-FormerMeant t slots-p slots_v assertions Bad = decode_former t ≡ none
-FormerMeant t slots-p slots_v assertions (Good p) = FormerUnderstood t slots-p slots_v assertions p
+abbrev pub FormerMeant : Text → List ℕ → List ℕ → List ℕ → Option Parts → Type 0
+FormerMeant t slots-p slots_v assertions None = decode_former t ≡ none
+FormerMeant t slots-p slots_v assertions (Some p) = FormerUnderstood t slots-p slots_v assertions p

@@ -1,5 +1,5 @@
 -- The shared variables of a state text.
-use Rattle.std.specs.Prelude.{Bool, ◌&&◌, not, List, map, ℕ}
+use Rattle.std.specs.Prelude.{Bool, ◌&&◌, not, List, map, ℕ, Option}
 use Rattle.language.specs.Text.{Text, distinct}
 use Rattle.language.specs.State.{Variable}
 use Rattle.language.specs.Weight.{variable_weight}
@@ -17,5 +17,5 @@ off_variable q = off_element q && not (opens 86 q)
 abbrev pub good_variables : List Variable → Bool
 good_variables vs = distinct (map (λ v. v.name) vs)
 
-abbrev pub VariablesMeant : Text → ℕ → ℕ → List ℕ → Section → Type 0
+abbrev pub VariablesMeant : Text → ℕ → ℕ → List ℕ → Option Section → Type 0
 VariablesMeant = ListedMeant (λ (v : Variable). v.name) (λ v. variable_text v.name v.value) valid_variable good_variables variable_weight off_variable

@@ -3,11 +3,9 @@
 ghost use Rattle.principal_lines.specs.Principals.{form_meant};
 ghost use Rattle.validate.specs.Body.{BodyMeant, Tables};
 
-use crate::{Checked, Parts};
+use crate::Parts;
 use assertion_lines::Roll;
 use principal_lines::Form;
-use record_fields::Section;
-use references::Known;
 
 // Reads it from the place where the first line ends; `open` is what that line says.
 pub fn body_at(
@@ -18,48 +16,50 @@ pub fn body_at(
     principals: &mut [u32],
     vars: &mut [u32],
     assertions: &mut [u64],
-) -> Checked
+) -> Option<Parts>
     requires { Tables (form_meant form) state.now from principals.old vars.old assertions.old }
     ensures { BodyMeant (form_meant form) state.now from «open» principals.new vars.new assertions.new result }
 {
-    let roster = principal_lines::principals(state, from, form, principals);
-    let Section::Good(principals_to, n, w) = roster else {
-        return Checked::Bad;
-    };
-    let line = references::delegator_at(state, principals_to, from, principals, n);
-    let Known::At(delegator, vars_from) = line else {
-        return Checked::Bad;
-    };
-    let values = crate::shared::variables(state, vars_from, w, vars);
-    let Section::Good(vars_to, m, v) = values else {
-        return Checked::Bad;
-    };
+    let roster = principal_lines::principals(state, from, form, principals)?;
+    let (delegator, vars_from) = references::delegator_at(
+        state,
+        roster.end,
+        from,
+        principals,
+        roster.count,
+    )?;
+    let values = crate::shared::variables(state, vars_from, roster.weighed, vars)?;
     let roll = Roll {
         principals_from: from,
-        principals_to,
-        principals: n,
+        principals_to: roster.end,
+        principals: roster.count,
         vars_from,
-        vars_to,
-        vars: m,
+        vars_to: values.end,
+        vars: values.count,
     };
-    let listed = assertion_lines::assertions(state, vars_to, v, roll, principals, vars, assertions);
-    let Section::Good(end, asserted, weight) = listed else {
-        return Checked::Bad;
-    };
-    if !frame::zeros_from(state, end) {
-        return Checked::Bad;
+    let listed = assertion_lines::assertions(
+        state,
+        values.end,
+        values.weighed,
+        roll,
+        principals,
+        vars,
+        assertions,
+    )?;
+    if !frame::zeros_from(state, listed.end) {
+        return None;
     }
-    Checked::Good(Parts {
+    Some(Parts {
         open,
         principals_from: from,
-        principals_to,
-        principals: n,
+        principals_to: roster.end,
+        principals: roster.count,
         delegator,
         vars_from,
-        vars_to,
-        vars: m,
-        asserted,
-        weight,
-        used: end,
+        vars_to: values.end,
+        vars: values.count,
+        asserted: listed.count,
+        weight: listed.weighed,
+        used: listed.end,
     })
 }

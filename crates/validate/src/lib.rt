@@ -7,7 +7,6 @@ mod body; // all but the first line
 ghost use Rattle.std.specs.Prelude.{◌≡◌, length};
 ghost use Rattle.validate.specs.Checked.{CheckedMeant, FormerMeant};
 
-use frame::Head;
 use principal_lines::Form;
 
 // Where the parts of a state's text stand: the principals, the variables, how many there are of each and of assertions; the number of the
@@ -27,26 +26,17 @@ pub struct Parts {
     pub used: usize,
 }
 
-#[derive(Clone, Copy)]
-pub enum Checked {
-    Bad,
-    Good(Parts),
-}
-
-// The tables are written: the slots of the principals and of the variables, and the assertions that stand, as numbers.
+// Where the parts stand, of a valid state. The tables are written: the slots of the principals and of the variables, and the assertions that stand, as numbers.
 pub fn check(
     state: &[u8],
     principals: &mut [u32],
     vars: &mut [u32],
     assertions: &mut [u64],
-) -> Checked
+) -> Option<Parts>
     requires { (length state.now ≡ 65536) × (length principals.old ≡ 1024) × (length vars.old ≡ 4096) × (length assertions.old ≡ 2048) }
     ensures { CheckedMeant state.now principals.new vars.new assertions.new result }
 {
-    let head = frame::head_at(state);
-    let Head::At(open, from) = head else {
-        return Checked::Bad;
-    };
+    let (open, from) = frame::head_at(state)?;
     body::body_at(
         state,
         from,
@@ -64,14 +54,11 @@ pub fn check_former(
     principals: &mut [u32],
     vars: &mut [u32],
     assertions: &mut [u64],
-) -> Checked
+) -> Option<Parts>
     requires { (length state.now ≡ 65536) × (length principals.old ≡ 4096) × (length vars.old ≡ 4096) × (length assertions.old ≡ 2048) }
     ensures { FormerMeant state.now principals.new vars.new assertions.new result }
 {
-    let head = frame::former_head_at(state);
-    let Head::At(open, from) = head else {
-        return Checked::Bad;
-    };
+    let (open, from) = frame::former_head_at(state)?;
     body::body_at(
         state,
         from,

@@ -7,8 +7,6 @@ ghost use Rattle.named_rights.specs.Numbers.{principals_of, variables};
 ghost use Rattle.state_lookups.specs.Looks.{found, name_of, principal_of, variable_of};
 ghost use Rattle.validate_c.specs.Reported.{Reported, CountTold, figures};
 
-use validate::Checked;
-
 const BAD: u64 = 4294967296;
 
 const REFUSED: u64 = 4294967297;
@@ -29,8 +27,8 @@ pub extern "C" fn state_check(state: &[u8], out: &mut [u64]) -> u64
     let mut assertions = [0u64; 2048];
     let checked = validate::check(state, &mut principals, &mut vars, &mut assertions);
     match checked {
-        Checked::Good(parts) => state_figures::figures(parts, &assertions, out),
-        Checked::Bad => BAD,
+        Some(parts) => state_figures::figures(parts, &assertions, out),
+        None => BAD,
     }
 }
 
@@ -50,12 +48,12 @@ pub extern "C" fn state_principal(state: &[u8], name: &[u8], out: &mut [u8]) -> 
     let mut assertions = [0u64; 2048];
     let checked = validate::check(state, &mut principals, &mut vars, &mut assertions);
     match checked {
-        Checked::Good(parts) => {
+        Some(parts) => {
             let from = parts.principals_from;
             let to = parts.principals_to;
             state_lookups::principal(&state[from..to], &principals, parts.principals, name, out)
         }
-        Checked::Bad => BAD,
+        None => BAD,
     }
 }
 
@@ -72,12 +70,12 @@ pub extern "C" fn state_principal_count(state: &[u8], name: &[u8]) -> u64
     let mut assertions = [0u64; 2048];
     let checked = validate::check(state, &mut principals, &mut vars, &mut assertions);
     match checked {
-        Checked::Good(parts) => {
+        Some(parts) => {
             let from = parts.principals_from;
             let to = parts.principals_to;
             state_lookups::count(&state[from..to], &principals, parts.principals, name)
         }
-        Checked::Bad => BAD,
+        None => BAD,
     }
 }
 
@@ -97,12 +95,12 @@ pub extern "C" fn state_variable(state: &[u8], name: &[u8], out: &mut [u8]) -> u
     let mut assertions = [0u64; 2048];
     let checked = validate::check(state, &mut principals, &mut vars, &mut assertions);
     match checked {
-        Checked::Good(parts) => {
+        Some(parts) => {
             let from = parts.vars_from;
             let to = parts.vars_to;
             state_lookups::variable(&state[from..to], &vars, parts.vars, name, out)
         }
-        Checked::Bad => BAD,
+        None => BAD,
     }
 }
 
@@ -122,12 +120,12 @@ pub extern "C" fn state_principal_name(state: &[u8], number: usize, out: &mut [u
     let mut assertions = [0u64; 2048];
     let checked = validate::check(state, &mut principals, &mut vars, &mut assertions);
     match checked {
-        Checked::Good(parts) => {
+        Some(parts) => {
             let from = parts.principals_from;
             let to = parts.principals_to;
             state_lookups::nth_name(&state[from..to], &principals, parts.principals, number, out)
         }
-        Checked::Bad => BAD,
+        None => BAD,
     }
 }
 
@@ -147,11 +145,11 @@ pub extern "C" fn state_variable_name(state: &[u8], number: usize, out: &mut [u8
     let mut assertions = [0u64; 2048];
     let checked = validate::check(state, &mut principals, &mut vars, &mut assertions);
     match checked {
-        Checked::Good(parts) => {
+        Some(parts) => {
             let from = parts.vars_from;
             let to = parts.vars_to;
             state_lookups::nth_name(&state[from..to], &vars, parts.vars, number, out)
         }
-        Checked::Bad => BAD,
+        None => BAD,
     }
 }

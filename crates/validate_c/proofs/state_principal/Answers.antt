@@ -19,36 +19,36 @@ returns-then-out-lt65536 c =
 
 pub slice_bounds-principal-count : goal.slice_bounds-principal-count
 slice_bounds-principal-count c =
-    let understood : Understood c.args.state.now c.check-checked.new.principals c.check-checked.new.vars c.check-checked.new.assertions c.in-Good.parts = subst (λ k. CheckedMeant c.args.state.now c.check-checked.new.principals c.check-checked.new.vars c.check-checked.new.assertions k) c.in-Good.is c.check-checked.ensures in
+    let understood : Understood c.args.state.now c.check-checked.new.principals c.check-checked.new.vars c.check-checked.new.assertions c.in-Some.parts = subst (λ k. CheckedMeant c.args.state.now c.check-checked.new.principals c.check-checked.new.vars c.check-checked.new.assertions k) c.in-Some.is c.check-checked.ensures in
     let R = understood.represents in omega (arith, R.principals_order, R.principals_within)
 
 pub slice_bounds-principal-start : goal.slice_bounds-principal-start
 slice_bounds-principal-start c =
-    let understood : Understood c.args.state.now c.check-checked.new.principals c.check-checked.new.vars c.check-checked.new.assertions c.in-Good.parts = subst (λ k. CheckedMeant c.args.state.now c.check-checked.new.principals c.check-checked.new.vars c.check-checked.new.assertions k) c.in-Good.is c.check-checked.ensures in
+    let understood : Understood c.args.state.now c.check-checked.new.principals c.check-checked.new.vars c.check-checked.new.assertions c.in-Some.parts = subst (λ k. CheckedMeant c.args.state.now c.check-checked.new.principals c.check-checked.new.vars c.check-checked.new.assertions k) c.in-Some.is c.check-checked.ensures in
     let R = understood.represents in omega (arith, R.principals_order, R.principals_within)
 
 pub slice_bounds-principal-end : goal.slice_bounds-principal-end
 slice_bounds-principal-end c =
-    let understood : Understood c.args.state.now c.check-checked.new.principals c.check-checked.new.vars c.check-checked.new.assertions c.in-Good.parts = subst (λ k. CheckedMeant c.args.state.now c.check-checked.new.principals c.check-checked.new.vars c.check-checked.new.assertions k) c.in-Good.is c.check-checked.ensures in
+    let understood : Understood c.args.state.now c.check-checked.new.principals c.check-checked.new.vars c.check-checked.new.assertions c.in-Some.parts = subst (λ k. CheckedMeant c.args.state.now c.check-checked.new.principals c.check-checked.new.vars c.check-checked.new.assertions k) c.in-Some.is c.check-checked.ensures in
     let R = understood.represents in omega (arith, R.principals_order, R.principals_within)
 
 pub principal-requires : goal.principal-requires
 principal-requires c =
-    let understood : Understood c.args.state.now c.check-checked.new.principals c.check-checked.new.vars c.check-checked.new.assertions c.in-Good.parts = subst (λ k. CheckedMeant c.args.state.now c.check-checked.new.principals c.check-checked.new.vars c.check-checked.new.assertions k) c.in-Good.is c.check-checked.ensures in
+    let understood : Understood c.args.state.now c.check-checked.new.principals c.check-checked.new.vars c.check-checked.new.assertions c.in-Some.parts = subst (λ k. CheckedMeant c.args.state.now c.check-checked.new.principals c.check-checked.new.vars c.check-checked.new.assertions k) c.in-Some.is c.check-checked.ensures in
     let U = understood in
     let k : length c.check-checked.new.principals ≡ 1024 = c.check-checked.auto.principals in
     (record { principals = U.state.principals; held = U.represents.principals }, few_principals _ _ _ _ _ _ U.represents k, short_principals _ _ _ _ _ _ U.represents c.if-state-ne65536.false, c.if-out-lt65536.false)
 
-pub returns-in-Good : goal.returns-in-Good
-returns-in-Good c =
+pub returns-in-Some : goal.returns-in-Some
+returns-in-Some c =
     let look : Store → Look = λ s. principal_of s.principals c.args.name.now in
-    let understood : Understood c.args.state.now c.check-checked.new.principals c.check-checked.new.vars c.check-checked.new.assertions c.in-Good.parts = subst (λ k. CheckedMeant c.args.state.now c.check-checked.new.principals c.check-checked.new.vars c.check-checked.new.assertions k) c.in-Good.is c.check-checked.ensures in
+    let understood : Understood c.args.state.now c.check-checked.new.principals c.check-checked.new.vars c.check-checked.new.assertions c.in-Some.parts = subst (λ k. CheckedMeant c.args.state.now c.check-checked.new.principals c.check-checked.new.vars c.check-checked.new.assertions k) c.in-Some.is c.check-checked.ensures in
     let U = understood in
     formed 65536 look c.args.state.now c.args.out.now c.if-state-ne65536.false c.if-out-lt65536.false U.state U.decoded
     (c.principal.ensures U.state.principals U.represents.principals)
 
-pub returns-in-Bad : goal.returns-in-Bad
-returns-in-Bad c =
+pub returns-in-None : goal.returns-in-None
+returns-in-None c =
     let look : Store → Look = λ s. principal_of s.principals c.args.name.now in
     not_formed 65536 look c.args.state.now c.args.out.now c.if-state-ne65536.false c.if-out-lt65536.false
-    (subst (λ k. CheckedMeant c.args.state.now c.check-checked.new.principals c.check-checked.new.vars c.check-checked.new.assertions k) c.in-Bad.is c.check-checked.ensures)
+    (subst (λ k. CheckedMeant c.args.state.now c.check-checked.new.principals c.check-checked.new.vars c.check-checked.new.assertions k) c.in-None.is c.check-checked.ensures)

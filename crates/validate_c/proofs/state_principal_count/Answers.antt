@@ -9,33 +9,33 @@ returns-then-state-ne65536 c = count_refused c.args.state.now c.args.name.now c.
 
 pub slice_bounds-count-count : goal.slice_bounds-count-count
 slice_bounds-count-count c =
-    let understood : Understood c.args.state.now c.check-checked.new.principals c.check-checked.new.vars c.check-checked.new.assertions c.in-Good.parts = subst (λ k. CheckedMeant c.args.state.now c.check-checked.new.principals c.check-checked.new.vars c.check-checked.new.assertions k) c.in-Good.is c.check-checked.ensures in
+    let understood : Understood c.args.state.now c.check-checked.new.principals c.check-checked.new.vars c.check-checked.new.assertions c.in-Some.parts = subst (λ k. CheckedMeant c.args.state.now c.check-checked.new.principals c.check-checked.new.vars c.check-checked.new.assertions k) c.in-Some.is c.check-checked.ensures in
     let R = understood.represents in omega (arith, R.principals_order, R.principals_within)
 
 pub slice_bounds-count-start : goal.slice_bounds-count-start
 slice_bounds-count-start c =
-    let understood : Understood c.args.state.now c.check-checked.new.principals c.check-checked.new.vars c.check-checked.new.assertions c.in-Good.parts = subst (λ k. CheckedMeant c.args.state.now c.check-checked.new.principals c.check-checked.new.vars c.check-checked.new.assertions k) c.in-Good.is c.check-checked.ensures in
+    let understood : Understood c.args.state.now c.check-checked.new.principals c.check-checked.new.vars c.check-checked.new.assertions c.in-Some.parts = subst (λ k. CheckedMeant c.args.state.now c.check-checked.new.principals c.check-checked.new.vars c.check-checked.new.assertions k) c.in-Some.is c.check-checked.ensures in
     let R = understood.represents in omega (arith, R.principals_order, R.principals_within)
 
 pub slice_bounds-count-end : goal.slice_bounds-count-end
 slice_bounds-count-end c =
-    let understood : Understood c.args.state.now c.check-checked.new.principals c.check-checked.new.vars c.check-checked.new.assertions c.in-Good.parts = subst (λ k. CheckedMeant c.args.state.now c.check-checked.new.principals c.check-checked.new.vars c.check-checked.new.assertions k) c.in-Good.is c.check-checked.ensures in
+    let understood : Understood c.args.state.now c.check-checked.new.principals c.check-checked.new.vars c.check-checked.new.assertions c.in-Some.parts = subst (λ k. CheckedMeant c.args.state.now c.check-checked.new.principals c.check-checked.new.vars c.check-checked.new.assertions k) c.in-Some.is c.check-checked.ensures in
     let R = understood.represents in omega (arith, R.principals_order, R.principals_within)
 
 pub count-requires : goal.count-requires
 count-requires c =
-    let understood : Understood c.args.state.now c.check-checked.new.principals c.check-checked.new.vars c.check-checked.new.assertions c.in-Good.parts = subst (λ k. CheckedMeant c.args.state.now c.check-checked.new.principals c.check-checked.new.vars c.check-checked.new.assertions k) c.in-Good.is c.check-checked.ensures in
+    let understood : Understood c.args.state.now c.check-checked.new.principals c.check-checked.new.vars c.check-checked.new.assertions c.in-Some.parts = subst (λ k. CheckedMeant c.args.state.now c.check-checked.new.principals c.check-checked.new.vars c.check-checked.new.assertions k) c.in-Some.is c.check-checked.ensures in
     let U = understood in
     record { principals = U.state.principals; held = U.represents.principals; valid = decoded_valid c.args.state.now U.state U.decoded }
 
-pub returns-in-Good : goal.returns-in-Good
-returns-in-Good c =
-    let understood : Understood c.args.state.now c.check-checked.new.principals c.check-checked.new.vars c.check-checked.new.assertions c.in-Good.parts = subst (λ k. CheckedMeant c.args.state.now c.check-checked.new.principals c.check-checked.new.vars c.check-checked.new.assertions k) c.in-Good.is c.check-checked.ensures in
+pub returns-in-Some : goal.returns-in-Some
+returns-in-Some c =
+    let understood : Understood c.args.state.now c.check-checked.new.principals c.check-checked.new.vars c.check-checked.new.assertions c.in-Some.parts = subst (λ k. CheckedMeant c.args.state.now c.check-checked.new.principals c.check-checked.new.vars c.check-checked.new.assertions k) c.in-Some.is c.check-checked.ensures in
     let U = understood in
     count_good c.args.state.now c.args.name.now c.if-state-ne65536.false U.state _ U.decoded
     (c.count.ensures U.state.principals U.represents.principals (decoded_valid c.args.state.now U.state U.decoded))
 
-pub returns-in-Bad : goal.returns-in-Bad
-returns-in-Bad c =
+pub returns-in-None : goal.returns-in-None
+returns-in-None c =
     count_bad c.args.state.now c.args.name.now c.if-state-ne65536.false
-    (subst (λ k. CheckedMeant c.args.state.now c.check-checked.new.principals c.check-checked.new.vars c.check-checked.new.assertions k) c.in-Bad.is c.check-checked.ensures)
+    (subst (λ k. CheckedMeant c.args.state.now c.check-checked.new.principals c.check-checked.new.vars c.check-checked.new.assertions k) c.in-None.is c.check-checked.ensures)

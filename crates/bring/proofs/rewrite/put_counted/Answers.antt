@@ -1,16 +1,11 @@
 use mathlib.Core.Path.{◌≡◌, ap}
-use Prim.Native.Nat.{◌-◌, ◌≤◌}
 use native.Mathlib.Omega.{arith}
 use native.Mathlib.Nat.{le_antisymm}
-use lib.ListN.{length, take}
+use lib.ListN.{length}
 use lib.Seq.{take_all}
-use Rattle.value_text.specs.Writing.{Written}
 use Rattle.value_text.proofs.Pieces.{rewritten, written_none, written_length}
 use Rattle.bring.specs.Counts.{counted}
 use Rattle.bring.proofs.Copying.{byte_left, one_more}
-use Rattle.bring.proofs.rewrite.put_counted.Reads as reads
-use Rattle.bring.proofs.rewrite.put_counted.Lts as lts
-use Rattle.bring.proofs.rewrite.put_one.Reads as put-one-reads
 use Rattle.bring.proofs.rewrite.put_counted.Goals as goal
 
 pub loop-i-init : goal.loop-i-init

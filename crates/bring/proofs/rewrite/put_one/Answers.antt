@@ -1,10 +1,5 @@
 use Rattle.value_text.proofs.Pieces.{rewritten}
 use Rattle.bring.proofs.Copying.{line_end, inner_byte}
-use borrow.Author.Rules.{rules}
-use Rattle.bring.proofs.rewrite.put_one.Reads as reads
-use Rattle.bring.proofs.rewrite.put_one.Lts as lts
-use Rattle.value_text.proofs.copy_in.Reads as copy-in-reads
-use Rattle.value_text.proofs.put_byte.Reads as put-byte-reads
 use Rattle.bring.proofs.rewrite.put_one.Goals as goal
 
 pub returns-then-b-eq10 : goal.returns-then-b-eq10

@@ -2,13 +2,6 @@ use mathlib.Core.Path.{◌∙◌}
 use native.Mathlib.Omega.{arith}
 use Rattle.value_text.proofs.Pieces.{◌▸◌, written_length}
 use Rattle.bring.proofs.Copying.{brought_length, brought_padded}
-use borrow.Author.Rules.{rules}
-use Rattle.bring.proofs.rewrite.put_state.Reads as reads
-use Rattle.bring.proofs.rewrite.put_state.Lts as lts
-use Rattle.bring.proofs.rewrite.put_counted.Reads as put-counted-reads
-use Rattle.state_lines.proofs.put_header.Reads as put-header-reads
-use Rattle.state_lines.proofs.zero_rest.Reads as zero-rest-reads
-use Rattle.value_text.proofs.copy_in.Reads as copy-in-reads
 use Rattle.bring.proofs.rewrite.put_state.Goals as goal
 
 pub put_counted-b-requires : goal.put_counted-b-requires
