@@ -25,10 +25,8 @@ fn put_counted(out: &mut [u8], at: usize, text: &[u8]) -> usize
     ensures { Written out.old at (counted text.now) result out.new }
 {
     let mut p = at;
-    let mut i = 0;
-    while i < text.len() {
-        p = put_one(out, p, text[i]);
-        i += 1;
+    for b in text {
+        p = put_one(out, p, *b);
     }
     p
 }

@@ -22,6 +22,8 @@ use Rattle.session.proofs.Scoping.{store_valid, everyone}
 use Rattle.session.proofs.Room.{records_few}
 use Rattle.delegation_rules.specs.Numbered.{Numbered, Counted}
 use Rattle.delegations.specs.Delegates.{Delegates}
+use Rattle.assertion_changes.specs.declared.Entered.{Entered}
+use Rattle.assertion_changes.specs.Entering.{Ends}
 use Rattle.assertion_changes.proofs.Lists.{entering_append, entering_grows}
 use Rattle.creation.specs.Creating.{delegated, delegated_first, Gives}
 
@@ -61,6 +63,10 @@ module _ (s : Session) (l : Layout) (b : Slices) (q p : ℕ) (from to : Name) (G
     right_is = right_code_lem right h;
     taker = G.taker;
   }
+
+-- what a call's answer says, of the value that it was found to be
+pub ends_at : (s : Session) (b : Slices) {r q : Entered} → r ≡ q → Ends r s b → Ends q s b
+ends_at s b e = subst (λ (r : Entered). Ends r s b) e
 
 -- ---- the rights in turn
 

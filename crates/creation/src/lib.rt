@@ -101,8 +101,7 @@ pub fn delegate_rights(
         → Ends result (with_store s (enter_all s.store (delegations rights s.store from to))) (slices principals.now principal_slots.now vars.now variable_slots.now locals.now local_slots.now assertions.new) }
 {
     let mut k = l;
-    let mut right: u16 = 0;
-    while right < 4 {
+    for right in 0..4u16 {
         let next = delegate_all(
             principals,
             principal_slots,
@@ -121,7 +120,6 @@ pub fn delegate_rights(
             return Entered::Full;
         };
         k = after;
-        right += 1;
     }
     Entered::Done(k)
 }

@@ -52,8 +52,7 @@ pub fn enter_all(
         p,
     );
     let mut k = l;
-    let mut i = 0;
-    while i < count {
+    for i in 0..count {
         let x = targets[i] as usize;
         let weight = weigh::variable(vars, variable_slots, vars_len, variables, x) + 1 + pair;
         let number = weigh::packed(x, q, right, p);
@@ -62,7 +61,6 @@ pub fn enter_all(
             return Entered::Full;
         };
         k = after;
-        i += 1;
     }
     Entered::Done(k)
 }
@@ -101,12 +99,10 @@ fn withdraw_all(
         p,
     );
     let mut k = l;
-    let mut i = 0;
-    while i < count {
+    for i in 0..count {
         let x = targets[i] as usize;
         let weight = weigh::variable(vars, variable_slots, vars_len, variables, x) + 1 + pair;
         k = entry::withdraw_one(assertions, k, weigh::packed(x, q, right, p), weight);
-        i += 1;
     }
     k
 }

@@ -3,21 +3,15 @@
 use mathlib.Core.Path.{◌≡◌, refl, sym, ap, ◌∙◌}
 use mathlib.Core.Bool.{Bool, true, false}
 use mathlib.Core.List.{[], ◌∷◌, ◌++◌}
-use Prim.Native.Nat.{ℕ, ◌+◌, ◌-◌, ◌≤◌, ◌<◌}
+use Prim.Native.Nat.{ℕ, ◌-◌, ◌≤◌, ◌<◌}
 use borrow.Author.Tests.{le-leb, lt-leb}
-use lib.ListN.{length, take, replicate, replicate-append-replicate}
-use Rattle.language.specs.Text.{Text, bytes, when◌then◌else◌}
+use lib.ListN.{length, take, replicate}
+use Rattle.language.specs.Text.{bytes, when◌then◌else◌}
 use Rattle.language.specs.Syntax.{Name, read, write, append, delegate}
 use Rattle.language.specs.Sheet.{space, shown_name, shown_line}
 use Rattle.language.proofs.Histories.Sheets.{byte_shown, line_is}
-use Rattle.value_text.specs.Writing.{Written}
-use Rattle.value_text.proofs.Pieces.{◌▸◌, rewritten}
 use Rattle.sheet_lines.specs.declared.Had.{Had}
 use Rattle.sheet_lines.specs.Rights.{had_by}
-
--- one space more
-pub spaced : (i : ℕ) {before mid after : Text} {at p r : ℕ} → Written before at (replicate i space) p mid → Written mid p (space ∷ []) r after → Written before at (replicate (i + 1) space) r after
-spaced i w x = rewritten (replicate-append-replicate {A = ℕ} i 1 space) (w ▸ x)
 
 -- a name that fits its columns, and one that is cut
 pub short_name : (p : Name) → length p ≤ 34 → p ++ replicate (34 - length p) space ≡ shown_name p

@@ -23,13 +23,9 @@ fn put_spaces(out: &mut [u8], at: usize, n: usize) -> usize
     requires { at + n ≤ length out.old }
     ensures { Written out.old at (replicate n space) result out.new }
 {
-    let mut p = at;
-    let mut i = 0;
-    while i < n {
-        p = put_byte(out, p, b' ');
-        i += 1;
-    }
-    p
+    let end = at + n;
+    out[at..end].fill(b' ');
+    end
 }
 
 // A name in 34 columns; of a longer one the first 33 characters and `~`.

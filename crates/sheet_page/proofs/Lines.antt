@@ -4,17 +4,16 @@ use mathlib.Core.Path.{◌≡◌, refl, sym, ap, ◌∙◌}
 use mathlib.Core.Bool.{Bool, true, false, not}
 use mathlib.Core.Option.{none}
 use mathlib.Core.List.{List, [], ◌++◌, map}
-use Prim.Native.Nat.{ℕ, ◌+◌, ◌≤◌, ◌<◌}
+use Prim.Native.Nat.{ℕ, ◌+◌, ◌<◌}
 use native.Mathlib.Numerals.{add-one}
 use native.Mathlib.Omega.{arith}
 use lib.Dec.{eqb}
 use lib.ListN.{length, get_or, take, length-map}
-use lib.Seq.{take_all}
 use Rattle.language.specs.Text.{Text, joined, present}
 use Rattle.language.specs.Syntax.{Name, Right, read, write, append, delegate}
 use Rattle.language.specs.State.{Principal, Store}
 use Rattle.language.specs.Chains.{chain_length, has}
-use Rattle.language.specs.Sheet.{shown_line, sheet_line, sheet_text}
+use Rattle.language.specs.Sheet.{shown_line, sheet_line}
 use Rattle.language.proofs.Histories.Sheets.{line_40}
 use Rattle.store.specs.Held.{Principals}
 use Rattle.store.specs.Rows.{Row, no_row, row_at, principal_row}
@@ -85,10 +84,6 @@ module _ (s : Store) (x : Name) (t : Text) (count : ℕ) (slots : List ℕ) (H :
           let e : joined (sheet_line s x) (take i s.principals) ++ sheet_line s x one ≡ joined (sheet_line s x) (take (i + 1) s.principals) =
           sym (ap (λ (n : ℕ). joined (sheet_line s x) (take n s.principals)) (add-one i) ∙ joined_suc (sheet_line s x) s.principals i nobody there) in
           rewritten e (w ▸ rewritten line_here y)
-
-  -- all lines
-  pub lines_written : {before after : Text} {p : ℕ} (i : ℕ) → count ≤ i → Written before 0 (joined (sheet_line s x) (take i s.principals)) p after → Written before 0 (sheet_text s x) p after
-  lines_written i h w = rewritten (ap (joined (sheet_line s x)) (take_all i s.principals (omega (arith, H.counted)))) w
 
 -- how far a line reaches
 pub line_ends : (name : Name) (had : Right → Bool) {before after : Text} {p r : ℕ} → Written before p (shown_line name had) r after → r ≡ p + 40

@@ -79,11 +79,9 @@ pub fn put_sheet(
         → Written out.old 0 (sheet_text s x) result out.new }
 {
     let mut p = 0;
-    let mut i = 0;
-    while i < count {
+    for i in 0..count {
         let had = had_at(reads, writes, appends, delegates, i);
         p = put_one(text, slots, count, i, had, out, p);
-        i += 1;
     }
     p
 }

@@ -1,15 +1,14 @@
-use mathlib.Core.Path.{◌≡◌, refl, ap, subst, ◌∙◌}
+use mathlib.Core.Path.{◌≡◌, ap, subst}
 use mathlib.Core.List.{List, [], ◌∷◌, map}
-use Prim.Native.Nat.{ℕ, ◌+◌, ◌-◌, ◌≤◌, ◌<◌}
+use Prim.Native.Nat.{ℕ, ◌+◌, ◌≤◌}
 use native.Mathlib.Omega.{arith}
-use borrow.Author.Rules.{rules}
-use lib.ListN.{length, take}
+use lib.ListN.{take}
 use Rattle.language.specs.Syntax.{Name, Right}
 use Rattle.language.specs.Values.{Session}
 use Rattle.language.specs.Commands.{assertions_on, entering}
 use Rattle.store.specs.Rows.{principal_row, variable_row}
 use Rattle.store.proofs.Holders.{principals_rows, variables_rows, some_principals, some_variables}
-use Rattle.session.specs.Sessions.{slices, Running}
+use Rattle.session.specs.Sessions.{slices}
 use Rattle.assertion_changes.specs.declared.Entered.{Entered}
 use Rattle.assertion_changes.specs.Entering.{Asserts, Ends, entered}
 use Rattle.delegations.specs.Delegates.{Delegates}
@@ -24,18 +23,6 @@ pair-pair-requires c =
     let s = c.requires.session in
     let R = D.running in
     (R.principals_within, some_principals s.store.principals _ _ _ R.principals, principal_below s a.l _ R c.requires.from a.q D.giver, principal_below s a.l _ R c.requires.to a.p D.taker)
-
-pub loop-i-init : goal.loop-i-init
-loop-i-init c = (omega arith, refl, λ s xs from of to D. D.running)
-
-pub offset_bounds-targets-i : goal.offset_bounds-targets-i
-offset_bounds-targets-i c = let w = c.requires.delegates.within in omega (arith, w)
-
-pub bounds-targets-i : goal.bounds-targets-i
-bounds-targets-i c = let w = c.requires.delegates.within in omega (arith, w)
-
-pub overflow_cast-x : goal.overflow_cast-x
-overflow_cast-x c = omega (arith, c.shared_slice_known-in-loop-i-1.given c.loop-i.i)
 
 pub variable-requires : goal.variable-requires
 variable-requires c =
@@ -91,14 +78,11 @@ enter_one-next-requires c =
     let R = D.running in
     asserts_at s a.l _ a.targets.now a.count a.q a.right a.p xs from of to D l.i c.loop-i-test.true
     (entering s.store.assertions (assertions_on (take l.i xs) from of to)) l.k l.assertions c.packed-number.result (c.variable.result + 1 + c.pair-pair.result) c.pair-pair.result
-    (l.invariant.2 s xs from of to D) c.packed-number.ensures
+    (l.invariant s xs from of to D) c.packed-number.ensures
     (c.pair-pair.ensures (map principal_row s.store.principals) (principals_rows s.store.principals _ _ _ R.principals))
     (ap (λ (n : ℕ). n + 1 + c.pair-pair.result) (c.variable.ensures (map variable_row s.store.variables) (variables_rows s.store.variables _ _ _ R.variables))) in
     let P = c.requires in
     record { session = _; buffers = _; assertion = _; asserts = one P.session P.variables_named P.from P.of_right P.to P.delegates }
-
-pub shape_of-assertions-in_default : goal.shape_of-assertions-in_default
-shape_of-assertions-in_default c = c.enter_one-next.auto.assertions ∙ c.loop-i.invariant.1
 
 pub returns-in_default : goal.returns-in_default
 returns-in_default c s xs from of to D =
@@ -107,7 +91,7 @@ returns-in_default c s xs from of to D =
     let R = D.running in
     asserts_at s a.l _ a.targets.now a.count a.q a.right a.p xs from of to D l.i c.loop-i-test.true
     (entering s.store.assertions (assertions_on (take l.i xs) from of to)) l.k l.assertions c.packed-number.result (c.variable.result + 1 + c.pair-pair.result) c.pair-pair.result
-    (l.invariant.2 s xs from of to D) c.packed-number.ensures
+    (l.invariant s xs from of to D) c.packed-number.ensures
     (c.pair-pair.ensures (map principal_row s.store.principals) (principals_rows s.store.principals _ _ _ R.principals))
     (ap (λ (n : ℕ). n + 1 + c.pair-pair.result) (c.variable.ensures (map variable_row s.store.variables) (variables_rows s.store.variables _ _ _ R.variables))) in
     let next-ends : (s : Session) (xs : List Name) (from : Name) (of : Right) (to : Name) → let a = c.args in let l = c.loop-i in Delegates s a.l (slices a.principals.now a.principal_slots.now a.vars.now a.variable_slots.now a.locals.now a.local_slots.now a.assertions.now) a.targets.now a.count a.q a.right a.p xs from of to → (r : Entered) → c.enter_one-next.result ≡ r → Ends r (entered (entered s (assertions_on (take l.i xs) from of to)) (assertion_at xs from of to l.i ∷ [])) (slices a.principals.now a.principal_slots.now a.vars.now a.variable_slots.now a.locals.now a.local_slots.now c.enter_one-next.new.assertions) = λ s xs from of to D r e. let a = c.args in
@@ -119,12 +103,6 @@ returns-in_default c s xs from of to D =
     entered_over s a.l _ a.targets.now a.count a.q a.right a.p xs from of to D c.loop-i.i c.loop-i-test.true
     (next-ends s xs from of to D _ c.in_default.is)
 
-pub overflow_add-i : goal.overflow_add-i
-overflow_add-i c = let h : c.loop-i.i < c.args.count = c.loop-i-test.true in omega (arith, h, c.ranges.count)
-
-pub loop-i-smaller : goal.loop-i-smaller
-loop-i-smaller c = omega (arith, c.loop-i-test.true)
-
 pub loop-i-preserved : goal.loop-i-preserved
 loop-i-preserved c =
     let one : (s : Session) (xs : List Name) (from : Name) (of : Right) (to : Name) → let a = c.args in let l = c.loop-i in Delegates s a.l (slices a.principals.now a.principal_slots.now a.vars.now a.variable_slots.now a.locals.now a.local_slots.now a.assertions.now) a.targets.now a.count a.q a.right a.p xs from of to → Asserts (entered s (assertions_on (take l.i xs) from of to)) l.k (slices a.principals.now a.principal_slots.now a.vars.now a.variable_slots.now a.locals.now a.local_slots.now l.assertions) l.assertions (assertion_at xs from of to l.i) c.packed-number.result (c.variable.result + 1 + c.pair-pair.result) = λ s xs from of to D. let a = c.args in
@@ -132,26 +110,20 @@ loop-i-preserved c =
     let R = D.running in
     asserts_at s a.l _ a.targets.now a.count a.q a.right a.p xs from of to D l.i c.loop-i-test.true
     (entering s.store.assertions (assertions_on (take l.i xs) from of to)) l.k l.assertions c.packed-number.result (c.variable.result + 1 + c.pair-pair.result) c.pair-pair.result
-    (l.invariant.2 s xs from of to D) c.packed-number.ensures
+    (l.invariant s xs from of to D) c.packed-number.ensures
     (c.pair-pair.ensures (map principal_row s.store.principals) (principals_rows s.store.principals _ _ _ R.principals))
     (ap (λ (n : ℕ). n + 1 + c.pair-pair.result) (c.variable.ensures (map variable_row s.store.variables) (variables_rows s.store.variables _ _ _ R.variables))) in
     let next-ends : (s : Session) (xs : List Name) (from : Name) (of : Right) (to : Name) → let a = c.args in let l = c.loop-i in Delegates s a.l (slices a.principals.now a.principal_slots.now a.vars.now a.variable_slots.now a.locals.now a.local_slots.now a.assertions.now) a.targets.now a.count a.q a.right a.p xs from of to → (r : Entered) → c.enter_one-next.result ≡ r → Ends r (entered (entered s (assertions_on (take l.i xs) from of to)) (assertion_at xs from of to l.i ∷ [])) (slices a.principals.now a.principal_slots.now a.vars.now a.variable_slots.now a.locals.now a.local_slots.now c.enter_one-next.new.assertions) = λ s xs from of to D r e. let a = c.args in
     let l = c.loop-i in
     subst (λ (r : Entered). Ends r (entered (entered s (assertions_on (take l.i xs) from of to)) (assertion_at xs from of to l.i ∷ []))
     (slices a.principals.now a.principal_slots.now a.vars.now a.variable_slots.now a.locals.now a.local_slots.now c.enter_one-next.new.assertions)) e
-    (c.enter_one-next.ensures _ _ _ (one s xs from of to D)) in (
-      omega (arith, c.loop-i-test.true),
-      c.enter_one-next.auto.assertions ∙ c.loop-i.invariant.1,
-      λ s xs from of to D.
-          let a = c.args in
-          entered_next s a.l _ a.targets.now a.count a.q a.right a.p xs from of to D c.loop-i.i c.loop-i-test.true c.in-Done.after _
-          (next-ends s xs from of to D _ c.in-Done.is),
-    )
-
-pub shape_of-assertions : goal.shape_of-assertions
-shape_of-assertions c = c.loop-i.invariant.1
+    (c.enter_one-next.ensures _ _ _ (one s xs from of to D)) in
+    λ s xs from of to D.
+    let a = c.args in
+    entered_next s a.l _ a.targets.now a.count a.q a.right a.p xs from of to D c.loop-i.i c.loop-i-test.true c.in-Done.after _
+    (next-ends s xs from of to D _ c.in-Done.is)
 
 pub returns : goal.returns
 returns c s xs from of to D =
     let a = c.args in
-    entered_last s a.l _ a.targets.now a.count a.q a.right a.p xs from of to D c.loop-i.i c.loop-i-test.false c.loop-i.k _ (c.loop-i.invariant.2 s xs from of to D)
+    entered_last s a.l _ a.targets.now a.count a.q a.right a.p xs from of to D c.loop-i.i c.loop-i-test.false c.loop-i.k _ (c.loop-i.invariant s xs from of to D)

@@ -1,14 +1,14 @@
-use mathlib.Core.Path.{◌≡◌, refl, ap, ◌∙◌}
+use mathlib.Core.Path.{ap}
 use mathlib.Core.List.{List, map}
-use Prim.Native.Nat.{ℕ, ◌+◌, ◌-◌, ◌≤◌, ◌<◌}
+use Prim.Native.Nat.{ℕ, ◌+◌, ◌≤◌}
 use native.Mathlib.Omega.{arith}
-use lib.ListN.{length, take}
+use lib.ListN.{take}
 use Rattle.language.specs.Syntax.{Name, Right}
 use Rattle.language.specs.Values.{Session}
 use Rattle.language.specs.Commands.{assertions_on, withdrawing}
 use Rattle.store.specs.Rows.{principal_row, variable_row}
 use Rattle.store.proofs.Holders.{principals_rows, variables_rows, some_principals, some_variables}
-use Rattle.session.specs.Sessions.{slices, Running}
+use Rattle.session.specs.Sessions.{slices}
 use Rattle.assertion_changes.specs.Entering.{Asserts, withdrawn}
 use Rattle.delegations.specs.Delegates.{Delegates}
 use Rattle.assertion_changes.proofs.Lists.{assertion_at}
@@ -22,18 +22,6 @@ pair-pair-requires c =
     let s = c.requires.session in
     let R = D.running in
     (R.principals_within, some_principals s.store.principals _ _ _ R.principals, principal_below s a.l _ R c.requires.from a.q D.giver, principal_below s a.l _ R c.requires.to a.p D.taker)
-
-pub loop-i-init : goal.loop-i-init
-loop-i-init c = (omega arith, refl, λ s xs from of to D. D.running)
-
-pub offset_bounds-targets-i : goal.offset_bounds-targets-i
-offset_bounds-targets-i c = let w = c.requires.delegates.within in omega (arith, w)
-
-pub bounds-targets-i : goal.bounds-targets-i
-bounds-targets-i c = let w = c.requires.delegates.within in omega (arith, w)
-
-pub overflow_cast-x : goal.overflow_cast-x
-overflow_cast-x c = omega (arith, c.shared_slice_known-in-loop-i-1.given c.loop-i.i)
 
 pub variable-requires : goal.variable-requires
 variable-requires c =
@@ -89,17 +77,11 @@ withdraw_one-k-requires c =
     let R = D.running in
     asserts_at s a.l _ a.targets.now a.count a.q a.right a.p xs from of to D l.i c.loop-i-test.true
     (withdrawing s.store.assertions (assertions_on (take l.i xs) from of to)) l.k l.assertions c.packed.result (c.variable.result + 1 + c.pair-pair.result) c.pair-pair.result
-    (l.invariant.2 s xs from of to D) c.packed.ensures
+    (l.invariant s xs from of to D) c.packed.ensures
     (c.pair-pair.ensures (map principal_row s.store.principals) (principals_rows s.store.principals _ _ _ R.principals))
     (ap (λ (n : ℕ). n + 1 + c.pair-pair.result) (c.variable.ensures (map variable_row s.store.variables) (variables_rows s.store.variables _ _ _ R.variables))) in
     let P = c.requires in
     record { session = _; buffers = _; assertion = _; asserts = one P.session P.variables_named P.from P.of_right P.to P.delegates }
-
-pub overflow_add-i : goal.overflow_add-i
-overflow_add-i c = let h : c.loop-i.i < c.args.count = c.loop-i-test.true in omega (arith, h, c.ranges.count)
-
-pub loop-i-smaller : goal.loop-i-smaller
-loop-i-smaller c = omega (arith, c.loop-i-test.true)
 
 pub loop-i-preserved : goal.loop-i-preserved
 loop-i-preserved c =
@@ -108,21 +90,15 @@ loop-i-preserved c =
     let R = D.running in
     asserts_at s a.l _ a.targets.now a.count a.q a.right a.p xs from of to D l.i c.loop-i-test.true
     (withdrawing s.store.assertions (assertions_on (take l.i xs) from of to)) l.k l.assertions c.packed.result (c.variable.result + 1 + c.pair-pair.result) c.pair-pair.result
-    (l.invariant.2 s xs from of to D) c.packed.ensures
+    (l.invariant s xs from of to D) c.packed.ensures
     (c.pair-pair.ensures (map principal_row s.store.principals) (principals_rows s.store.principals _ _ _ R.principals))
-    (ap (λ (n : ℕ). n + 1 + c.pair-pair.result) (c.variable.ensures (map variable_row s.store.variables) (variables_rows s.store.variables _ _ _ R.variables))) in (
-      omega (arith, c.loop-i-test.true),
-      c.withdraw_one-k.auto.assertions ∙ c.loop-i.invariant.1,
-      λ s xs from of to D.
-          let a = c.args in
-          withdrawn_next s a.l _ a.targets.now a.count a.q a.right a.p xs from of to D c.loop-i.i c.loop-i-test.true c.withdraw_one-k.result _
-          (c.withdraw_one-k.ensures _ _ _ (one s xs from of to D)),
-    )
-
-pub shape_of-assertions : goal.shape_of-assertions
-shape_of-assertions c = c.loop-i.invariant.1
+    (ap (λ (n : ℕ). n + 1 + c.pair-pair.result) (c.variable.ensures (map variable_row s.store.variables) (variables_rows s.store.variables _ _ _ R.variables))) in
+    λ s xs from of to D.
+    let a = c.args in
+    withdrawn_next s a.l _ a.targets.now a.count a.q a.right a.p xs from of to D c.loop-i.i c.loop-i-test.true c.withdraw_one-k.result _
+    (c.withdraw_one-k.ensures _ _ _ (one s xs from of to D))
 
 pub returns : goal.returns
 returns c s xs from of to D =
     let a = c.args in
-    withdrawn_last s a.l _ a.targets.now a.count a.q a.right a.p xs from of to D c.loop-i.i c.loop-i-test.false c.loop-i.k _ (c.loop-i.invariant.2 s xs from of to D)
+    withdrawn_last s a.l _ a.targets.now a.count a.q a.right a.p xs from of to D c.loop-i.i c.loop-i-test.false c.loop-i.k _ (c.loop-i.invariant s xs from of to D)

@@ -1,24 +1,14 @@
-use mathlib.Core.Path.{◌≡◌, refl, ap, ◌∙◌}
-use mathlib.Core.List.{List, map}
-use Prim.Native.Nat.{ℕ, ◌+◌, ◌-◌, ◌≤◌, ◌<◌}
-use native.Mathlib.Omega.{arith}
-use lib.ListN.{length, take}
+use mathlib.Core.List.{List}
+use lib.ListN.{take}
 use Rattle.language.specs.Syntax.{Name, Right}
 use Rattle.language.specs.Values.{Session}
-use Rattle.language.specs.Commands.{assertions_on, withdrawing}
-use Rattle.store.specs.Rows.{principal_row, variable_row}
-use Rattle.store.proofs.Holders.{principals_rows, variables_rows, some_principals, some_variables}
+use Rattle.language.specs.Commands.{assertions_on}
 use Rattle.session.specs.Sessions.{slices, Running}
-use Rattle.assertion_changes.specs.Entering.{Asserts, withdrawn}
+use Rattle.assertion_changes.specs.Entering.{withdrawn}
 use Rattle.delegations.specs.Delegates.{Delegates}
-use Rattle.assertion_changes.proofs.Lists.{assertion_at}
-use Rattle.delegations.proofs.Delegating.{principal_below, principal_few, right_few, pair_short, target_short, target_below, target_few, asserts_at, withdrawn_next, withdrawn_last}
 use Rattle.delegations.proofs.withdraw_all.Given as goal
 
 abbrev pub invariant-loop-i : goal.invariant-loop-i
-invariant-loop-i l = (l.i ≤ l.count) × (length l.assertions ≡ length l.initial.assertions) × ((s : Session) (xs : List Name) (from : Name) (of : Right) (to : Name)
+invariant-loop-i l = (s : Session) (xs : List Name) (from : Name) (of : Right) (to : Name)
     → Delegates s l.initial.k (slices l.principals l.principal_slots l.vars l.variable_slots l.locals l.local_slots l.initial.assertions) l.targets l.count l.q l.right l.p xs from of to
-    → Running (withdrawn s (assertions_on (take l.i xs) from of to)) l.k (slices l.principals l.principal_slots l.vars l.variable_slots l.locals l.local_slots l.assertions))
-
-abbrev pub decreases-loop-i : goal.decreases-loop-i
-decreases-loop-i l = l.count - l.i
+    → Running (withdrawn s (assertions_on (take l.i xs) from of to)) l.k (slices l.principals l.principal_slots l.vars l.variable_slots l.locals l.local_slots l.assertions)

@@ -1,6 +1,6 @@
 use mathlib.Core.Path.{◌≡◌}
-use Prim.Native.Nat.{◌*◌, ◌-◌, ◌≤◌}
-use lib.ListN.{length, take}
+use Prim.Native.Nat.{◌*◌}
+use lib.ListN.{take}
 use Rattle.language.specs.Text.{joined}
 use Rattle.language.specs.Syntax.{Name}
 use Rattle.language.specs.State.{Store}
@@ -11,7 +11,4 @@ use Rattle.sheet_page.specs.Marks.{Marked}
 use Rattle.sheet_page.proofs.put_sheet.Given as goal
 
 abbrev pub invariant-loop-i : goal.invariant-loop-i
-invariant-loop-i l = (l.i ≤ l.count) × (l.p ≡ 40 * l.i) × (length l.out ≡ length l.initial.out) × ((s : Store) (x : Name) → Principals s.principals l.text l.count l.slots → Marked s x l.reads l.writes l.appends l.delegates → Written l.initial.out 0 (joined (sheet_line s x) (take l.i s.principals)) l.p l.out)
-
-abbrev pub decreases-loop-i : goal.decreases-loop-i
-decreases-loop-i l = l.count - l.i
+invariant-loop-i l = (l.p ≡ 40 * l.i) × ((s : Store) (x : Name) → Principals s.principals l.text l.count l.slots → Marked s x l.reads l.writes l.appends l.delegates → Written l.initial.out 0 (joined (sheet_line s x) (take l.i s.principals)) l.p l.out)
