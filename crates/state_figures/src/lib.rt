@@ -22,10 +22,8 @@ fn copy_numbers(dst: &mut [u64], at: usize, src: &[u64])
     requires { at + length src.now ≤ length dst.old }
     ensures { dst.new ≡ over dst.old at src.now }
 {
-    let mut i = 0;
-    while i < src.len() {
-        dst[at + i] = src[i];
-        i += 1;
+    for (i, n) in src.iter().enumerate() {
+        dst[at + i] = *n;
     }
 }
 

@@ -59,7 +59,6 @@ module _ (t : List ℕ) (i : ℕ) (h : i < length t) where
     pub word_long : class (get_or t i 0) ≡ letter → member (part t i e) keywords ≡ false → 255 < e - i → lex (drop i t) ≡ wrong ∷ []
     word_long l k s = word_lex l ∙ rw (k, lt-leb (length (part t i e)) 255 (omega (arith, word_length)))
 
-
   -- ---- strings
   module _ (e : ℕ) (at_end : e ≡ i + 1 + length (front string_byte (drop (i + 1) t))) (l : class (get_or t i 0) ≡ mark 34) where
     quoted_lex : lex (drop i t) ≡ lead (quoted_by (part t (i + 1) e) (drop e t)) (tokens (drop (i + 1) t))

@@ -83,8 +83,8 @@ loop-field-preserved c =
       text = search rules;
       lent = record { out_size = omega (arith, l.invariant.lent.out_size, added.auto.out); slots_size = omega (arith, l.invariant.lent.slots_size, added.auto.labels) };
       going = λ s S.
-        let G = l.invariant.going s S in
-        let room = label_room s t c.args.at l.scanner.at l.out l.labels l.d G head f.more c.read_field.new.scanner.at here in
-        let x = c.in-Some-added.ensures s G.written S G.drafted room in
-        goes_on s t c.args.at l.scanner.at l.out l.labels l.d G head f.more c.read_field.new.scanner.at here added.new.out added.new.labels c.in-Some-added.next x (not-false f.more c.if-not-field.false);
+          let G = l.invariant.going s S in
+          let room = label_room s t c.args.at l.scanner.at l.out l.labels l.d G head f.more c.read_field.new.scanner.at here in
+          let x = c.in-Some-added.ensures s G.written S G.drafted room in
+          goes_on s t c.args.at l.scanner.at l.out l.labels l.d G head f.more c.read_field.new.scanner.at here added.new.out added.new.labels c.in-Some-added.next x (not-false f.more c.if-not-field.false);
     }
