@@ -125,7 +125,7 @@ fn for_let<'a>(
     let mut counts = [0u16; 4096];
     let mut bounds = [0u16; 4096];
     splice::copy(&mut scope, 0, &locals[..len]);
-    splice::copy_slots(&mut scope_slots, 0, &local_slots[..number]);
+    splice::copy(&mut scope_slots, 0, &local_slots[..number]);
     make_all(
         shared,
         slots,

@@ -46,7 +46,7 @@ pub fn answer<'a>(
     let mut counts = [0u16; 4096];
     let mut bounds = [0u16; 4096];
     splice::copy(&mut scope, 0, locals);
-    splice::copy_slots(&mut scope_slots, 0, &local_slots[..number]);
+    splice::copy(&mut scope_slots, 0, &local_slots[..number]);
     lets::answer(
         shared,
         slots,

@@ -74,9 +74,8 @@ over_same d s e h l =
 -- ---- by blocks
 
 -- what goes through a block comes out of it
-pub through : (block src : Text) (n : ℕ) → length src ≡ n → n ≤ length block → take (n - 0) (drop 0 (over block 0 src)) ≡ src
-through block src n e h =
-    ap (λ (j : ℕ). take j (over block 0 src)) (let q : n - 0 ≡ length src = omega arith in q) ∙ over_front block src
+pub through : (block src : Text) (n : ℕ) → length src ≡ n → take n (over block 0 src) ≡ src
+through block src n e = ap (λ (j : ℕ). take j (over block 0 src)) (sym e) ∙ over_front block src
 
 -- one block more moved down
 module _ (d now : Text) (from to i e : ℕ) (h : to ≤ from) (k : from ≤ i) (m : i ≤ e) (l : e ≤ length d) (was : now ≡ over d to (part d from i)) where

@@ -5,12 +5,10 @@ use mathlib.Core.List.{List, [], ◌∷◌, ◌++◌, map, append_assoc}
 use Prim.Native.Nat.{ℕ, suc, ◌+◌, ◌-◌, ◌≤◌, ◌<◌}
 use native.Mathlib.Numerals.{add-one}
 use native.Mathlib.Omega.{arith}
-use lib.ListN.{length, get_or, set, take, drop, length-append, length-drop, length-map, take-append-drop}
-use lib.Seq.{paste, take-add, drop-drop, take_at, drop_at, set_at, drop-cons, take-suc, get_or_at, get_or-drop, length-take-le, take-length, set_split}
+use lib.ListN.{length, get_or, set, take, drop, length-append, length-drop, length-map}
+use lib.Seq.{paste, take-add, drop-drop, take_at, drop_at, drop-cons, get_or_at, length-take-le, take-length, set_split}
 use Rattle.language.specs.Text.{Text}
-use Rattle.text.specs.Parts.{part}
 use Rattle.splice.specs.Splices.{over}
-use Rattle.language.proofs.Logic.Lists.{map_append}
 
 pub paste_over : (d src : Text) (at : ℕ) → paste d at src (length src) ≡ over d at src
 paste_over d src at =
@@ -61,40 +59,8 @@ over_front d src = take_at src (drop (0 + length src) d) (length src) refl
 
 -- ---- numbers moved in place
 
-module _ (f : ℕ → ℕ) (m : List ℕ) (from i : ℕ) where
-  -- the first i done
-  abbrev pub doing : List ℕ
-  doing = take from m ++ (map f (part m from i) ++ drop i m)
-
-  done_length : from ≤ i → i ≤ length m → length (take from m ++ map f (part m from i)) ≡ i
-  done_length h k =
-      omega (arith, length-append (take from m) (map f (part m from i)), length-take-le from m (omega arith), length-map (part m from i) f, length_part m from i h k)
-
-  regroup : doing ≡ (take from m ++ map f (part m from i)) ++ drop i m
-  regroup = sym (append_assoc (take from m) (map f (part m from i)) (drop i m))
-
-  pub doing_at : from ≤ i → i < length m → get_or doing i 0 ≡ get_or m i 0
-  doing_at h k =
-      ap (λ (l : List ℕ). get_or l i 0) (regroup ∙ ap (λ (r : List ℕ). (take from m ++ map f (part m from i)) ++ r) (drop-cons m i 0 k))
-      ∙ get_or_at (take from m ++ map f (part m from i)) (get_or m i 0) (drop (suc i) m) 0 i (done_length h (omega arith))
-
-pub doing_start : (f : ℕ → ℕ) (m : List ℕ) (from : ℕ) → m ≡ doing f m from from
-doing_start f m from =
-    let e : from - from ≡ 0 = omega arith in
-    rw e (sym (take-append-drop from m))
-
-pub doing_more : (f : ℕ → ℕ) (m : List ℕ) (from i : ℕ) → from ≤ i → i < length m → set (doing f m from i) i (f (get_or m i 0)) ≡ doing f m from (i + 1)
-doing_more f m from i h k =
-    let p : List ℕ = take from m ++ map f (part m from i) in
-    let e : i + 1 - from ≡ suc (i - from) = omega arith in
-    let l : i - from < length (drop from m) = omega (arith, length-drop from m) in
-    let g : get_or (drop from m) (i - from) 0 ≡ get_or m i 0 = get_or-drop from m (i - from) 0 ∙ ap (λ (n : ℕ). get_or m n 0) (let q : from + (i - from) ≡ i = omega arith in q) in
-    let next : part m from (i + 1) ≡ part m from i ++ (get_or m i 0 ∷ []) =
-    ap (λ (n : ℕ). take n (drop from m)) e ∙ take-suc (drop from m) (i - from) 0 l ∙ ap (λ (x : ℕ). part m from i ++ (x ∷ [])) g in
-    ap (λ (x : List ℕ). set x i (f (get_or m i 0))) (regroup f m from i ∙ ap (λ (r : List ℕ). p ++ r) (drop-cons m i 0 k))
-    ∙ set_at p (get_or m i 0) (drop (suc i) m) (f (get_or m i 0)) i (done_length f m from i h (omega arith))
-    ∙ append_assoc (take from m) (map f (part m from i)) (f (get_or m i 0) ∷ drop (suc i) m)
-    ∙ sym (ap (λ (x : List ℕ). take from m ++ (map f x ++ drop (i + 1) m)) next
-    ∙ ap (λ (x : List ℕ). take from m ++ (x ++ drop (i + 1) m)) (map_append f (part m from i) (get_or m i 0 ∷ []))
-    ∙ ap (λ (x : List ℕ). take from m ++ x) (append_assoc (map f (part m from i)) (f (get_or m i 0) ∷ []) (drop (i + 1) m))
-    ∙ ap (λ (n : ℕ). take from m ++ (map f (part m from i) ++ (f (get_or m i 0) ∷ drop n m))) (add-one i))
+-- where the first i are done, the one at i is as it was
+pub mapped_at : (f : ℕ → ℕ) (xs : List ℕ) (i : ℕ) → i < length xs → get_or (map f (take i xs) ++ drop i xs) i 0 ≡ get_or xs i 0
+mapped_at f xs i h =
+    ap (λ (r : List ℕ). get_or (map f (take i xs) ++ r) i 0) (drop-cons xs i 0 h)
+    ∙ get_or_at (map f (take i xs)) (get_or xs i 0) (drop (suc i) xs) 0 i (length-map (take i xs) f ∙ length-take-le i xs (omega arith))

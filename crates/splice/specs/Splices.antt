@@ -4,7 +4,7 @@ use Rattle.language.specs.Text.{Text}
 use Rattle.text.specs.Parts.{part}
 
 -- src written over d, from place `at` on
-abbrev pub over : Text → ℕ → Text → Text
+abbrev pub over : {X : Type 0} → List X → ℕ → List X → List X
 over d at src = take at d ++ (src ++ drop (at + length src) d)
 
 -- the text that stands in the first len bytes of d, with src in place of the bytes from `from` up to `to`; the bytes after it as they were

@@ -5,37 +5,16 @@ ghost use Rattle.std.specs.Prelude.{◌≡◌, ℕ, ◌+◌, ◌-◌, ◌≤◌,
 ghost use Rattle.text.specs.Parts.{part};
 ghost use Rattle.splice.specs.Splices.{over, spliced, shifted};
 
-// Copies a text over a part of another.
-pub fn copy(dst: &mut [u8], at: usize, src: &[u8])
+// Copies a text, or slots, over a part of others.
+pub fn copy<T: Copy>(dst: &mut [T], at: usize, src: &[T])
     requires { at + length src.now ≤ length dst.old }
     ensures { dst.new ≡ over dst.old at src.now }
 {
-    let mut i = 0;
-    while i < src.len() {
-        dst[at + i] = src[i];
-        i += 1;
-    }
+    dst[at..at + src.len()].copy_from_slice(src);
 }
 
-// Copies slots over a part of others.
-pub fn copy_slots(dst: &mut [u32], at: usize, src: &[u32])
-    requires { at + length src.now ≤ length dst.old }
-    ensures { dst.new ≡ over dst.old at src.now }
-{
-    let mut k = 0;
-    while k < src.len() {
-        dst[at + k] = src[k];
-        k += 1;
-    }
-}
-
-// How many of `left` bytes are moved at once.
-fn block_size(left: usize) -> usize
-    requires { 0 < left }
-    ensures { (0 < result) × (result ≤ left) × (result ≤ 256) }
-{
-    if left < 256 { left } else { 256 }
-}
+// How many bytes are moved at once: a move byte by byte would be slower, since its two places may overlap.
+const BLOCK: usize = 256;
 
 // Moves the bytes from `from` up to `len` down, so that they start at `to`: the first block first, so that each byte is read before
 // another is written over it.
@@ -43,14 +22,14 @@ fn slide_down(buf: &mut [u8], from: usize, to: usize, len: usize)
     requires { (to ≤ from) × (from ≤ len) × (len ≤ length buf.old) }
     ensures { buf.new ≡ over buf.old to (part buf.old from len) }
 {
-    let mut block = [0u8; 256];
+    let mut block = [0u8; BLOCK];
     let gap = from - to;
     let mut i = from;
     while i < len {
-        let n = block_size(len - i);
+        let n = BLOCK.min(len - i);
         let end = i + n;
         copy(&mut block, 0, &buf[i..end]);
-        copy(buf, i - gap, &block[0..n]);
+        copy(buf, i - gap, &block[..n]);
         i = end;
     }
 }
@@ -60,14 +39,14 @@ fn slide_up(buf: &mut [u8], from: usize, to: usize, len: usize)
     requires { (from ≤ to) × (from ≤ len) × (to + (len - from) ≤ length buf.old) }
     ensures { buf.new ≡ over buf.old to (part buf.old from len) }
 {
-    let mut block = [0u8; 256];
+    let mut block = [0u8; BLOCK];
     let gap = to - from;
     let mut i = len;
     while from < i {
-        let n = block_size(i - from);
+        let n = BLOCK.min(i - from);
         let start = i - n;
         copy(&mut block, 0, &buf[start..i]);
-        copy(buf, start + gap, &block[0..n]);
+        copy(buf, start + gap, &block[..n]);
         i = start;
     }
 }
@@ -107,10 +86,7 @@ pub fn shift(slots: &mut [u32], from: usize, to: usize, old: u32, new: u32)
     if old == new {
         return;
     }
-    let mut i = from;
-    while i < to {
-        let m = slots[i];
-        slots[i] = m - old + new;
-        i += 1;
+    for slot in &mut slots[from..to] {
+        *slot = *slot - old + new;
     }
 }

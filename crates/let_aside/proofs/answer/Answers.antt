@@ -12,7 +12,6 @@ use borrow.Author.Rules.{rules}
 use Rattle.let_aside.proofs.answer.Reads as reads
 use Rattle.let_aside.proofs.answer.Lts as lts
 use Rattle.splice.proofs.Splicing.{over_front}
-use Rattle.splice.proofs.copy_slots.Reads as copy-slots-reads
 use Rattle.lets.proofs.answer.Reads as answer-reads
 use Rattle.splice.proofs.copy.Reads as copy-reads
 use Rattle.let_aside.proofs.answer.Goals as goal
@@ -20,27 +19,27 @@ use Rattle.let_aside.proofs.answer.Goals as goal
 pub copy-requires : goal.copy-requires
 copy-requires c = omega (arith, c.requires.some_aside.short, length-replicate {A = ℕ} 65536 0)
 
-pub slice_bounds-copy_slots-end-2 : goal.slice_bounds-copy_slots-end-2
-slice_bounds-copy_slots-end-2 c = sym (length-take-le _ _ (slots_enough c.requires.some_aside.starts))
+pub slice_bounds-copy-end-3 : goal.slice_bounds-copy-end-3
+slice_bounds-copy-end-3 c = sym (length-take-le _ _ (slots_enough c.requires.some_aside.starts))
 
-pub copy_slots-requires : goal.copy_slots-requires
-copy_slots-requires c =
+pub copy-requires-2 : goal.copy-requires-2
+copy-requires-2 c =
     let a = c.args in
     omega (arith, length-take-le a.number a.local_slots.now (slots_enough c.requires.some_aside.starts), slots_enough c.requires.some_aside.starts, c.requires.some_aside.few, length-replicate {A = ℕ} 8192 0)
 
 pub answer-requires : goal.answer-requires
 answer-requires c =
-    let there : (s : Session) (x : Expr) → (let a = c.args in Starts s x a.text.now (texts a.shared.now a.slots.now a.count a.locals.now a.local_slots.now) (length a.locals.now) a.number a.at) → let a = c.args in Starts s x a.text.now (texts a.shared.now a.slots.now a.count c.copy.new.dst c.copy_slots.new.dst) (length a.locals.now) a.number a.at = λ s x S. let a = c.args in
-    starts_aside S c.copy.new.dst c.copy_slots.new.dst (ap (take (length a.locals.now)) c.copy.ensures ∙ over_front _ a.locals.now)
+    let there : (s : Session) (x : Expr) → (let a = c.args in Starts s x a.text.now (texts a.shared.now a.slots.now a.count a.locals.now a.local_slots.now) (length a.locals.now) a.number a.at) → let a = c.args in Starts s x a.text.now (texts a.shared.now a.slots.now a.count c.copy.new.dst c.copy-2.new.dst) (length a.locals.now) a.number a.at = λ s x S. let a = c.args in
+    starts_aside S c.copy.new.dst c.copy-2.new.dst (ap (take (length a.locals.now)) c.copy.ensures ∙ over_front _ a.locals.now)
     (omega (arith, c.copy.auto.dst, length-replicate {A = ℕ} 65536 0, c.requires.some_aside.short))
-    (slots_front _ a.local_slots.now c.copy_slots.new.dst a.number (slots_enough S) c.copy_slots.ensures) in
+    (slots_front _ a.local_slots.now c.copy-2.new.dst a.number (slots_enough S) c.copy-2.ensures) in
     let a = c.args in record {
       some_start = record { session = c.requires.some_aside.session; expression = c.requires.some_aside.expression; starts = there c.requires.some_aside.session c.requires.some_aside.expression c.requires.some_aside.starts; sends = c.requires.some_aside.sends; knows = tt };
       sized = record {
         scope_size_lem = omega (arith, c.requires.some_aside.short, c.copy.auto.dst, length-replicate {A = ℕ} 65536 0);
         scope_small = omega (arith, c.copy.auto.dst, length-replicate {A = ℕ} 65536 0);
-        slots_size = omega (arith, slots_enough c.requires.some_aside.starts, c.requires.some_aside.few, c.copy_slots.auto.dst, length-replicate {A = ℕ} 8192 0);
-        slots_small = omega (arith, c.copy_slots.auto.dst, length-replicate {A = ℕ} 8192 0);
+        slots_size = omega (arith, slots_enough c.requires.some_aside.starts, c.requires.some_aside.few, c.copy-2.auto.dst, length-replicate {A = ℕ} 8192 0);
+        slots_small = omega (arith, c.copy-2.auto.dst, length-replicate {A = ℕ} 8192 0);
         deep = record {
           heads_size = length-replicate {A = ℕ} 4096 0;
           lens_size = length-replicate {A = ℕ} 4096 0;
@@ -53,8 +52,8 @@ answer-requires c =
 
 pub returns : goal.returns
 returns c s x S W =
-    let there : (s : Session) (x : Expr) → (let a = c.args in Starts s x a.text.now (texts a.shared.now a.slots.now a.count a.locals.now a.local_slots.now) (length a.locals.now) a.number a.at) → let a = c.args in Starts s x a.text.now (texts a.shared.now a.slots.now a.count c.copy.new.dst c.copy_slots.new.dst) (length a.locals.now) a.number a.at = λ s x S. let a = c.args in
-    starts_aside S c.copy.new.dst c.copy_slots.new.dst (ap (take (length a.locals.now)) c.copy.ensures ∙ over_front _ a.locals.now)
+    let there : (s : Session) (x : Expr) → (let a = c.args in Starts s x a.text.now (texts a.shared.now a.slots.now a.count a.locals.now a.local_slots.now) (length a.locals.now) a.number a.at) → let a = c.args in Starts s x a.text.now (texts a.shared.now a.slots.now a.count c.copy.new.dst c.copy-2.new.dst) (length a.locals.now) a.number a.at = λ s x S. let a = c.args in
+    starts_aside S c.copy.new.dst c.copy-2.new.dst (ap (take (length a.locals.now)) c.copy.ensures ∙ over_front _ a.locals.now)
     (omega (arith, c.copy.auto.dst, length-replicate {A = ℕ} 65536 0, c.requires.some_aside.short))
-    (slots_front _ a.local_slots.now c.copy_slots.new.dst a.number (slots_enough S) c.copy_slots.ensures) in
+    (slots_front _ a.local_slots.now c.copy-2.new.dst a.number (slots_enough S) c.copy-2.ensures) in
     (c.answer.ensures s x (there s x S) W tt).0

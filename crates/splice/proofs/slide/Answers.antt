@@ -4,7 +4,6 @@ use native.Mathlib.Omega.{arith}
 use Rattle.text.specs.Parts.{part}
 use Rattle.splice.specs.Splices.{over}
 use Rattle.splice.proofs.Sliding.{over_empty, over_same}
-use borrow.Author.Rules.{rules}
 use Rattle.splice.proofs.slide.Goals as goal
 
 pub returns-then-from-len : goal.returns-then-from-len

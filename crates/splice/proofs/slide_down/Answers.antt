@@ -1,8 +1,7 @@
 use mathlib.Core.Path.{◌≡◌, refl, sym, ap, ◌∙◌}
-use Prim.Native.Nat.{ℕ, ◌+◌, ◌-◌, ◌≤◌}
+use Prim.Native.Nat.{ℕ, ◌+◌, ◌-◌}
 use native.Mathlib.Omega.{arith}
-use lib.ListN.{length, take, drop}
-use Rattle.language.specs.Text.{Text}
+use lib.ListN.{length, take}
 use Rattle.text.specs.Parts.{part}
 use Rattle.splice.specs.Splices.{over}
 use Rattle.splice.proofs.Splicing.{length_part}
@@ -19,32 +18,32 @@ slice_bounds-copy-end c = sym c.loop-i.invariant.4
 
 pub copy-requires : goal.copy-requires
 copy-requires c =
-    let piece : let l = c.loop-i in length (part l.buf l.i (l.i + c.block_size-n.result)) ≡ c.block_size-n.result = let l = c.loop-i in
-    length_part l.buf l.i (l.i + c.block_size-n.result) (omega arith) (omega arith) ∙ omega arith in
+    let piece : let l = c.loop-i in length (part l.buf l.i (l.i + c.min-n.result)) ≡ c.min-n.result = let l = c.loop-i in
+    length_part l.buf l.i (l.i + c.min-n.result) (omega arith) (omega arith) ∙ omega arith in
     omega (arith, piece)
 
 pub copy-requires-in-loop-i : goal.copy-requires-in-loop-i
 copy-requires-in-loop-i c =
-    let piece : let l = c.loop-i in length (part l.buf l.i (l.i + c.block_size-n.result)) ≡ c.block_size-n.result = let l = c.loop-i in
-    length_part l.buf l.i (l.i + c.block_size-n.result) (omega arith) (omega arith) ∙ omega arith in
-    let back : let l = c.loop-i in take (c.block_size-n.result - 0) (drop 0 c.copy.new.dst) ≡ part l.buf l.i (l.i + c.block_size-n.result) = let l = c.loop-i in
-    ap (λ (t : Text). take (c.block_size-n.result - 0) (drop 0 t)) c.copy.ensures ∙ through l.block (part l.buf l.i (l.i + c.block_size-n.result)) c.block_size-n.result piece (omega arith) in
+    let piece : let l = c.loop-i in length (part l.buf l.i (l.i + c.min-n.result)) ≡ c.min-n.result = let l = c.loop-i in
+    length_part l.buf l.i (l.i + c.min-n.result) (omega arith) (omega arith) ∙ omega arith in
+    let back : let l = c.loop-i in take c.min-n.result c.copy.new.dst ≡ part l.buf l.i (l.i + c.min-n.result) = let l = c.loop-i in
+    ap (take c.min-n.result) c.copy.ensures ∙ through l.block (part l.buf l.i (l.i + c.min-n.result)) c.min-n.result piece in
     let e = ap length back ∙ piece in
     omega (arith, e)
 
 pub loop-i-preserved : goal.loop-i-preserved
 loop-i-preserved c =
-    let piece : let l = c.loop-i in length (part l.buf l.i (l.i + c.block_size-n.result)) ≡ c.block_size-n.result = let l = c.loop-i in
-    length_part l.buf l.i (l.i + c.block_size-n.result) (omega arith) (omega arith) ∙ omega arith in
-    let back : let l = c.loop-i in take (c.block_size-n.result - 0) (drop 0 c.copy.new.dst) ≡ part l.buf l.i (l.i + c.block_size-n.result) = let l = c.loop-i in
-    ap (λ (t : Text). take (c.block_size-n.result - 0) (drop 0 t)) c.copy.ensures ∙ through l.block (part l.buf l.i (l.i + c.block_size-n.result)) c.block_size-n.result piece (omega arith) in
+    let piece : let l = c.loop-i in length (part l.buf l.i (l.i + c.min-n.result)) ≡ c.min-n.result = let l = c.loop-i in
+    length_part l.buf l.i (l.i + c.min-n.result) (omega arith) (omega arith) ∙ omega arith in
+    let back : let l = c.loop-i in take c.min-n.result c.copy.new.dst ≡ part l.buf l.i (l.i + c.min-n.result) = let l = c.loop-i in
+    ap (take c.min-n.result) c.copy.ensures ∙ through l.block (part l.buf l.i (l.i + c.min-n.result)) c.min-n.result piece in
     let a = c.args in
     let l = c.loop-i in (
       omega arith,
       omega arith,
       c.copy-in-loop-i.ensures
           ∙ ap (over l.buf (l.i - (a.from - a.to))) back
-          ∙ down_more a.buf.now l.buf a.from a.to l.i (l.i + c.block_size-n.result) (omega arith) (omega arith) (omega arith) (omega arith) l.invariant.2,
+          ∙ down_more a.buf.now l.buf a.from a.to l.i (l.i + c.min-n.result) (omega arith) (omega arith) (omega arith) (omega arith) l.invariant.2,
       c.copy-in-loop-i.auto.dst ∙ l.invariant.3,
       c.copy.auto.dst ∙ l.invariant.4,
     )

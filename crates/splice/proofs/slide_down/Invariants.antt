@@ -1,12 +1,8 @@
-use mathlib.Core.Path.{◌≡◌, refl, sym, ap, ◌∙◌}
-use Prim.Native.Nat.{ℕ, ◌+◌, ◌-◌, ◌≤◌}
-use native.Mathlib.Omega.{arith}
-use lib.ListN.{length, take, drop}
-use Rattle.language.specs.Text.{Text}
+use mathlib.Core.Path.{◌≡◌}
+use Prim.Native.Nat.{◌-◌, ◌≤◌}
+use lib.ListN.{length}
 use Rattle.text.specs.Parts.{part}
 use Rattle.splice.specs.Splices.{over}
-use Rattle.splice.proofs.Splicing.{length_part}
-use Rattle.splice.proofs.Sliding.{over_empty, through, down_more}
 use Rattle.splice.proofs.slide_down.Given as goal
 
 abbrev pub invariant-loop-i : goal.invariant-loop-i

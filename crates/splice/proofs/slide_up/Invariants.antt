@@ -1,12 +1,8 @@
-use mathlib.Core.Path.{◌≡◌, refl, sym, ap, ◌∙◌}
+use mathlib.Core.Path.{◌≡◌}
 use Prim.Native.Nat.{◌+◌, ◌-◌, ◌≤◌}
-use native.Mathlib.Omega.{arith}
-use lib.ListN.{length, take, drop}
-use Rattle.language.specs.Text.{Text}
+use lib.ListN.{length}
 use Rattle.text.specs.Parts.{part}
 use Rattle.splice.specs.Splices.{over}
-use Rattle.splice.proofs.Splicing.{length_part}
-use Rattle.splice.proofs.Sliding.{over_empty, through, up_more}
 use Rattle.splice.proofs.slide_up.Given as goal
 
 abbrev pub invariant-loop-i : goal.invariant-loop-i

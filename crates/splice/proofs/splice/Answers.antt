@@ -2,7 +2,6 @@ use mathlib.Core.Path.{refl, ap, ◌∙◌}
 use Rattle.language.specs.Text.{Text}
 use Rattle.splice.specs.Splices.{over}
 use Rattle.splice.proofs.Sliding.{moved_and_written}
-use borrow.Author.Rules.{rules}
 use Rattle.splice.proofs.splice.Goals as goal
 
 pub returns : goal.returns
