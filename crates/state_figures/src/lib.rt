@@ -17,16 +17,6 @@ fn bit(b: bool) -> u64
     0
 }
 
-// Copies numbers over a part of others.
-fn copy_numbers(dst: &mut [u64], at: usize, src: &[u64])
-    requires { at + length src.now ≤ length dst.old }
-    ensures { dst.new ≡ over dst.old at src.now }
-{
-    for (i, n) in src.iter().enumerate() {
-        dst[at + i] = *n;
-    }
-}
-
 // The figures of a state whose parts are known, but for its assertions.
 fn head(parts: Parts, out: &mut [u64])
     requires { 6 ≤ length out.old }
@@ -47,6 +37,6 @@ pub fn figures(parts: Parts, assertions: &[u64], out: &mut [u64]) -> u64
 {
     let n = parts.asserted;
     head(parts, out);
-    copy_numbers(out, 6, &assertions[0..n]);
+    splice::copy(out, 6, &assertions[0..n]);
     (6 + n) as u64
 }

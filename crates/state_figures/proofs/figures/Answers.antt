@@ -15,4 +15,4 @@ returns c =
     let z : n - 0 ≡ n = omega arith in
     let m : length (take n a.assertions.now) ≡ n = length-take-le n a.assertions.now c.requires.0 in
     says_both (tally a.parts) (take n a.assertions.now) a.out.now _ _ (omega (arith, m))
-    (c.copy_numbers.ensures ∙ (λ i. over (c.head.ensures i) 6 (take (z i) a.assertions.now)))
+    (c.copy.ensures ∙ (λ i. over (c.head.ensures i) 6 (take (z i) a.assertions.now)))
