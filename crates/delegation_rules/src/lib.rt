@@ -197,13 +197,11 @@ pub fn collect(
         → take result targets.new ≡ map (position (variables s)) (delegable s name) }
 {
     let mut n = 0;
-    let mut k = 0;
-    while k < vars {
+    for k in 0..vars {
         if named_rights::may(assertions, asserted, principals, k, DELEGATE, q) {
             targets[n] = k as u32;
             n += 1;
         }
-        k += 1;
     }
     n
 }

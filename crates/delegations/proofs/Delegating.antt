@@ -6,7 +6,7 @@ use Prim.Native.Nat.{ℕ, ◌+◌, ◌≤◌, ◌<◌}
 use native.Mathlib.Omega.{arith}
 use lib.Dec.{T}
 use lib.ListN.{length, get_or, take, drop, length-map, get_or-map}
-use lib.Seq.{length-take-le, get_or-take, take_all}
+use lib.Seq.{length-take-le, take_all}
 use Rattle.language.specs.Text.{sum, member, present}
 use Rattle.language.specs.Syntax.{Name, Right}
 use Rattle.language.specs.State.{Principal, Variable, Assertion, named, value_in}
@@ -58,6 +58,9 @@ module _ (s : Session) (l : Layout) (b : Slices) (R : Running s l b) (p : Name) 
   )
 
 module _ (s : Session) (l : Layout) (b : Slices) (targets : List ℕ) (count q right p : ℕ) (xs : List Name) (from : Name) (r : Right) (to : Name) (D : Delegates s l b targets count q right p xs from r to) where
+  fewer : length (take count targets) ≡ count
+  fewer = length-take-le count targets D.within
+
   so_many : length xs ≡ count
   so_many = sym (sym (length-take-le count targets D.within) ∙ ap length D.targets_are ∙ length-map xs (position (variables s.store)))
 
@@ -71,19 +74,19 @@ module _ (s : Session) (l : Layout) (b : Slices) (targets : List ℕ) (count q r
   abbrev pub first : ℕ → List Assertion
   first i = assertions_on (take i xs) from r to
 
-  module _ (i : ℕ) (h : i < count) where
+  module _ (i : ℕ) (h : i < length (take count targets)) where
     there : T (present (value_in s.store.variables (get_or xs i [])))
-    there = all_at (is_shared s) xs i [] D.all_shared (omega (arith, so_many))
+    there = all_at (is_shared s) xs i [] D.all_shared (omega (arith, so_many, fewer))
 
     shared : T (member (get_or xs i []) (variables s.store))
     shared = valued_is (get_or xs i []) s.store.variables there
 
-    target_is : get_or targets i 0 ≡ position (variables s.store) (get_or xs i [])
+    target_is : get_or (take count targets) i 0 ≡ position (variables s.store) (get_or xs i [])
     target_is =
-        sym (get_or-take count targets i 0 h) ∙ ap (λ (t : List ℕ). get_or t i 0) D.targets_are
-        ∙ map_at (position (variables s.store)) xs i [] 0 (omega (arith, so_many))
+        ap (λ (t : List ℕ). get_or t i 0) D.targets_are
+        ∙ map_at (position (variables s.store)) xs i [] 0 (omega (arith, so_many, fewer))
 
-    pub target_below : get_or targets i 0 < l.vars
+    pub target_below : get_or (take count targets) i 0 < l.vars
     target_below = omega (
       arith,
       target_is,
@@ -92,7 +95,7 @@ module _ (s : Session) (l : Layout) (b : Slices) (targets : List ℕ) (count q r
       length-map s.store.variables (λ (v : Variable). v.name),
     )
 
-    pub target_few : get_or targets i 0 < 4096
+    pub target_few : get_or (take count targets) i 0 < 4096
     target_few = omega (
       arith,
       target_below,
@@ -101,11 +104,11 @@ module _ (s : Session) (l : Layout) (b : Slices) (targets : List ℕ) (count q r
       few_variables s.store (store_valid s l b D.running),
     )
 
-    target_called : (row_at (map variable_row s.store.variables) (get_or targets i 0)).name ≡ get_or xs i []
+    target_called : (row_at (map variable_row s.store.variables) (get_or (take count targets) i 0)).name ≡ get_or xs i []
     target_called =
-        variable_row_lem s.store.variables (get_or targets i 0) ∙ ap (λ (n : ℕ). get_or (variables s.store) n []) target_is ∙ name_at (variables s.store) (get_or xs i []) shared
+        variable_row_lem s.store.variables (get_or (take count targets) i 0) ∙ ap (λ (n : ℕ). get_or (variables s.store) n []) target_is ∙ name_at (variables s.store) (get_or xs i []) shared
 
-    pub target_short : (w : ℕ) → w ≡ length (row_at (map variable_row s.store.variables) (get_or targets i 0)).name → w ≤ 255
+    pub target_short : (w : ℕ) → w ≡ length (row_at (map variable_row s.store.variables) (get_or (take count targets) i 0)).name → w ≤ 255
     target_short w e = omega (
       arith,
       e,
@@ -115,14 +118,14 @@ module _ (s : Session) (l : Layout) (b : Slices) (targets : List ℕ) (count q r
 
     -- the assertion on variable i, whatever assertions stand
     pub asserts_at : (m : List Assertion) (k : Layout) (assertions : List ℕ) (number weight pair : ℕ) → Running (with_store s (with_assertions s.store m)) k (restood b assertions)
-        → number ≡ pack (get_or targets i 0) q right p
+        → number ≡ pack (get_or (take count targets) i 0) q right p
         → pair ≡ name_weight (row_at (map principal_row s.store.principals) q).name + name_weight (row_at (map principal_row s.store.principals) p).name
-        → weight ≡ length (row_at (map variable_row s.store.variables) (get_or targets i 0)).name + 1 + pair
+        → weight ≡ length (row_at (map variable_row s.store.variables) (get_or (take count targets) i 0)).name + 1 + pair
         → Asserts (with_store s (with_assertions s.store m)) k (restood b assertions) assertions (assertion_at xs from r to i) number weight
     asserts_at m k assertions number weight pair R n e w =
         let fq : name_weight (row_at (map principal_row s.store.principals) q).name ≡ name_weight from = ap name_weight (principal_called s l b D.running from q D.giver) in
         let fp : name_weight (row_at (map principal_row s.store.principals) p).name ≡ name_weight to = ap name_weight (principal_called s l b D.running to p D.taker) in
-        let fx : length (row_at (map variable_row s.store.variables) (get_or targets i 0)).name ≡ length (get_or xs i []) = ap length target_called in
+        let fx : length (row_at (map variable_row s.store.variables) (get_or (take count targets) i 0)).name ≡ length (get_or xs i []) = ap length target_called in
         record {
           running = R;
           stood = refl;
@@ -133,7 +136,7 @@ module _ (s : Session) (l : Layout) (b : Slices) (targets : List ℕ) (count q r
         }
 
     one_more : first (i + 1) ≡ first i ++ (assertion_at xs from r to i ∷ [])
-    one_more = on_next xs from r to i (omega (arith, so_many))
+    one_more = on_next xs from r to i (omega (arith, so_many, fewer))
 
     pub entered_next : (k : Layout) (c : Slices) → Running (entered (entered s (first i)) (assertion_at xs from r to i ∷ [])) k c → Running (entered s (first (i + 1))) k c
     entered_next k c = subst (λ (m : List Assertion). Running (with_store s (with_assertions s.store m)) k c)
@@ -153,11 +156,11 @@ module _ (s : Session) (l : Layout) (b : Slices) (targets : List ℕ) (count q r
         let t = ap (λ (m : List Assertion). sum assertion_weight (entering s.store.assertions m)) (on_split xs from r to (i + 1)) in
         omega (arith, f, w, g, t)
 
-  all_of : (i : ℕ) → count ≤ i → take i xs ≡ xs
-  all_of i h = take_all i xs (omega (arith, so_many))
+  all_of : (i : ℕ) → length (take count targets) ≤ i → take i xs ≡ xs
+  all_of i h = take_all i xs (omega (arith, so_many, fewer))
 
-  pub entered_last : (i : ℕ) → count ≤ i → (k : Layout) (c : Slices) → Running (entered s (first i)) k c → Running (entered s (assertions_on xs from r to)) k c
+  pub entered_last : (i : ℕ) → length (take count targets) ≤ i → (k : Layout) (c : Slices) → Running (entered s (first i)) k c → Running (entered s (assertions_on xs from r to)) k c
   entered_last i h k c = subst (λ (m : List Name). Running (entered s (assertions_on m from r to)) k c) (all_of i h)
 
-  pub withdrawn_last : (i : ℕ) → count ≤ i → (k : Layout) (c : Slices) → Running (withdrawn s (first i)) k c → Running (withdrawn s (assertions_on xs from r to)) k c
+  pub withdrawn_last : (i : ℕ) → length (take count targets) ≤ i → (k : Layout) (c : Slices) → Running (withdrawn s (first i)) k c → Running (withdrawn s (assertions_on xs from r to)) k c
   withdrawn_last i h k c = subst (λ (m : List Name). Running (withdrawn s (assertions_on m from r to)) k c) (all_of i h)

@@ -52,8 +52,8 @@ pub fn enter_all(
         p,
     );
     let mut k = l;
-    for i in 0..count {
-        let x = targets[i] as usize;
+    for target in &targets[..count] {
+        let x = *target as usize;
         let weight = weigh::variable(vars, variable_slots, vars_len, variables, x) + 1 + pair;
         let number = weigh::packed(x, q, right, p);
         let next = entry::enter_one(assertions, k, number, weight);
@@ -99,8 +99,8 @@ fn withdraw_all(
         p,
     );
     let mut k = l;
-    for i in 0..count {
-        let x = targets[i] as usize;
+    for target in &targets[..count] {
+        let x = *target as usize;
         let weight = weigh::variable(vars, variable_slots, vars_len, variables, x) + 1 + pair;
         k = entry::withdraw_one(assertions, k, weigh::packed(x, q, right, p), weight);
     }

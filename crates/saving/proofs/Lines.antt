@@ -6,7 +6,7 @@ use native.Mathlib.Numerals.{add-one}
 use native.Mathlib.Omega.{arith}
 use mathlib.Core.List.{List, [], ◌∷◌, ◌++◌}
 use lib.ListN.{length, get_or, take, drop, length-append, length-map}
-use lib.Seq.{length-take-le, take_all, get_or-take}
+use lib.Seq.{length-take-le}
 use Rattle.language.specs.Text.{Text, joined}
 use Rattle.language.specs.Syntax.{read}
 use Rattle.language.specs.State.{Assertion, Store}
@@ -15,7 +15,7 @@ use Rattle.language.specs.Valid.{valid_assertion}
 use Rattle.store.proofs.Records.{joined_split, joined_suc, all_at}
 use Rattle.store.proofs.Answers.{map_at}
 use Rattle.value_text.specs.Writing.{Written}
-use Rattle.value_text.proofs.Pieces.{◌▸◌, rewritten, written_none}
+use Rattle.value_text.proofs.Pieces.{◌▸◌, rewritten}
 use Rattle.state_lines.specs.Lines.{assertion_line}
 use Rattle.state_lines.proofs.Lines.{assertion_line_lem}
 use Rattle.named_rights.specs.Numbers.{principals_of, variables, numbered, Standing}
@@ -43,15 +43,15 @@ module _ (s : Store) (l : Layout) (principals_text_lem : Text) (principal_slots 
   pub assertions_count : l.asserted ≡ length s.assertions
   assertions_count = sym (length-take-le l.asserted assertions S.within) ∙ ap length S.are ∙ length-map s.assertions (numbered (principals_of s) (variables s))
 
-  module _ (i : ℕ) (h : i < l.asserted) where
+  module _ (i : ℕ) (h : i < length (take l.asserted assertions)) where
     there : i < length s.assertions
-    there = omega (arith, assertions_count)
+    there = omega (arith, assertions_count, length-take-le l.asserted assertions S.within)
 
-    pub assertion_at_lem : Assertions s (assertion_at s i) (get_or assertions i 0)
+    pub assertion_at_lem : Assertions s (assertion_at s i) (get_or (take l.asserted assertions) i 0)
     assertion_at_lem = record {
       known = all_at (valid_assertion s) s.assertions i (record { variable = []; from = []; right = read; to = [] }) (store_shape s N.is_valid).assertions_valid there;
       number =
-          sym (get_or-take l.asserted assertions i 0 h) ∙ ap (λ (m : List ℕ). get_or m i 0) S.are
+          ap (λ (m : List ℕ). get_or m i 0) S.are
           ∙ map_at (numbered (principals_of s) (variables s)) s.assertions i (record { variable = []; from = []; right = read; to = [] }) 0 there;
     }
 
@@ -70,10 +70,3 @@ module _ (s : Store) (l : Layout) (principals_text_lem : Text) (principal_slots 
         → Written mid p (assertion_text (assertion_at s i)) r after → Written before at (joined assertion_text (take (i + 1) s.assertions)) r after
     assertion_written before mid after at p r w x =
         rewritten (sym next_line ∙ ap (λ (n : ℕ). joined assertion_text (take n s.assertions)) (sym (add-one i))) (w ▸ x)
-
-  pub assertions_written : (i : ℕ) → l.asserted ≤ i → (before after : Text) (at p : ℕ) → Written before at (joined assertion_text (take i s.assertions)) p after
-      → Written before at (assertions_text s.assertions) p after
-  assertions_written i h before after at p w = rewritten (ap (joined assertion_text) (take_all i s.assertions (omega (arith, assertions_count)))) w
-
-pub none_written : (s : Store) (before : Text) (at : ℕ) → at ≤ length before → Written before at (joined assertion_text (take 0 s.assertions)) at before
-none_written s before at h = written_none before at h

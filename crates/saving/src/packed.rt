@@ -49,8 +49,7 @@ pub fn put_all_packed(
 {
     let n = l.asserted;
     let mut p = at;
-    let mut i = 0;
-    while i < n {
+    for number in &assertions[..n] {
         p = put_packed(
             out,
             p,
@@ -59,9 +58,8 @@ pub fn put_all_packed(
             vars,
             variable_slots,
             l,
-            assertions[i],
+            *number,
         );
-        i += 1;
     }
     p
 }

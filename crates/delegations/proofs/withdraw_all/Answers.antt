@@ -28,8 +28,8 @@ variable-requires c =
     let a = c.args in
     let P = c.requires in
     let R = P.delegates.running in
-    let l = c.loop-i in
-    (R.vars_within, some_variables P.session.store.variables _ _ _ R.variables, target_below P.session a.l _ a.targets.now a.count a.q a.right a.p P.variables_named P.from P.of_right P.to P.delegates l.i c.loop-i-test.true)
+    let l = c.loop-target in
+    (R.vars_within, some_variables P.session.store.variables _ _ _ R.variables, target_below P.session a.l _ a.targets.now a.count a.q a.right a.p P.variables_named P.from P.of_right P.to P.delegates l.target-index c.loop-target-test.true)
 
 pub overflow_add-weight : goal.overflow_add-weight
 overflow_add-weight c =
@@ -37,20 +37,20 @@ overflow_add-weight c =
     let P = c.requires in
     let s = P.session in
     let R = P.delegates.running in (
-      target_short s a.l _ a.targets.now a.count a.q a.right a.p P.variables_named P.from P.of_right P.to P.delegates c.loop-i.i c.loop-i-test.true _
+      target_short s a.l _ a.targets.now a.count a.q a.right a.p P.variables_named P.from P.of_right P.to P.delegates c.loop-target.target-index c.loop-target-test.true _
           (c.variable.ensures (map variable_row s.store.variables) (variables_rows s.store.variables _ _ _ R.variables)),
       pair_short s a.l _ a.targets.now a.count a.q a.right a.p P.variables_named P.from P.of_right P.to P.delegates _
           (c.pair-pair.ensures (map principal_row s.store.principals) (principals_rows s.store.principals _ _ _ R.principals)),
     ) in
     let h = short in omega (arith, h.0)
 
-pub overflow_add-weight-in-loop-i : goal.overflow_add-weight-in-loop-i
-overflow_add-weight-in-loop-i c =
+pub overflow_add-weight-in-loop-target : goal.overflow_add-weight-in-loop-target
+overflow_add-weight-in-loop-target c =
     let short : (c.variable.result ≤ 255) × (c.pair-pair.result ≤ 510) = let a = c.args in
     let P = c.requires in
     let s = P.session in
     let R = P.delegates.running in (
-      target_short s a.l _ a.targets.now a.count a.q a.right a.p P.variables_named P.from P.of_right P.to P.delegates c.loop-i.i c.loop-i-test.true _
+      target_short s a.l _ a.targets.now a.count a.q a.right a.p P.variables_named P.from P.of_right P.to P.delegates c.loop-target.target-index c.loop-target-test.true _
           (c.variable.ensures (map variable_row s.store.variables) (variables_rows s.store.variables _ _ _ R.variables)),
       pair_short s a.l _ a.targets.now a.count a.q a.right a.p P.variables_named P.from P.of_right P.to P.delegates _
           (c.pair-pair.ensures (map principal_row s.store.principals) (principals_rows s.store.principals _ _ _ R.principals)),
@@ -63,8 +63,8 @@ packed-requires c =
     let P = c.requires in
     let s = P.session in
     let R = P.delegates.running in
-    let l = c.loop-i in (
-      target_few s a.l _ a.targets.now a.count a.q a.right a.p P.variables_named P.from P.of_right P.to P.delegates l.i c.loop-i-test.true,
+    let l = c.loop-target in (
+      target_few s a.l _ a.targets.now a.count a.q a.right a.p P.variables_named P.from P.of_right P.to P.delegates l.target-index c.loop-target-test.true,
       principal_few s a.l _ R P.from a.q P.delegates.giver,
       right_few s a.l _ a.targets.now a.count a.q a.right a.p P.variables_named P.from P.of_right P.to P.delegates,
       principal_few s a.l _ R P.to a.p P.delegates.taker,
@@ -72,33 +72,33 @@ packed-requires c =
 
 pub withdraw_one-k-requires : goal.withdraw_one-k-requires
 withdraw_one-k-requires c =
-    let one : (s : Session) (xs : List Name) (from : Name) (of : Right) (to : Name) → let a = c.args in let l = c.loop-i in Delegates s a.l (slices a.principals.now a.principal_slots.now a.vars.now a.variable_slots.now a.locals.now a.local_slots.now a.assertions.now) a.targets.now a.count a.q a.right a.p xs from of to → Asserts (withdrawn s (assertions_on (take l.i xs) from of to)) l.k (slices a.principals.now a.principal_slots.now a.vars.now a.variable_slots.now a.locals.now a.local_slots.now l.assertions) l.assertions (assertion_at xs from of to l.i) c.packed.result (c.variable.result + 1 + c.pair-pair.result) = λ s xs from of to D. let a = c.args in
-    let l = c.loop-i in
+    let one : (s : Session) (xs : List Name) (from : Name) (of : Right) (to : Name) → let a = c.args in let l = c.loop-target in Delegates s a.l (slices a.principals.now a.principal_slots.now a.vars.now a.variable_slots.now a.locals.now a.local_slots.now a.assertions.now) a.targets.now a.count a.q a.right a.p xs from of to → Asserts (withdrawn s (assertions_on (take l.target-index xs) from of to)) l.k (slices a.principals.now a.principal_slots.now a.vars.now a.variable_slots.now a.locals.now a.local_slots.now l.assertions) l.assertions (assertion_at xs from of to l.target-index) c.packed.result (c.variable.result + 1 + c.pair-pair.result) = λ s xs from of to D. let a = c.args in
+    let l = c.loop-target in
     let R = D.running in
-    asserts_at s a.l _ a.targets.now a.count a.q a.right a.p xs from of to D l.i c.loop-i-test.true
-    (withdrawing s.store.assertions (assertions_on (take l.i xs) from of to)) l.k l.assertions c.packed.result (c.variable.result + 1 + c.pair-pair.result) c.pair-pair.result
+    asserts_at s a.l _ a.targets.now a.count a.q a.right a.p xs from of to D l.target-index c.loop-target-test.true
+    (withdrawing s.store.assertions (assertions_on (take l.target-index xs) from of to)) l.k l.assertions c.packed.result (c.variable.result + 1 + c.pair-pair.result) c.pair-pair.result
     (l.invariant s xs from of to D) c.packed.ensures
     (c.pair-pair.ensures (map principal_row s.store.principals) (principals_rows s.store.principals _ _ _ R.principals))
     (ap (λ (n : ℕ). n + 1 + c.pair-pair.result) (c.variable.ensures (map variable_row s.store.variables) (variables_rows s.store.variables _ _ _ R.variables))) in
     let P = c.requires in
     record { session = _; buffers = _; assertion = _; asserts = one P.session P.variables_named P.from P.of_right P.to P.delegates }
 
-pub loop-i-preserved : goal.loop-i-preserved
-loop-i-preserved c =
-    let one : (s : Session) (xs : List Name) (from : Name) (of : Right) (to : Name) → let a = c.args in let l = c.loop-i in Delegates s a.l (slices a.principals.now a.principal_slots.now a.vars.now a.variable_slots.now a.locals.now a.local_slots.now a.assertions.now) a.targets.now a.count a.q a.right a.p xs from of to → Asserts (withdrawn s (assertions_on (take l.i xs) from of to)) l.k (slices a.principals.now a.principal_slots.now a.vars.now a.variable_slots.now a.locals.now a.local_slots.now l.assertions) l.assertions (assertion_at xs from of to l.i) c.packed.result (c.variable.result + 1 + c.pair-pair.result) = λ s xs from of to D. let a = c.args in
-    let l = c.loop-i in
+pub loop-target-preserved : goal.loop-target-preserved
+loop-target-preserved c =
+    let one : (s : Session) (xs : List Name) (from : Name) (of : Right) (to : Name) → let a = c.args in let l = c.loop-target in Delegates s a.l (slices a.principals.now a.principal_slots.now a.vars.now a.variable_slots.now a.locals.now a.local_slots.now a.assertions.now) a.targets.now a.count a.q a.right a.p xs from of to → Asserts (withdrawn s (assertions_on (take l.target-index xs) from of to)) l.k (slices a.principals.now a.principal_slots.now a.vars.now a.variable_slots.now a.locals.now a.local_slots.now l.assertions) l.assertions (assertion_at xs from of to l.target-index) c.packed.result (c.variable.result + 1 + c.pair-pair.result) = λ s xs from of to D. let a = c.args in
+    let l = c.loop-target in
     let R = D.running in
-    asserts_at s a.l _ a.targets.now a.count a.q a.right a.p xs from of to D l.i c.loop-i-test.true
-    (withdrawing s.store.assertions (assertions_on (take l.i xs) from of to)) l.k l.assertions c.packed.result (c.variable.result + 1 + c.pair-pair.result) c.pair-pair.result
+    asserts_at s a.l _ a.targets.now a.count a.q a.right a.p xs from of to D l.target-index c.loop-target-test.true
+    (withdrawing s.store.assertions (assertions_on (take l.target-index xs) from of to)) l.k l.assertions c.packed.result (c.variable.result + 1 + c.pair-pair.result) c.pair-pair.result
     (l.invariant s xs from of to D) c.packed.ensures
     (c.pair-pair.ensures (map principal_row s.store.principals) (principals_rows s.store.principals _ _ _ R.principals))
     (ap (λ (n : ℕ). n + 1 + c.pair-pair.result) (c.variable.ensures (map variable_row s.store.variables) (variables_rows s.store.variables _ _ _ R.variables))) in
     λ s xs from of to D.
     let a = c.args in
-    withdrawn_next s a.l _ a.targets.now a.count a.q a.right a.p xs from of to D c.loop-i.i c.loop-i-test.true c.withdraw_one-k.result _
+    withdrawn_next s a.l _ a.targets.now a.count a.q a.right a.p xs from of to D c.loop-target.target-index c.loop-target-test.true c.withdraw_one-k.result _
     (c.withdraw_one-k.ensures _ _ _ (one s xs from of to D))
 
 pub returns : goal.returns
 returns c s xs from of to D =
     let a = c.args in
-    withdrawn_last s a.l _ a.targets.now a.count a.q a.right a.p xs from of to D c.loop-i.i c.loop-i-test.false c.loop-i.k _ (c.loop-i.invariant s xs from of to D)
+    withdrawn_last s a.l _ a.targets.now a.count a.q a.right a.p xs from of to D c.loop-target.target-index c.loop-target-test.false c.loop-target.k _ (c.loop-target.invariant s xs from of to D)

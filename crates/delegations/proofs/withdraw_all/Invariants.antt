@@ -8,7 +8,7 @@ use Rattle.assertion_changes.specs.Entering.{withdrawn}
 use Rattle.delegations.specs.Delegates.{Delegates}
 use Rattle.delegations.proofs.withdraw_all.Given as goal
 
-abbrev pub invariant-loop-i : goal.invariant-loop-i
-invariant-loop-i l = (s : Session) (xs : List Name) (from : Name) (of : Right) (to : Name)
+abbrev pub invariant-loop-target : goal.invariant-loop-target
+invariant-loop-target l = (s : Session) (xs : List Name) (from : Name) (of : Right) (to : Name)
     → Delegates s l.initial.k (slices l.principals l.principal_slots l.vars l.variable_slots l.locals l.local_slots l.initial.assertions) l.targets l.count l.q l.right l.p xs from of to
-    → Running (withdrawn s (assertions_on (take l.i xs) from of to)) l.k (slices l.principals l.principal_slots l.vars l.variable_slots l.locals l.local_slots l.assertions)
+    → Running (withdrawn s (assertions_on (take l.target-index xs) from of to)) l.k (slices l.principals l.principal_slots l.vars l.variable_slots l.locals l.local_slots l.assertions)
