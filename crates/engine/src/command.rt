@@ -15,27 +15,26 @@ use refusal::Refusal;
 use session::Layout;
 use status::{Acted, print};
 
-// Refused, or done: the session after it, and where the output ends.
-#[derive(Clone, Copy)]
-pub enum Outcome {
-    Refused(Refusal),
-    Done(Layout, usize),
-}
-
-// Prints the line of a command that was not refused.
-pub(crate) fn tell(a: Acted, value: &[u8], l: Layout, output: &mut [u8], at: usize) -> Outcome
+// Prints the line of a command that was not refused: the session after it, and where the output ends.
+pub(crate) fn tell(
+    a: Acted,
+    value: &[u8],
+    l: Layout,
+    output: &mut [u8],
+    at: usize,
+) -> Result<(Layout, usize), Refusal>
     requires { SomeActed a l value.now × (at + 28707 ≤ length output.old) }
     ensures { (k : Step) (s : Session) (b : Slices) → Acts a k s l b value.now → Carried result k b output.old at output.new }
 {
     match a {
-        Acted::Refused(how) => Outcome::Refused(how),
+        Acted::Refused(how) => Err(how),
         Acted::Done(after, word) => {
-            let n = print(word, output, at);
-            Outcome::Done(after, n)
+            let end = print(word, output, at);
+            Ok((after, end))
         }
         Acted::Value(n) => {
             let end = render::output::returning(&value[0..n], output, at);
-            Outcome::Done(l, end)
+            Ok((l, end))
         }
     }
 }

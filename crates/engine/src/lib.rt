@@ -10,7 +10,6 @@ ghost use Rattle.parser.specs.Bodies.{body_from};
 ghost use Rattle.session.specs.Sessions.{Running, SomeRunning, slices};
 ghost use Rattle.outcome.specs.Ends.{end_on, Ends};
 
-use command::Outcome;
 use outcome::{Performed, refused};
 use session::Layout;
 
@@ -61,16 +60,16 @@ pub fn perform(
         );
         let done = command::tell(acted, value, l, output, n);
         match done {
-            Outcome::Refused(how) => return refused(text, read.rest, how),
-            Outcome::Done(k, m) => {
+            Ok((after, end)) => {
                 lines += 1;
                 let Some(next) = read.rest else {
-                    return Performed::Completed(k, m, lines);
+                    return Performed::Completed(after, end, lines);
                 };
-                l = k;
-                n = m;
+                l = after;
+                n = end;
                 p = next;
             }
+            Err(how) => return refused(text, read.rest, how),
         }
     }
 }

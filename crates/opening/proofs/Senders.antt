@@ -4,7 +4,7 @@ use mathlib.Core.Path.{◌≡◌, sym, ap, ◌∙◌}
 use mathlib.Core.Bool.{Bool, true, false}
 use mathlib.Core.List.{map}
 use Prim.Native.Nat.{ℕ}
-use Rattle.std.specs.Prelude.{None}
+use Rattle.std.specs.Prelude.{Some, None}
 use Rattle.language.specs.Text.{Text, when◌then◌else◌}
 use Rattle.language.specs.Syntax.{Name}
 use Rattle.language.specs.State.{Store, named}
@@ -13,10 +13,9 @@ use Rattle.store.specs.Rows.{found_at, place, principal_row}
 use Rattle.store.specs.Contents.{principal_at}
 use Rattle.store.proofs.Answers.{principal_found, principal_missing}
 use Rattle.opening.specs.Logins.{LoginMeant}
-use Rattle.opening.specs.declared.Login.TheVariants as Is
 
 module _ (s : Store) (x : Name) (w : Text) where
-  pub not_there : None ≡ place (map principal_row s.principals) x → LoginMeant Is.Mistaken s x w
+  pub not_there : None ≡ place (map principal_row s.principals) x → LoginMeant None s x w
   not_there e = ap (login_as w) (principal_missing s.principals x e)
 
   module _ (k from to : ℕ) (e : found_at k from to ≡ place (map principal_row s.principals) x) where
@@ -24,8 +23,8 @@ module _ (s : Store) (x : Name) (w : Text) where
     judged b h =
         ap (λ (c : Bool). when◌then◌else◌ {A = Login} c right mistaken) h ∙ sym (ap (login_as w) (principal_found s.principals x k from to e).is_named)
 
-    pub let_in_lem : true ≡ opens w (principal_at s.principals k).password → LoginMeant (Is.Right k) s x w
+    pub let_in_lem : true ≡ opens w (principal_at s.principals k).password → LoginMeant (Some k) s x w
     let_in_lem h = (sym (judged true h), (principal_found s.principals x k from to e).number)
 
-    pub turned_away : false ≡ opens w (principal_at s.principals k).password → LoginMeant Is.Mistaken s x w
+    pub turned_away : false ≡ opens w (principal_at s.principals k).password → LoginMeant None s x w
     turned_away h = sym (judged false h)

@@ -22,13 +22,6 @@ use text::same_bytes;
 use validate::Parts;
 use value_text::copy_in;
 
-// The number of the principal; or mistaken: the name is missing, the password is another, or none is kept.
-#[derive(Clone, Copy)]
-pub enum Login {
-    Mistaken,
-    Right(usize),
-}
-
 // Whether a principal's password is kept and is the one given.
 fn opens(principals: &[u8], slots: &[u32], count: usize, number: usize, password: &[u8]) -> bool
     requires { SomePrincipals principals.now count slots.now × (number < count) }
@@ -41,14 +34,14 @@ fn opens(principals: &[u8], slots: &[u32], count: usize, number: usize, password
     }
 }
 
-// Who the sender of a program is.
+// Who the sender of a program is, by number. None where the login is mistaken: the name is missing, the password is another, or none is kept.
 pub fn log_in(
     state: &[u8],
     principal_slots: &[u32],
     parts: Parts,
     name: &[u8],
     password: &[u8],
-) -> Login
+) -> Option<usize>
     requires { SomeState state.now principal_slots.now parts }
     ensures { (variable_slots assertions : List ℕ) (s : Store) → Represents state.now principal_slots.now variable_slots assertions parts s
         → LoginMeant result s name.now password.now }
@@ -57,14 +50,11 @@ pub fn log_in(
     let to = parts.principals_to;
     let count = parts.principals;
     let principals = &state[from..to];
-    match find(principals, principal_slots, count, name) {
-        Some(found) => {
-            if opens(principals, principal_slots, count, found.number, password) {
-                return Login::Right(found.number);
-            }
-            Login::Mistaken
-        }
-        None => Login::Mistaken,
+    let found = find(principals, principal_slots, count, name)?;
+    if opens(principals, principal_slots, count, found.number, password) {
+        Some(found.number)
+    } else {
+        None
     }
 }
 

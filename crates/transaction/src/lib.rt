@@ -10,7 +10,7 @@ ghost use Rattle.validate.specs.Checked.{Understood};
 ghost use Rattle.answers.specs.Answers.{replied};
 ghost use Rattle.transaction.specs.Admitted.{Admitted};
 
-use admission::{Admission, admit};
+use admission::admit;
 use answers::Answer;
 use closing::refuse;
 use ending::settle;
@@ -105,10 +105,8 @@ pub fn start(
         ≡ end_reply (record { state = state.entry.now; work = work.old; output = output.old })
         (Run.run u.state (parse program.now)) }
 {
-    let admission = admit(state, principal_slots, parts, program);
-    match admission {
-        Admission::Refused(how) => refuse(work, output, how),
-        Admission::Sender(sender, at) => session(
+    match admit(state, principal_slots, parts, program) {
+        Ok(sender) => session(
             state,
             work,
             output,
@@ -117,8 +115,9 @@ pub fn start(
             variable_slots,
             assertions,
             parts,
-            sender,
-            at,
+            sender.number,
+            sender.at,
         ),
+        Err(how) => refuse(work, output, how),
     }
 }

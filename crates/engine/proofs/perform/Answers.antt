@@ -34,15 +34,15 @@ tell-done-requires c =
       omega (arith, c.loop-read.auto.output, c.requires.at_in_bounds.2, has_room S c.loop-read.invariant.within c.requires.at_in_bounds.1),
     )
 
-pub returns-in-Refused : goal.returns-in-Refused
-returns-in-Refused c s R =
+pub returns-in-Err : goal.returns-in-Err
+returns-in-Err c s R =
     let S = c.loop-read.invariant.stage s R in
     let F = c.in-Some.ensures in
     let left : Slices = slices c.act-acted.new.principals c.act-acted.new.principal_slots c.act-acted.new.vars c.act-acted.new.variable_slots c.act-acted.new.locals c.act-acted.new.local_slots c.act-acted.new.assertions in
     let printed : Text = c.tell-done.new.output in
     let t = c.args.text.now in
-    let how = c.in-Refused.how in
-    let k = c.in-Refused.ensures (step S.session F.command) S.session left (c.act-acted.ensures S.session F.command S.running F.meant) in
+    let how = c.in-Err.how in
+    let k = c.in-Err.ensures (step S.session F.command) S.session left (c.act-acted.ensures S.session F.command S.running F.meant) in
     let o = end_on s (body_from t c.args.at) in
     subst (λ (x : Performed). Ends x s.sender o left c.args.output.now printed) (sym c.refused.ensures)
     (refuses how (present (rest_from t c.in-Some.read.rest)) s.sender o left c.args.output.now printed (stops S F (refusal_meant how) k))
@@ -57,7 +57,7 @@ returns-in_default-rest c s R =
     let S = c.loop-read.invariant.stage s R in
     let F = subst (First c.args.text.now c.loop-read.p c.in-Some.read.command) c.in_default-rest.is c.in-Some.ensures in
     let left : Slices = slices c.act-acted.new.principals c.act-acted.new.principal_slots c.act-acted.new.vars c.act-acted.new.variable_slots c.act-acted.new.locals c.act-acted.new.local_slots c.act-acted.new.assertions in
-    ends S F (c.in-Done.ensures (step S.session F.command) S.session left (c.act-acted.ensures S.session F.command S.running F.meant))
+    ends S F (c.in-Ok.ensures (step S.session F.command) S.session left (c.act-acted.ensures S.session F.command S.running F.meant))
 
 pub loop-read-preserved : goal.loop-read-preserved
 loop-read-preserved c =
@@ -67,5 +67,5 @@ loop-read-preserved c =
       within = F.placed.1;
       stage = λ s R.
           let S = c.loop-read.invariant.stage s R in
-          goes_on S F (c.in-Done.ensures (step S.session F.command) S.session left (c.act-acted.ensures S.session F.command S.running F.meant));
+          goes_on S F (c.in-Ok.ensures (step S.session F.command) S.session left (c.act-acted.ensures S.session F.command S.running F.meant));
     }

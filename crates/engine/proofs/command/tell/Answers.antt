@@ -34,7 +34,7 @@ returns-in-Done c k s b A =
       effect = S.succeeds.effect;
       is_step = S.succeeds.is_step;
       running = S.succeeds.running;
-      printed = rewritten (sym S.line) c.print-n.ensures;
+      printed = rewritten (sym S.line) c.print-end.ensures;
     }
 
 pub returns-in-Value : goal.returns-in-Value
