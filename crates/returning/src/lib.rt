@@ -13,31 +13,24 @@ ghost use Rattle.session.specs.Sessions.{slices, Running, SomeRunning};
 ghost use Rattle.returning.specs.Returns.{Given, answer_to};
 
 use evaluated::Answered;
+use refusal::Refusal;
 use session::Layout;
 use syntax::Expr;
 
-// How the ending goes: refused, or done with the value's text in the first bytes that were lent for it.
-#[derive(Clone, Copy)]
-pub enum Returned {
-    Denied,
-    Failed,
-    Full,
-    Value(usize),
-}
-
 // What the answer for the expression makes of the ending.
-fn answered(r: Answered) -> Returned
+fn answered(r: Answered) -> Result<usize, Refusal>
     ensures { result ≡ answer_to r }
 {
     match r {
-        Answered::Denied => Returned::Denied,
-        Answered::Missing => Returned::Failed,
-        Answered::Heavy => Returned::Full,
-        Answered::Value { len, weight: _ } => Returned::Value(len),
+        Answered::Denied => Err(Refusal::Denied),
+        Answered::Missing => Err(Refusal::Failed),
+        Answered::Heavy => Err(Refusal::Full),
+        Answered::Value { len, weight: _ } => Ok(len),
     }
 }
 
-// Writes the value of the expression that the program's text says at the places e, from the start of `value` on, where it may be returned.
+// Writes the value of the expression that the program's text says at the places e, from the start of `value` on, where it may be returned: how many
+// bytes its text has, or why the ending is refused.
 pub fn value<'a>(
     principals: &[u8],
     principal_slots: &[u32],
@@ -51,7 +44,7 @@ pub fn value<'a>(
     l: Layout,
     text: &'a [u8],
     e: Expr,
-) -> Returned
+) -> Result<usize, Refusal>
     requires some_running { SomeRunning l (slices principals.now principal_slots.now vars.now variable_slots.now locals.now local_slots.now assertions.now) }
     requires some_expr { SomeExpr text.now e × (length text.now ≤ longest) }
     requires lent { Lent value.old labels.old }

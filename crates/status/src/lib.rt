@@ -13,7 +13,6 @@ ghost use Rattle.returning.specs.Returns.{Given};
 ghost use Rattle.status.specs.Acts.{word_of, Says, Acts};
 
 use refusal::Refusal;
-use returning::Returned;
 use session::{Layout, Verdict};
 
 // The status of a command that was done.
@@ -74,13 +73,11 @@ pub fn done(v: Verdict, word: Status) -> Acted
 }
 
 // A value that is returned leaves the session as it is.
-pub fn given(v: Returned) -> Acted
+pub fn given(v: Result<usize, Refusal>) -> Acted
     ensures { (k : Step) (b : Slices) (s : Session) (l : Layout) (value : Text) → Running s l b → Given v k s value → Acts result k s l b value }
 {
     match v {
-        Returned::Denied => Acted::Refused(Refusal::Denied),
-        Returned::Failed => Acted::Refused(Refusal::Failed),
-        Returned::Full => Acted::Refused(Refusal::Full),
-        Returned::Value(n) => Acted::Value(n),
+        Ok(n) => Acted::Value(n),
+        Err(how) => Acted::Refused(how),
     }
 }
