@@ -8,6 +8,7 @@ import os
 import re
 import sys
 
+
 def sources():
     for path in sorted(glob.glob("crates/*/src/**/*.rt", recursive=True)):
         yield path, re.sub(r"//[^\n]*", "", open(path, encoding="utf-8").read())

@@ -1,8 +1,6 @@
 use mathlib.Core.Path.{◌≡◌, subst}
-use native.Mathlib.Omega.{arith}
 use lib.ListN.{length}
 use Rattle.language.specs.State.{Store}
-use Rattle.validate.specs.Checked.{Understood, CheckedMeant}
 use mathlib.Core.List.{List, map}
 use Rattle.language.specs.Syntax.{Name}
 use Rattle.store.specs.Rows.{principal_row}
@@ -22,33 +20,16 @@ returns-then-out-lt65536 c =
     let look : Store → Look = λ s. name_of (principals_of s) c.args.number in
     no_room 65536 look c.args.state.now c.args.out.now c.if-out-lt65536.true
 
-pub slice_bounds-nth_name-count : goal.slice_bounds-nth_name-count
-slice_bounds-nth_name-count c =
-    let understood : Understood c.args.state.now c.check-checked.new.principals c.check-checked.new.vars c.check-checked.new.assertions c.in-Some.parts = subst (λ k. CheckedMeant c.args.state.now c.check-checked.new.principals c.check-checked.new.vars c.check-checked.new.assertions k) c.in-Some.is c.check-checked.ensures in
-    let R = understood.represents in omega (arith, R.principals_order, R.principals_within)
-
-pub slice_bounds-nth_name-start : goal.slice_bounds-nth_name-start
-slice_bounds-nth_name-start c =
-    let understood : Understood c.args.state.now c.check-checked.new.principals c.check-checked.new.vars c.check-checked.new.assertions c.in-Some.parts = subst (λ k. CheckedMeant c.args.state.now c.check-checked.new.principals c.check-checked.new.vars c.check-checked.new.assertions k) c.in-Some.is c.check-checked.ensures in
-    let R = understood.represents in omega (arith, R.principals_order, R.principals_within)
-
-pub slice_bounds-nth_name-end : goal.slice_bounds-nth_name-end
-slice_bounds-nth_name-end c =
-    let understood : Understood c.args.state.now c.check-checked.new.principals c.check-checked.new.vars c.check-checked.new.assertions c.in-Some.parts = subst (λ k. CheckedMeant c.args.state.now c.check-checked.new.principals c.check-checked.new.vars c.check-checked.new.assertions k) c.in-Some.is c.check-checked.ensures in
-    let R = understood.represents in omega (arith, R.principals_order, R.principals_within)
-
 pub nth_name-requires : goal.nth_name-requires
 nth_name-requires c =
-    let understood : Understood c.args.state.now c.check-checked.new.principals c.check-checked.new.vars c.check-checked.new.assertions c.in-Some.parts = subst (λ k. CheckedMeant c.args.state.now c.check-checked.new.principals c.check-checked.new.vars c.check-checked.new.assertions k) c.in-Some.is c.check-checked.ensures in
-    let U = understood in
+    let U = c.in-Some.ensures in
     let k : length c.check-checked.new.principals ≡ 1024 = c.check-checked.auto.principals in
     (record { rows = map principal_row U.state.principals; held = principal_rows _ _ _ _ _ _ U.represents }, few_principals _ _ _ _ _ _ U.represents k, short_principals _ _ _ _ _ _ U.represents c.if-state-ne65536.false, c.if-out-lt65536.false)
 
 pub returns-in-Some : goal.returns-in-Some
 returns-in-Some c =
     let look : Store → Look = λ s. name_of (principals_of s) c.args.number in
-    let understood : Understood c.args.state.now c.check-checked.new.principals c.check-checked.new.vars c.check-checked.new.assertions c.in-Some.parts = subst (λ k. CheckedMeant c.args.state.now c.check-checked.new.principals c.check-checked.new.vars c.check-checked.new.assertions k) c.in-Some.is c.check-checked.ensures in
-    let U = understood in
+    let U = c.in-Some.ensures in
     formed 65536 look c.args.state.now c.args.out.now c.if-state-ne65536.false c.if-out-lt65536.false U.state U.decoded
     (subst (λ (l : List Name). Says (name_of l c.args.number) c.args.out.now c.nth_name.new.out c.nth_name.result) (principal_names_lem U.state.principals)
     (c.nth_name.ensures (map principal_row U.state.principals) (principal_rows _ _ _ _ _ _ U.represents)))
@@ -57,4 +38,4 @@ pub returns-in-None : goal.returns-in-None
 returns-in-None c =
     let look : Store → Look = λ s. name_of (principals_of s) c.args.number in
     not_formed 65536 look c.args.state.now c.args.out.now c.if-state-ne65536.false c.if-out-lt65536.false
-    (subst (λ k. CheckedMeant c.args.state.now c.check-checked.new.principals c.check-checked.new.vars c.check-checked.new.assertions k) c.in-None.is c.check-checked.ensures)
+    c.in-None.ensures
