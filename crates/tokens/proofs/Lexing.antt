@@ -9,12 +9,15 @@ use native.Mathlib.Numerals.{add-one}
 use borrow.Author.Tests.{le-leb, lt-leb, eq-eqb, ne_eqb}
 use lib.ListN.{length, get_or, drop, drop_of_length-le}
 use lib.Seq.{drop-cons, drop-drop}
-use Rattle.language.specs.Text.{when◌then◌else◌, bytes, member, front}
+use Rattle.language.specs.Text.{Text, when◌then◌else◌, bytes, member, front}
 use Rattle.language.specs.Bytes.{◌is◌, ◌∈◌, between, class, letter, digit, space, newline, mark, foreign, marks, word_byte, string_byte, comment_byte}
 use Rattle.language.specs.Identifiers.{keywords}
 use Rattle.language.specs.Tokens.{Token, token, bad, sign, ident, text, wrong, tokens, lex, lead, lexeme, word, quoted_by, comment, pair}
 use Rattle.text.proofs.Runs.{take_run, run_part, past_run}
 use Rattle.text.specs.Parts.{part}
+use Rattle.tokens.specs.Tokens.{Placed}
+use Rattle.tokens.specs.declared.token.Token as Read
+use Rattle.tokens.specs.declared.token.Token.TheVariants as Variants
 
 pub tokens_skip : (xs : List ℕ) (k : ℕ) → tokens xs k ≡ lex (drop k xs)
 tokens_skip [] zero = refl
@@ -144,3 +147,11 @@ class_mark b m q = go (between "a" "z" b || between "A" "Z" b) (between "0" "9" 
     go false false false true k e = cc
     go false false false false true e = cc
     go false false false false false e = cc
+
+-- what is placed from a later place on is placed from an earlier one
+pub placed_from : (t : Text) (at i : ℕ) (r : Read.Token) (n : ℕ) → at ≤ i → Placed t i r n → Placed t at r n
+placed_from t at i Variants.End n h p = tt
+placed_from t at i (Variants.Sign s) n h p = omega arith
+placed_from t at i (Variants.Name s) n h p = omega arith
+placed_from t at i (Variants.Quoted s) n h p = omega arith
+placed_from t at i Variants.Wrong n h p = tt

@@ -3,14 +3,16 @@
 use mathlib.Core.Path.{◌≡◌, refl, sym, ap, ◌∙◌, subst}
 use mathlib.Core.Option.{Option, none, some}
 use mathlib.Core.List.{List, [], ◌∷◌}
-use Prim.Native.Nat.{ℕ}
+use Prim.Native.Nat.{ℕ, ◌<◌}
 use native.Mathlib.Omega.{arith}
 use mathlib.Core.Bool.{Bool, true, false}
 use Rattle.language.specs.Text.{Text, when◌then◌else◌, ◌≟◌, ◌or_else◌}
+use Rattle.std.proofs.Common as Code
+use Rattle.std.proofs.Common.{Some, None}
 use Rattle.text.proofs.Words.{same_true}
 use Rattle.language.specs.Tokens as Tokens
 use Rattle.language.specs.Grammar.{the_sign}
-use Rattle.tokens.specs.Readers.{any_sign}
+use Rattle.tokens.specs.Readers.{any_sign, ReadPlaced}
 
 pub no_some : {A : Type 0} {a : A} {B : Type 0} → ◌≡◌ {A = Option A} none (some a) → B
 no_some e = absurd (let z : ◌≡◌ {A = ℕ} 0 1 = cc in omega arith)
@@ -65,3 +67,8 @@ or_else_none (some a) = refl
 -- a keyword or mark that is w
 pub spelled : {ts us : List Tokens.Token} {v : Text} (w : Text) → ts ≡ Tokens.sign v ∷ us → (v ≟ w) ≡ true → ts ≡ Tokens.sign w ∷ us
 spelled {ts} {us} {v} w e q = e ∙ ap (λ (x : Text). Tokens.sign x ∷ us) (same_true v w q)
+
+-- what is past a later place is past an earlier one
+pub read_later : {A : Type 0} (W : Text → A → Type 0) (t : Text) (at n : ℕ) (r : Code.Option A) (m : ℕ) → at < n → ReadPlaced W t n r m → ReadPlaced W t at r m
+read_later W t at n (Some x) m h p = (p.0, omega arith, p.2)
+read_later W t at n None m h p = tt
