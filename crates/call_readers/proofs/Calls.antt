@@ -37,3 +37,7 @@ module _ (w : Text) where
 
     pub function_call : (f : Function) → function_of w ≡ some f → any_call (sign w ∷ us) ≡ two_values (call f) us
     function_call f e = rw (not_lower f e, e, not_compared f e) (or_else_none (two_values (call f) us))
+
+    -- what starts neither a record nor the empty list is a call
+    pub call_only : (w ≟ bytes "{") ≡ false → (w ≟ bytes "[]") ≡ false → any_term (sign w ∷ us) ≡ any_call (sign w ∷ us)
+    call_only p q = rw (p, q) (or_else_none (any_call (sign w ∷ us)))
