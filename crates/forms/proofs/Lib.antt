@@ -1,0 +1,2 @@
+-- Laws of what several commands have in common.
+pub mod Phrases
