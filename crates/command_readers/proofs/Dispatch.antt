@@ -42,6 +42,10 @@ module _ (us : List Token) where
   pub filtereach_is : any_command (sign (bytes "filtereach") ∷ us) ≡ filtereach_form (sign (bytes "filtereach") ∷ us)
   filtereach_is = or_else_none (filtereach_form (sign (bytes "filtereach") ∷ us))
 
+  -- the two commands that start with `set`
+  pub set_is : (x : Name) → any_command (sign (bytes "set") ∷ ident x ∷ us) ≡ assign_form (bytes "=") set (ident x ∷ us)
+  set_is x = or_else_none (assign_form (bytes "=") set (ident x ∷ us))
+
   pub set_delegation_is : (w : Text) → (w ≟ bytes "delegation") ≡ true → any_command (sign (bytes "set") ∷ sign w ∷ us) ≡ delegation_form set_delegation us
   set_delegation_is w q =
       ap (λ (v : Text). any_command (sign (bytes "set") ∷ sign v ∷ us)) (same_true w (bytes "delegation") q) ∙ or_else_none (delegation_form set_delegation us)
