@@ -1,8 +1,8 @@
 -- Which results of signed operations fit 64 bits, and what is read of them.
 -- Assumes nothing.
-use mathlib.Core.Path.{◌≡◌, sym, subst, ◌∙◌}
+use mathlib.Core.Path.{◌≡◌, sym, ap, subst, ◌∙◌}
 use Prim.Native.Nat.{◌*◌, ◌^◌, ◌≤◌, ◌<◌}
-use native.Mathlib.Nat.{mul-le-mul, div-le_self}
+use native.Mathlib.Nat.{mul-le-mul, div-le_self, pos_of_ne-zero}
 use native.Mathlib.Omega.{arith}
 use lib.IntN.{ℤ, pos, negsuc, nat_abs, ◌+ℤ◌, ◌-ℤ◌, ◌*ℤ◌}
 use lib.Signed.{mag, quot_z}
@@ -60,6 +60,10 @@ quotient_small t d h = omega (arith, h, abs_quotient t d, div-le_self (nat_abs t
 
 pub quotient_fits : (t d : ℤ) → nat_abs t < 4611686018427387904 → SFits w64 (quot_z t d)
 quotient_fits t d h = small_fits (quot_z t d) (omega (arith, quotient_small t d h))
+
+-- a number that is not zero has bits that are not
+pub bits_not_zero : (d : ℤ) → SFits w64 d → 0 < nat_abs d → 0 < of_z w64 d
+bits_not_zero d f h = pos_of_ne-zero (λ e. absurd (omega (arith, h, ap nat_abs (sym (to_z-of_z w64 d f) ∙ ap (to_z w64) e))))
 
 -- an amount is what its bits say
 pub amount_again : (a : ℤ) → T (in_range a) → to_z w64 (of_z w64 a) ≡ a
