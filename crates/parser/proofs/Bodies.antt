@@ -70,7 +70,20 @@ ahead_more l none = refl
 ahead_more l (some ls) = refl
 
 -- ---- the program
+pub no_login : (l : Text) (o : Option (List Text)) → login_line l ≡ none → (ahead l o >>= program) ≡ none
+no_login l none h = refl
+no_login l (some ls) h = rw h
+
+pub with_login : (l : Text) (o : Option (List Text)) {p : Opening} → login_line l ≡ some p → (ahead l o >>= program) ≡ with_body p (o >>= body)
+with_login l none h = refl
+with_login l (some ls) h = rw h
 
 joined : (o : Option (List Text)) → (o >>= λ ls. program (written ls)) ≡ ((o >>= λ ls. some (written ls)) >>= program)
 joined none = refl
 joined (some ls) = refl
+
+pub parse_long : (t : Text) → longest < length t → parse t ≡ none
+parse_long t h = rw (lt-leb (length t) longest h)
+
+pub parse_is : (t : Text) → length t ≤ longest → parse t ≡ (written_from t 0 >>= program)
+parse_is t h = rw (le-leb (length t) longest h) (joined (above (parts 10 t)))
