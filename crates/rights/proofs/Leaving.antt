@@ -3,7 +3,7 @@ use mathlib.Core.Path.{◌≡◌, refl, sym, ap, ◌∙◌, subst}
 use mathlib.Core.List.Memᴰ
 use mathlib.Core.List.{List, [], ◌∷◌, ◌++◌, map}
 use mathlib.Core.Logic.{◌⊎◌, inl, inr, ⊎_elim}
-use Prim.Native.Nat.{ℕ, zero, suc, ◌+◌, ◌≤◌, ◌<◌}
+use Prim.Native.Nat.{ℕ, zero, suc, ◌+◌, ◌^◌, ◌≤◌, ◌<◌}
 use native.Mathlib.Decide.{ℕ_discrete, dec_le}
 use native.Mathlib.Numerals.{add-one}
 use native.Mathlib.Omega.{arith}
@@ -18,11 +18,11 @@ use Rattle.frontier.proofs.Pushing.{Effect, effect, own, walk_stays, walk_grows,
 use Rattle.chains.specs.Chain.{Asked, Chain, Chain.link, Shortest, Longest}
 use Rattle.chains.specs.Rounds.{relevant, Whoever}
 use Rattle.search_steps.specs.Steps.{◌∈◌, Delegation, handed, unreached, marked, left, Marks}
-use Rattle.search_steps.proofs.Marking.{total}
+use Rattle.search_steps.proofs.Marking.{left_le, total}
 use Rattle.chains.proofs.Passing.{delegates, relevant_step}
 use Rattle.chains.proofs.Rounding.{Ext, Has, Covers, ext_relevant, had}
 use Rattle.chains.proofs.Searching.{Good, chain_in, good_next, all_marked, shortest_marked, in_time, some_more}
-use Rattle.rights.proofs.Beginning.{Top, Low, Going, Within, small, none_marked, room}
+use Rattle.rights.proofs.Beginning.{Top, Low, Going, Within, small, cut, none_marked, room}
 
 -- an assertion's step from q to t that does not reach p: it reaches r, one or nobody
 pub record Went (n d q t p : ℕ) (old last : List ℕ) (r : ℕ) : Type 0 where
@@ -234,6 +234,9 @@ module _ (ys : List Assertion) (n p : ℕ) (few : n ≤ 4096) (lines : length ys
                 let o = told.other one in
                 subst Moved (sym o.2) (moved_other one o.0 o.1)
           ]
+
+      pub within_fits : Went n d q t p e e' r → m + r < 2 ^ 64
+      within_fits told = omega (arith, (moved told).counts, w.counts, left_le D, cut ys n p few lt d B g)
 
       -- the round goes on
       pub within_next : Went n d q t p e e' r → (i' : ℕ) → i' ≡ following n e' i → Within ys n p d B u i' (m + r) e'

@@ -6,7 +6,7 @@ use mathlib.Core.List.{List, [], ◌∷◌, map}
 use Rattle.std.specs.Prelude.{◌||◌}
 use mathlib.Core.Bool.{Bool, true, false, cond}
 use mathlib.Core.Logic.{◌⊎◌, ⊎_elim}
-use Prim.Native.Nat.{ℕ, zero, suc, ◌+◌, ◌*◌, ◌≤◌, ◌<◌}
+use Prim.Native.Nat.{ℕ, zero, suc, ◌+◌, ◌*◌, ◌^◌, ◌≤◌, ◌<◌}
 use native.Mathlib.Omega.{arith}
 use lib.Dec.{eqb}
 use lib.ListN.{length, get_or, set, take}
@@ -21,7 +21,7 @@ use Rattle.chains.specs.Rounds.{found, Whoever}
 use Rattle.board.specs.Board.{at, board_size, first_from, following, last_from, Linked, next_round, nothing, Stepped, Walk}
 use Rattle.board.specs.declared.Reached.TheVariants.{Principal}
 use Rattle.rights.proofs.Beginning.{Going, Within, within_first, searched_yes, searched_no}
-use Rattle.rights.proofs.Leaving.{Went, within_in, within_out, within_needs, within_next, within_hit, within_marked, within_never, within_longest, within_less, within_over}
+use Rattle.rights.proofs.Leaving.{Went, within_in, within_out, within_needs, within_fits, within_next, within_hit, within_marked, within_never, within_longest, within_less, within_over}
 
 -- how many are gone over from place c on by the step f, but k at most
 unfoldable pub links : ℕ → (ℕ → ℕ) → ℕ → ℕ
@@ -149,6 +149,9 @@ module _ (ys : List Assertion) (n p : ℕ) (few : n ≤ 4096) (lines : length ys
           (within_marked ys n p few lines lt d t.head turn.0 i m e turn.2 e' 0 h) (within_hit ys n p few lines lt d t.head turn.0 i m e turn.2 e' 0 h)
 
       module _ (e' : List ℕ) (r : ℕ) (told : Went n d (at ys i).from (at ys i).to p e e' r) where
+        pub turning_fits : m + r < 2 ^ 64
+        turning_fits = within_fits ys n p few lines lt d t.head turn.0 i m e turn.2 e' r told
+
         module _ (i' : ℕ) (on : i' ≡ following n e' i) where
           abbrev pub turning_next : Turning ys n p d b i' (m + r) e'
           turning_next = record {
