@@ -67,6 +67,9 @@ within_bound i n l h = let w : Within 10 n = within_more i 10 n l h in omega ari
 
 -- ---- what was read, held against the range and the text
 
+pub signed_small : (m : Bool) (n : ℕ) → n ≤ greatest → nat_abs (signed m n) ≤ greatest
+signed_small m n h = omega (arith, abs_signed m n)
+
 -- the amount or none, in the terms of the language
 told : (c : Bool) (a : ℤ) → amount_meant (then_some c a) ≡ (when c then some a else none)
 told true a = refl
