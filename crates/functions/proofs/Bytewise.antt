@@ -1,17 +1,17 @@
 -- A byte in small letters, a text byte by byte, and a text that is cut.
 -- Assumes nothing.
 use mathlib.Core.Path.{◌≡◌, sym, ap, ◌∙◌}
-use Prim.Native.Nat.{ℕ, ◌≤◌, ◌<◌, min}
+use Prim.Native.Nat.{ℕ, ◌+◌, ◌-◌, ◌≤◌, ◌<◌, min}
 use Rattle.std.proofs.Common.{inl, inr, ◌⊎◌}
 use Rattle.std.proofs.lemmas.Bool.{cases_lt}
 use mathlib.Core.List.{[], ◌∷◌, ◌++◌, map, append-nil}
 use native.Mathlib.Omega.{arith}
-use lib.ListN.{length, get_or, take, drop, drop_of_length-le, get_or-map}
+use lib.ListN.{length, get_or, take, drop, length-append, length-drop, drop_of_length-le, get_or-map}
 use lib.Seq.{take_all}
 use Rattle.language.specs.Text.{Text, bytes}
 use Rattle.language.specs.Encode.{line_of, value_text}
 use Rattle.language.specs.Functions.{lower_byte, cut}
-use Rattle.value_text.specs.Writing.{field_line}
+use Rattle.value_text.specs.Writing.{Written, field_line}
 
 -- the byte at a place
 pub lower_at : (t : Text) (i : ℕ) → lower_byte (get_or t i 0) ≡ get_or (map lower_byte t) i 0
@@ -30,7 +30,15 @@ cut_short t n m e = go (cases_lt (length t) n)
     go (inl h) = cut_past t n m (omega arith) (omega arith)
     go (inr h) = let q : m ≡ n = omega arith in (ap (λ (k : ℕ). take k t) q, ap (λ (k : ℕ). drop k t) q)
 
+-- the rest of a text, as a part of it
+pub rest_part : (t : Text) (k : ℕ) → take (length t - k) (drop k t) ≡ drop k t
+rest_part t k = take_all (length t - k) (drop k t) (omega (arith, length-drop k t))
+
 -- ---- a record of two fields
+
+-- where a field's line ends
+pub field_end : {a b : Text} {at r : ℕ} (x u : Text) → Written a at (field_line x u) r b → r ≡ at + (length x + length u + 4)
+field_end x u W = omega (arith, W.ends, length-append x (9 ∷ (u ++ 10 ∷ [])), length-append u (10 ∷ []))
 
 -- the lines of a text that is cut are those of its two parts
 pub cut_lines : (t : Text) (n m : ℕ) (u v : Text) → m ≡ min n (length t) → u ≡ take m t → v ≡ drop m t
