@@ -7,7 +7,7 @@ use mathlib.Core.List.{List, [], ◌∷◌, ◌++◌, append_assoc, append-nil}
 use lib.ListN.{length, get_or}
 use Rattle.language.specs.Text.{Text, joined}
 use Rattle.language.specs.Syntax.{Name}
-use Rattle.language.specs.State.{Field, string, fields, Value, single, list}
+use Rattle.language.specs.State.{Field, Element, string, fields, Value, single, list}
 use Rattle.language.specs.Encode.{field_text, element_text, variable_text, value_text}
 use Rattle.values.specs.Encoding.{Holds}
 
@@ -46,6 +46,10 @@ some_bytes v t h = go v (ap length h.is_text_lem)
 pub joined_append : {A : Type 0} (f : A → Text) (l m : List A) → joined f (l ++ m) ≡ joined f l ++ joined f m
 joined_append f [] m = refl
 joined_append f (a ∷ l) m = ap (λ r. f a ++ r) (joined_append f l m) ∙ sym (append_assoc (f a) (joined f l) (joined f m))
+
+-- an element added to a list
+pub list_element : (es : List Element) (e : Element) → value_text (list (es ++ (e ∷ []))) ≡ value_text (list es) ++ value_text (single e)
+list_element es e = ap (λ r. 76 ∷ 10 ∷ r) (joined_append element_text es (e ∷ []) ∙ ap (λ r. joined element_text es ++ r) (append-nil (element_text e)))
 
 -- a field added to a record
 pub record_field : (fs : List Field) (f : Field) → value_text (single (fields (fs ++ (f ∷ [])))) ≡ value_text (single (fields fs)) ++ field_text f
