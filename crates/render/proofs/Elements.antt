@@ -28,6 +28,11 @@ use Rattle.render.specs.declared.output.Moved.{Moved}
 use Rattle.render.proofs.Linking.{Linking, linking_step, linking_done, linking_room, record_json, list_json}
 use Rattle.language.proofs.Parsing.Printing.{quote_length}
 
+-- an element has a letter and a byte after it, at least
+pub element_within : (t : Text) (at : ℕ) (e : Element) (rest : Text) → ElementAt t at e rest → at + 2 ≤ length t
+element_within t at (string u) rest E = (past t at (83 ∷ 9 ∷ []) ((u ++ (10 ∷ [])) ++ rest) E.here).within
+element_within t at (fields fs) rest E = (past t at (82 ∷ 10 ∷ []) (joined field_text fs ++ rest) E.here).within
+
 -- ---- a string's line
 
 pub record StringAt (t : Text) (at : ℕ) (e : Element) (rest : Text) : Type 0 where
@@ -51,6 +56,11 @@ string_at t at (fields fs) rest E b = absurd (differ (sym (byte_here t at 82 _ E
 module _ (t : Text) (at : ℕ) (e : Element) (rest : Text) (S : StringAt t at e rest) (n : ℕ) (q : n ≡ at + 2 + length (front (is_not 10) (drop (at + 2) t))) where
   string_ends : n ≡ at + 2 + length S.text
   string_ends = stops t (at + 2) 10 S.text rest n S.is_free S.here q
+
+  pub string_within : n + 1 ≤ length t
+  string_within =
+      let h : Here t (at + 2 + length S.text + 1) rest = past t (at + 2 + length S.text) (10 ∷ []) rest (past t (at + 2) S.text (10 ∷ rest) S.here) in
+      omega (arith, h.within, string_ends)
 
   string_part : take (n - (at + 2)) (drop (at + 2) t) ≡ S.text
   string_part = part_is t (at + 2) n S.text (10 ∷ rest) S.here string_ends

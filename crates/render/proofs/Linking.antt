@@ -11,6 +11,7 @@ use Rattle.language.specs.Output.{quote, commas, field_json, element_json, value
 use Rattle.value_text.specs.Writing.{Written}
 use Rattle.value_text.proofs.Pieces.{◌▸◌, rewritten, written_none, written_length}
 use Rattle.render.specs.Json.{linked}
+use Rattle.language.proofs.Parsing.Printing.{quote_length}
 
 pub commas_linked : {A : Type 0} (f : A → Text) (b : ℕ) (a : A) (l : List A) → linked f b (a ∷ l) ≡ b ∷ commas f (a ∷ l)
 commas_linked f b a [] = ap (λ r. b ∷ r) (append-nil (f a))
@@ -25,6 +26,9 @@ list_json e es = ap (λ r. r ++ (93 ∷ [])) (commas_linked element_json 91 e es
 
 pub field_json_lem : (f : Field) → quote f.label ++ ((58 ∷ []) ++ quote f.text) ≡ field_json f
 field_json_lem f = sym (append_assoc (quote f.label) (58 ∷ []) (quote f.text))
+
+pub quoted_ends : (t : Text) {a b : Text} {at r : ℕ} → Written a at (quote t) r b → r ≡ at + length t + 2
+quoted_ends t w = omega (arith, w.ends, quote_length t)
 
 -- ---- some of it written
 

@@ -18,10 +18,24 @@ use Rattle.value_text.proofs.Pieces.{rewritten}
 use Rattle.render.specs.Json.{linked, Renders}
 use Rattle.render.specs.declared.output.Moved.{Moved}
 use Rattle.render.proofs.Linking.{Linking, linking_step, linking_done, linking_room, field_json_lem}
+use Rattle.language.proofs.Parsing.Printing.{quote_length}
 
 -- ---- one field
 
 module _ (t : Text) (at : ℕ) (f : Field) (rest : Text) (r : Ends) (E : EndsOf t at f rest r) where
+  pub field_room : (o size : ℕ) → o + length (field_json f) ≤ size
+      → o + length (take (r.label - (at + 2)) (drop (at + 2) t)) + length (take (r.text - (r.label + 1)) (drop (r.label + 1) t)) + 5 ≤ size
+  field_room o size h =
+      omega (
+        arith,
+        ap length E.label_is,
+        ap length E.text_is,
+        ap length (field_json_lem f),
+        length-append (quote f.label) (58 ∷ quote f.text),
+        quote_length f.label,
+        quote_length f.text,
+      )
+
   pub field_renders : (before after : Text) (o p : ℕ)
       → Written before o (quote (take (r.label - (at + 2)) (drop (at + 2) t)) ++ ((58 ∷ []) ++ quote (take (r.text - (r.label + 1)) (drop (r.label + 1) t)))) p after
       → Renders at (length (field_text f)) before o (field_json f) (record { read = r.text + 1; wrote = p }) after
