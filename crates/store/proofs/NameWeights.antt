@@ -17,6 +17,9 @@ use Rattle.store.specs.Rows.{Row, Rows, row_at, start_of, Placed}
 use Rattle.store.specs.declared.index.Place.{Place}
 use Rattle.store.proofs.Records.{name_part, name_valid}
 
+pub weighs_one : (x : Text) → ((x ≟ admin) || (x ≟ anyone)) ≡ true → name_weight x ≡ 1
+weighs_one x e = ap (λ (b : Bool). when b then 1 else length x) e
+
 pub weighs_all : (x : Text) → (x ≟ admin) ≡ false → (x ≟ anyone) ≡ false → name_weight x ≡ length x
 weighs_all x e f = ap (λ (b : Bool). when b || (x ≟ anyone) then 1 else length x) e ∙ ap (λ (b : Bool). when b then 1 else length x) f
 
