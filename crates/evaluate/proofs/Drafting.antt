@@ -7,7 +7,7 @@ use mathlib.Core.Bool.{Bool, true, false, not}
 use mathlib.Core.Option.{Option, none, some}
 use mathlib.Core.List.{List, [], ◌∷◌, ◌++◌}
 use lib.Dec.{T}
-use lib.ListN.{length, take, drop, set, length-append, length-map, length-drop}
+use lib.ListN.{length, take, drop, set, length-append, length-map, length-take, length-drop}
 use lib.Seq.{length-take-le, drop-append-le}
 use Rattle.language.specs.Text.{Text, all, sum, member, distinct}
 use Rattle.language.specs.Syntax.{Name}
@@ -19,10 +19,12 @@ use Rattle.language.proofs.Logic.Tests.{both, and, all_append, distinct_last}
 use Rattle.language.proofs.StateText.Clean.{name_length}
 use Rattle.store.specs.Held.{slot, places}
 use Rattle.text.specs.Parts.{part}
+use Rattle.text.specs.declared.Span.{Span}
 use Rattle.store.specs.Rows.{Row, Rows, row_text, row_names}
 use Rattle.splice.proofs.Splicing.{part_take}
 use Rattle.value_text.specs.Writing.{Written}
 use Rattle.std.specs.Prelude.{Option as Answer}
+use Rattle.values.specs.Answers.{text_at}
 use Rattle.value_text.proofs.Pieces.{written_take, written_length}
 use Rattle.values.proofs.Texts.{record_field}
 use Rattle.values.proofs.Lines.{field_length}
@@ -186,6 +188,13 @@ first_line out after slots n W =
     }
 
 -- ---- a text that was found
+
+pub part_short : (t : Text) (n k : ℕ) → length t ≤ places → length (take n (drop k t)) ≤ places
+part_short t n k h = omega (arith, length-take n (drop k t), length-drop k t)
+
+pub extends_as : (fs : List Field) (x : Name) (t : Text) (r : Answer Draft) (out : Text) (slots : List ℕ) {f g : Answer Span} → f ≡ g
+    → Extends fs x (text_at t g) r out slots → Extends fs x (text_at t f) r out slots
+extends_as fs x t r out slots e h = subst (λ (f : Answer Span). Extends fs x (text_at t f) r out slots) (sym e) h
 
 pub extends_by : (fs : List Field) (x : Name) (r : Answer Draft) (out : Text) (slots : List ℕ) {o p : Option Text} → o ≡ p → Extends fs x o r out slots → Extends fs x p r out slots
 extends_by fs x r out slots e h = subst (λ (o : Option Text). Extends fs x o r out slots) e h
