@@ -50,7 +50,9 @@ pub fn log_in(
     let to = parts.principals_to;
     let count = parts.principals;
     let principals = &state[from..to];
-    let found = find(principals, principal_slots, count, name)?;
+    let Some(found) = find(principals, principal_slots, count, name) else {
+        return None;
+    };
     if opens(principals, principal_slots, count, found.number, password) {
         Some(found.number)
     } else {
