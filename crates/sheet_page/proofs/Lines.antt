@@ -1,6 +1,6 @@
 -- A principal's line by its marks is its line of the sheet; the lines of the first principals, and one more.
 -- Assumes nothing.
-use mathlib.Core.Path.{◌≡◌, refl, sym, ap, ◌∙◌}
+use mathlib.Core.Path.{◌≡◌, refl, sym, ap, subst, ◌∙◌}
 use mathlib.Core.Bool.{Bool, true, false, not}
 use mathlib.Core.Option.{none}
 use mathlib.Core.List.{List, [], ◌++◌, map}
@@ -76,11 +76,12 @@ module _ (s : Store) (x : Name) (t : Text) (count : ℕ) (slots : List ℕ) (H :
       line_here : shown_line (row_at (map principal_row s.principals) i).name (had_by had) ≡ sheet_line s x one
       line_here = λ j. shown_line (row_name j) (λ r. had_is r j)
 
-      -- one line more
-      pub line_written : {before mid after : Text} {p r : ℕ} → Written before 0 (joined (sheet_line s x) (take i s.principals)) p mid
-          → Written mid p (shown_line (row_at (map principal_row s.principals) i).name (had_by had)) r after
+      -- one line more, where those before it end
+      pub line_written : {before mid after : Text} {p q r : ℕ} → q ≡ p → Written before 0 (joined (sheet_line s x) (take i s.principals)) p mid
+          → Written mid q (shown_line (row_at (map principal_row s.principals) i).name (had_by had)) r after
           → Written before 0 (joined (sheet_line s x) (take (i + 1) s.principals)) r after
-      line_written w y =
+      line_written {mid = mid} {after = after} {r = r} at w z =
+          let y = subst (λ (n : ℕ). Written mid n (shown_line (row_at (map principal_row s.principals) i).name (had_by had)) r after) at z in
           let e : joined (sheet_line s x) (take i s.principals) ++ sheet_line s x one ≡ joined (sheet_line s x) (take (i + 1) s.principals) =
           sym (ap (λ (n : ℕ). joined (sheet_line s x) (take n s.principals)) (add-one i) ∙ joined_suc (sheet_line s x) s.principals i nobody there) in
           rewritten e (w ▸ rewritten line_here y)

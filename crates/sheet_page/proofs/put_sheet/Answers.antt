@@ -17,6 +17,7 @@ loop-i-preserved c =
       omega (arith, e, l.invariant.0),
       λ s x H M.
           line_written s x a.text.now a.count a.slots.now H l.i c.loop-i-test.true a.reads.now a.writes.now a.appends.now a.delegates.now M c.had_at-had.result c.had_at-had.ensures
+          (omega (arith, l.invariant.0))
           (l.invariant.1 s x H M)
           (c.put_one-p.ensures (map principal_row s.principals) (principals_rows s.principals a.text.now a.count a.slots.now H)),
     )
