@@ -22,22 +22,24 @@ loop-packed-preserved c =
       | then-key_of-key w ↦
           let e : c.if-key_of-key.list ≡ set at.list at.n (fields packed) = w.list-is ∙ ap (set at.list at.n) w.from.ensures in
           let f : c.if-key_of-key.n ≡ at.n + 1 = w.n-is in
+          let same : c.key_of.result ≡ c.key-key.result = omega (arith, w.if-key_of-key.true) in
           record {
             few = omega (arith, f);
             room = omega (arith, c.if-key_of-key.auto.list, at.invariant.room);
             those = gathered_next s.variable s.right i s.assertions.now _ held now (omega arith) at.invariant.those
                 (ap (λ (k : ℕ). map handed (take k c.if-key_of-key.list)) f ∙ ap (λ (l : List Assertion). map handed (take (at.n + 1) l)) e
-                ∙ kept s.variable s.right packed fits at.n at.list (omega arith) (sym c.key_of.ensures ∙ w.if-key_of-key.true ∙ c.key-key.ensures));
+                ∙ kept s.variable s.right packed fits at.n at.list (omega arith) (sym c.key_of.ensures ∙ same ∙ c.key-key.ensures));
           }
       | else-key_of-key w ↦
           let e : c.if-key_of-key.list ≡ at.list = w.list-is in
           let f : c.if-key_of-key.n ≡ at.n = w.n-is in
+          let other : c.key_of.result ≡ c.key-key.result → ⊥ = λ e. omega (arith, e, w.if-key_of-key.false) in
           record {
             few = omega (arith, f);
             room = omega (arith, c.if-key_of-key.auto.list, at.invariant.room);
             those = gathered_next s.variable s.right i s.assertions.now _ held now (omega arith) at.invariant.those
                 (ap (λ (k : ℕ). map handed (take k c.if-key_of-key.list)) f ∙ ap (λ (l : List Assertion). map handed (take at.n l)) e
-                ∙ passed_over s.variable s.right packed fits held (λ g. w.if-key_of-key.false (c.key_of.ensures ∙ g ∙ sym c.key-key.ensures)));
+                ∙ passed_over s.variable s.right packed fits held (λ g. other (c.key_of.ensures ∙ g ∙ sym c.key-key.ensures)));
           }
     ]
 
