@@ -41,7 +41,9 @@ fn skip_lets(scanner: &mut Scanner) -> Option<()>
                 if pending == 0 {
                     return Some(());
                 }
-                scanner.expect(b"in")?;
+                let Some(()) = scanner.expect(b"in") else {
+                    return None;
+                };
                 pending -= 1;
             }
             None => {

@@ -1,4 +1,4 @@
-use mathlib.Core.Path.{◌≡◌, sym, ◌∙◌}
+use mathlib.Core.Path.{sym, ◌∙◌}
 use Prim.Native.Nat.{◌<◌}
 use native.Mathlib.Omega.{arith}
 use lib.ListN.{drop}
@@ -16,15 +16,15 @@ returns-then-pending-eq0-clause-meant c =
     let p = rw i.text at c.in-Some.ensures.placed in
     sym (i.rest ∙ past_read t c.in-Some.field-0 c.lets.pending (lex (drop c.lets.scanner.at t)) us p.0 (sym m) ∙ no_more c.lets.pending us c.if-pending-eq0.true)
 
-pub returns-in_err-expect-in-Some-clause-meant : goal.returns-in_err-expect-in-Some-clause-meant
-returns-in_err-expect-in-Some-clause-meant c =
+pub returns-in_default-clause-meant : goal.returns-in_default-clause-meant
+returns-in_default-clause-meant c =
     let t = c.args.scanner.now.text.now in
     let i = c.lets.invariant in
     let k = c.lets.pending in
     let us = lex (drop c.read_term.new.scanner.at t) in
     let m = rw i.text at c.in-Some.ensures.meant in
     let p = rw i.text at c.in-Some.ensures.placed in
-    let f = rw (c.in-Some.ensures.text, i.text) at c.in_err-expect-in-Some.ensures.meant in
+    let f = rw (c.in-Some.ensures.text, i.text) at c.in_default.ensures.meant in
     let h : 0 < k = omega (arith, c.if-pending-eq0.false) in
     let e = i.rest ∙ past_read t c.in-Some.field-0 k (lex (drop c.lets.scanner.at t)) us p.0 (sym m) ∙ not_in k us h (sym f) in
     grind (arith, common_steps, e)
@@ -37,11 +37,11 @@ lets-preserved-in-Some c =
     let us = lex (drop c.read_term.new.scanner.at t) in
     let m = rw i.text at c.in-Some.ensures.meant in
     let p = rw i.text at c.in-Some.ensures.placed in
-    let f = rw (c.in-Some.ensures.text, i.text) at c.in_ok-expect-in-Some.ensures.meant in
+    let f = rw (c.in-Some.ensures.text, i.text) at c.in-Some-expect.ensures.meant in
     let h : 0 < k = omega (arith, c.if-pending-eq0.false) in record {
-      text = c.in_ok-expect-in-Some.ensures.text ∙ c.in-Some.ensures.text ∙ i.text;
-      on = omega (arith, i, c.in-Some.ensures.placed, c.in_ok-expect-in-Some.ensures.placed);
-      few = omega (arith, i, c.in-Some.ensures.placed, c.in_ok-expect-in-Some.ensures.placed);
+      text = c.in-Some-expect.ensures.text ∙ c.in-Some.ensures.text ∙ i.text;
+      on = omega (arith, i, c.in-Some.ensures.placed, c.in-Some-expect.ensures.placed);
+      few = omega (arith, i, c.in-Some.ensures.placed, c.in-Some-expect.ensures.placed);
       rest = i.rest ∙ past_read t c.in-Some.field-0 k (lex (drop c.lets.scanner.at t)) us p.0 (sym m) ∙ past_in k us h (sym f);
     }
 
