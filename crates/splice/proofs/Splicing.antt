@@ -10,10 +10,10 @@ use lib.Seq.{paste, take-add, drop-drop, take_at, drop_at, drop-cons, get_or_at,
 use Rattle.language.specs.Text.{Text}
 use Rattle.splice.specs.Splices.{over}
 
-pub paste_over : (d src : Text) (at : ℕ) → paste d at src (length src) ≡ over d at src
-paste_over d src at =
+pub paste_over : {X : Type 0} (d src : List X) (at : ℕ) → paste d at src (length src) ≡ over d at src
+paste_over {X = X} d src at =
     append_assoc (take at d) (take (length src) src) (drop (at + length src) d)
-    ∙ ap (λ (l : Text). take at d ++ (l ++ drop (at + length src) d)) (take-length src)
+    ∙ ap (λ (l : List X). take at d ++ (l ++ drop (at + length src) d)) (take-length src)
 
 pub length_over : (d src : Text) (at : ℕ) → at + length src ≤ length d → length (over d at src) ≡ length d
 length_over d src at h =

@@ -12,9 +12,10 @@ pub fn copy_in(out: &mut [u8], at: usize, src: &[u8]) -> usize
     requires { at + length src.now ≤ length out.old }
     ensures { Written out.old at src.now result out.new }
 {
-    let end = at + src.len();
-    out[at..end].copy_from_slice(src);
-    end
+    for (i, b) in src.iter().enumerate() {
+        out[at + i] = *b;
+    }
+    at + src.len()
 }
 
 pub fn put_byte(out: &mut [u8], at: usize, b: u8) -> usize
