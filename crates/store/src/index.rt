@@ -70,8 +70,8 @@ fn scan(slots: &[u32], from: usize, to: usize, p: u32) -> Option<usize>
 {
     let mut i = from;
     while i < to {
-        // 64 slots further, or at the last
-        let next = i + (to - i).min(64);
+        // 64 slots further, or at the last. Told apart by a branch, so that most blocks are gone over by a loop of a known length.
+        let next = if to - i > 64 { i + 64 } else { to };
         if hits(slots, i, next, p) {
             return first_of(slots, i, next, p);
         }
